@@ -1,0 +1,68 @@
+-- What contracts see of the timers of one bot, and what each call leaves.
+use Rattle.std.specs.Prelude.{ℕ, ◌<◌, ◌≤◌, Bool, not, ◌||◌, ◌==◌, nat_lt, nat_le, if◌then◌else◌, Option, Some, None, unwrap_or, List, [], ◌∷◌, ◌++◌, length, map, filter}
+use Rattle.std.specs.List.{list_any}
+use Rattle.bottimers.specs.declared.fault.ClockFault.{ClockFault}
+use Rattle.bottimers.specs.declared.fault.ClockFault.TheVariants.{BadMoment, BadInterval, Full}
+use Rattle.bottimers.specs.declared.timer.Timer.{Timer}
+use Rattle.bottimers.specs.declared.listed.Listed.{Listed}
+use Rattle.bottimers.specs.Occurrences.{is_due, is_kept, units_left, repeats_left}
+
+-- the timers with an occurrence to come, in the order of making; the last second given; the last id given
+pub record Held : Type 0 where
+  pub timers : List Timer
+  pub last : Option ℕ
+  pub spent : ℕ
+
+-- a second that may be given next: above the last one
+abbrev pub IsAbove : Option ℕ → ℕ → Type 0
+IsAbove None t = Unit {0}
+IsAbove (Some last) t = last < t
+
+-- a reading at which a timer may be made: not below the last second given
+abbrev pub IsNotBelow : Option ℕ → Option ℕ → Type 0
+IsNotBelow None t = Unit {0}
+IsNotBelow (Some last) None = Unit {0}
+IsNotBelow (Some last) (Some t) = last ≤ t
+
+-- at a second, those with an occurrence to come
+abbrev pub timers_at : ℕ → Held → List Timer
+timers_at t h = filter (is_kept t) h.timers
+
+-- what is wrong with a new timer
+abbrev pub add_fault : Held → ℕ → Option ℕ → Option ClockFault
+add_fault h interval None = Some BadMoment
+add_fault h interval (Some t) =
+    if interval == 0 || nat_lt 1_000_000 interval then Some BadInterval
+    else (if nat_le 200 (length (timers_at t h)) || (h.spent == 4_294_967_295) then Some Full else None)
+
+-- a new timer stands last; those whose last occurrence was skipped are gone
+abbrev pub with_timer : Held → Timer → Held
+with_timer h m = record { timers = timers_at m.made h ++ m ∷ []; last = Some m.made; spent = m.id }
+
+-- whether a timer has this id
+abbrev pub holds : Held → ℕ → Bool
+holds h id = list_any (λ m. m.id == id) h.timers
+
+-- the same without it
+abbrev pub without : Held → ℕ → Held
+without h id = record h { timers = filter (λ m. not (m.id == id)) h.timers }
+
+-- what a timer calls: its proc, under its id
+abbrev pub call_of : Timer → ℕ × List ℕ
+call_of m = (m.id, m.proc)
+
+-- the calls of the timers that are due at a second, in the order of making
+abbrev pub calls_at : ℕ → Held → List (ℕ × List ℕ)
+calls_at t h = map call_of (filter (is_due t) h.timers)
+
+-- after a second, run or skipped
+abbrev pub passed : ℕ → Held → Held
+passed t h = record h { timers = timers_at t h; last = Some t }
+
+-- how a timer stands at a second
+abbrev pub listed : ℕ → Timer → Listed
+listed t m = record { kind = m.kind; left = units_left m t; proc = m.proc; id = m.id; repeats = repeats_left m t }
+
+-- how each stands at the last second given
+abbrev pub listing : Held → List Listed
+listing h = map (listed (unwrap_or h.last 0)) h.timers

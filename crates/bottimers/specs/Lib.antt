@@ -1,0 +1,9 @@
+pub mod Faults
+pub mod Seconds
+pub mod Occurrences
+pub mod Held
+pub mod Countdown
+pub mod Civil
+pub mod CronSets
+pub mod CronText
+pub mod CronMask

@@ -1,0 +1,155 @@
+// Reads the fields of a cron mask.
+ghost use Rattle.std.specs.Prelude.{◌≡◌, ◌≢◌, ◌+◌, ◌-◌, ◌<◌, ◌≤◌, ◌==◌, ℕ, if◌then◌else◌, Some, None, IfSome, IsSome, is_some, length, drop, [], option_copied, position, MatchOption, ◌∷◌};
+ghost use Rattle.bottimers.specs.CronSets.{has};
+ghost use Rattle.bottimers.specs.CronText.{has_byte, before, behind, is_star, number_in, ends_in, span_of, is_field, in_field, fields_of, first_field, other_fields};
+
+use crate::span::{Span, union};
+
+// What stands before the first such byte, and what stands behind it if there is one.
+fn cut(text: &[u8], at: u8) -> (&[u8], Option<&[u8]>)
+    ensures front { result.0.now ≡ before at text.now }
+    ensures back { option_copied result.1
+        ≡ (if has_byte at text.now then Some (behind at text.now) else None) }
+{
+    match place(text, at) {
+        Some(i) => (&text[..i], Some(&text[i + 1..])),
+        None => (text, None),
+    }
+}
+
+// The place of the first such byte.
+fn place(text: &[u8], at: u8) -> Option<usize>
+    ensures { result ≡ position (λ b. b == at) text.now }
+{
+    text.iter().position(|b| *b == at)
+}
+
+// Numbers past this are all too large.
+const TOO_LARGE: u32 = 1000;
+
+// The number that the text is, if it is one from `low` to `high`.
+fn number(text: &[u8], low: u8, high: u8) -> Option<u8>
+    ensures value { result ≡ number_in low high text.now }
+    ensures within { IfSome result (λ n. (low ≤ n) × (n ≤ high)) }
+{
+    if text.is_empty() {
+        return None;
+    }
+    let mut value: u32 = 0;
+    for b in text {
+        if *b < b'0' || *b > b'9' {
+            return None;
+        }
+        value = (value * 10 + (*b - b'0') as u32).min(TOO_LARGE);
+    }
+    if (low as u32) <= value && value <= high as u32 {
+        Some(value as u8)
+    } else {
+        None
+    }
+}
+
+// Whether the text is `*`.
+pub(crate) fn is_star(text: &[u8]) -> bool
+    ensures { result ≡ is_star text.now }
+{
+    text.len() == 1 && text[0] == b'*'
+}
+
+// Where an item without its step begins and ends.
+fn ends(base: &[u8], low: u8, high: u8, stepped: bool) -> Option<(u8, u8)>
+    ensures value { result ≡ ends_in low high stepped base.now }
+    ensures within { IfSome result (λ e. e.1 ≤ high) }
+{
+    if is_star(base) {
+        return Some((low, high));
+    }
+    let (front, back) = cut(base, b'-');
+    match back {
+        Some(back) => {
+            let first = number(front, low, high)?;
+            let last = number(back, low, high)?;
+            if first <= last {
+                Some((first, last))
+            } else {
+                None
+            }
+        }
+        None => {
+            let n = number(base, low, high)?;
+            Some((n, if stepped { high } else { n }))
+        }
+    }
+}
+
+// The numbers of one item.
+fn span(item: &[u8], low: u8, high: u8) -> Option<Span>
+    ensures value { result ≡ span_of low high item.now }
+    ensures within { IfSome result (λ s. (0 < s.step) × (s.last ≤ high)) }
+{
+    let (base, step) = cut(item, b'/');
+    match step {
+        Some(step) => {
+            let step = number(step, 1, high)?;
+            let (first, last) = ends(base, low, high, true)?;
+            Some(Span { first, last, step })
+        }
+        None => {
+            let (first, last) = ends(item, low, high, false)?;
+            Some(Span {
+                first,
+                last,
+                step: 1,
+            })
+        }
+    }
+}
+
+// The set of one field, whose numbers are from `low` to `high`.
+pub(crate) fn field(text: &[u8], low: u8, high: u8) -> Option<u64>
+    requires { high < 64 }
+    ensures accepted { is_some result ≡ is_field low high text.now }
+    ensures set { IfSome result (λ set. (n : ℕ) → has set n ≡ in_field low high text.now n) }
+{
+    let mut set = 0;
+    let mut rest = Some(text);
+    while let Some(items) = rest {
+        let (item, more) = cut(items, b',');
+        let Some(span) = span(item, low, high) else {
+            return None;
+        };
+        set = union(set, span.bits());
+        rest = more;
+    }
+    Some(set)
+}
+
+// The first field of a mask, and the mask behind it, if there is a field.
+pub(crate) fn take_field(mask: &[u8]) -> Option<(&[u8], &[u8])>
+    ensures { MatchOption result (fields_of mask.now ≡ [])
+        (λ p. fields_of mask.now ≡ p.0.now ∷ fields_of p.1.now) }
+{
+    let mut rest = mask;
+    while !rest.is_empty() && rest[0] == b' ' {
+        rest = &rest[1..];
+    }
+    if rest.is_empty() {
+        return None;
+    }
+    let (first, others) = cut(rest, b' ');
+    match others {
+        Some(others) => Some((first, others)),
+        None => Some((first, b"")),
+    }
+}
+
+// The same, where a field that is left out is `*`.
+pub(crate) fn next_field(mask: &[u8]) -> (&[u8], &[u8])
+    ensures first { result.0.now ≡ first_field (fields_of mask.now) }
+    ensures others { fields_of result.1.now ≡ other_fields (fields_of mask.now) }
+{
+    match take_field(mask) {
+        Some(parts) => parts,
+        None => (b"*", mask),
+    }
+}

@@ -1,0 +1,51 @@
+//! The bot's clock, its timers, civil time and cron masks, as Eggdrop 1.9 has them (its Tcl commands document, at `timer`,
+//! `utimer`, `timers`, `killtimer` and the bind types TIME and CRON).
+//!
+//! Nothing here reads a clock: the caller takes readings, and each call says what they mean.
+//!
+//! - A [`Clock`] turns readings into the seconds that run: none at the first reading, then every second passed, but of a
+//!   long gap only the last 600.
+//! - [`Timers`] says at each of those seconds which timers are due. A timer that was made in the minute or second s with
+//!   the interval i and the count q is due in the minutes or seconds s + i, s + 2i and so on, q times or with 0 for ever;
+//!   what falls into seconds that aren't run is lost and used up.
+//! - [`civil`] gives the minute that a calendar and a clock show at a moment, in a fixed offset from UTC. It is the one
+//!   place that knows of the offset. [`time_text`], [`time_args`] and [`cron_args`] write it.
+//! - A [`Cron`] mask is read once and then tried on minutes.
+//!
+//! ```text
+//! let mut clock = Clock::new();
+//! let mut timers = Timers::new(alloc);
+//! clock.advance(alloc, 100)?;
+//! timers.add(alloc, TimerKind::Seconds, 10, 1, b"tick", clock.last())?;
+//! for second in clock.advance(alloc, 150)? {
+//!     for (id, proc) in timers.due(alloc, second)? {
+//!         // second 110: id 1, proc tick
+//!     }
+//! }
+//! ```
+#![tactic(auto)]
+
+mod calendar;
+mod clock;
+mod cron;
+mod cron_text;
+mod entries;
+mod entry;
+mod fault;
+mod listed;
+mod span;
+mod timer;
+mod timers;
+mod words;
+
+pub use crate::calendar::{CivilMinute, civil};
+pub use crate::clock::Clock;
+pub use crate::cron::Cron;
+pub use crate::fault::{ClockError, ClockFault, CronFault};
+pub use crate::listed::Listed;
+pub use crate::timer::{Timer, TimerKind};
+pub use crate::timers::Timers;
+pub use crate::words::{cron_args, time_args, time_text};
+
+#[cfg(test)]
+mod tests;

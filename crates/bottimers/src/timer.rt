@@ -1,0 +1,50 @@
+// One timer, as it was made.
+ghost use Rattle.std.specs.Prelude.{◌≡◌, IfOk};
+
+use bytetext::{NoMemory, Text};
+use std::alloc::Global;
+
+/// Whether a timer counts minutes or seconds.
+#[derive(Clone, Copy, Debug, PartialEq, Eq)]
+pub enum TimerKind {
+    /// A timer: minutes of the clock, whichever second of its minute it was made in.
+    Minutes,
+    /// A utimer: seconds.
+    Seconds,
+}
+
+/// A timer as it was made. It is due `interval` units after `made`, then every `interval` units, `count` times in all.
+#[derive(Debug, Drop)]
+pub struct Timer {
+    /// Its number among the timers of one [`Timers`](crate::Timers), from 1 on.
+    pub id: u32,
+    /// What `interval` counts.
+    pub kind: TimerKind,
+    /// The second at which it was made.
+    pub made: u64,
+    /// Minutes or seconds from one occurrence to the next.
+    pub interval: u32,
+    /// How many occurrences it has, or 0 for one after another without end.
+    pub count: u32,
+    /// The proc that it calls.
+    pub proc: Text,
+}
+
+impl Timer {
+    /// An equal timer of its own.
+    ///
+    /// # Errors
+    /// `NoMemory` where room for the proc's name is refused.
+    pub fn copy(&self, alloc: Global) -> Result<Timer, NoMemory>
+        ensures { IfOk result (λ twin. twin ≡ self.now) }
+    {
+        Ok(Timer {
+            id: self.id,
+            kind: self.kind,
+            made: self.made,
+            interval: self.interval,
+            count: self.count,
+            proc: self.proc.copy(alloc)?,
+        })
+    }
+}

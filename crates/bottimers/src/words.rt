@@ -1,0 +1,69 @@
+// How a civil minute is written.
+ghost use Rattle.std.specs.Prelude.{◌≡◌, ◌+◌, ◌/◌, ◌%◌, IfOk};
+ghost use Rattle.bottimers.specs.Civil.{two_digits, four_digits, time_words, time_line, cron_words};
+
+use crate::calendar::CivilMinute;
+use bytetext::{NoMemory, Text, Texts};
+use std::alloc::Global;
+
+/// The text that a time mask is tried on: `mm hh dd MM yyyy`, with the month from `00` for January to `11`.
+///
+/// # Errors
+/// `NoMemory` where room for the text is refused.
+pub fn time_text(alloc: Global, at: &CivilMinute) -> Result<Text, NoMemory>
+    ensures { IfOk result (λ text. text ≡ time_line at.now) }
+{
+    let [m, n] = two(at.minute);
+    let [h, i] = two(at.hour);
+    let [d, e] = two(at.day);
+    let [o, p] = two(at.month.saturating_sub(1));
+    let [y, z, a, b] = four(at.year.unsigned_abs());
+    let s = b' ';
+    Text::from_slice(alloc, &[m, n, s, h, i, s, d, e, s, o, p, s, y, z, a, b])
+}
+
+/// The arguments of a time call: the five words of the time text.
+///
+/// # Errors
+/// `NoMemory` where room for them is refused.
+pub fn time_args(alloc: Global, at: &CivilMinute) -> Result<Texts, NoMemory>
+    ensures { IfOk result (λ texts. texts ≡ time_words at.now) }
+{
+    let minute = Text::from_slice(alloc, &two(at.minute))?;
+    let hour = Text::from_slice(alloc, &two(at.hour))?;
+    let day = Text::from_slice(alloc, &two(at.day))?;
+    let month = Text::from_slice(alloc, &two(at.month.saturating_sub(1)))?;
+    let year = Text::from_slice(alloc, &four(at.year.unsigned_abs()))?;
+    Ok(Texts::new(vec![in alloc; minute, hour, day, month, year]?))
+}
+
+/// The arguments of a cron call: minute, hour, day, the month from `01`, weekday from `00` for Sunday, of two digits each.
+///
+/// # Errors
+/// `NoMemory` where room for them is refused.
+pub fn cron_args(alloc: Global, at: &CivilMinute) -> Result<Texts, NoMemory>
+    ensures { IfOk result (λ texts. texts ≡ cron_words at.now) }
+{
+    let minute = Text::from_slice(alloc, &two(at.minute))?;
+    let hour = Text::from_slice(alloc, &two(at.hour))?;
+    let day = Text::from_slice(alloc, &two(at.day))?;
+    let month = Text::from_slice(alloc, &two(at.month))?;
+    let weekday = Text::from_slice(alloc, &two(at.weekday))?;
+    Ok(Texts::new(vec![in alloc; minute, hour, day, month, weekday]?))
+}
+
+// The last two decimal digits.
+fn two(n: u8) -> [u8; 2]
+    ensures { result ≡ two_digits n }
+{
+    [b'0' + n / 10 % 10, b'0' + n % 10]
+}
+
+// The last four.
+fn four(n: u16) -> [u8; 4]
+    ensures { result ≡ four_digits n }
+{
+    let [y, z] = two((n / 100 % 100) as u8);
+    let [a, b] = two((n % 100) as u8);
+    [y, z, a, b]
+}

@@ -1,0 +1,9 @@
+pub mod Growing
+pub mod Steps
+pub mod History
+pub mod Truth
+pub mod Shown
+pub mod Simulate
+pub mod Lawful
+pub mod Runs
+pub mod Start

@@ -1,0 +1,9 @@
+use Rattle.std.proofs.Common.{◌≡◌, [], subst, sym, ap, ◌∙◌}
+use Rattle.botworld.specs.Net.{Net, new_net}
+use Rattle.botworld.specs.Network.{start}
+use Rattle.botworld.specs.Standing.{Stands}
+use Rattle.botworld.proofs.Start.{start_stands}
+use Rattle.botworld.proofs.world.World.new.Goals as goal
+
+pub returns-clause-stands : goal.returns-clause-stands
+returns-clause-stands c = rw (c.new.ensures, c.in_ok-links.ensures, c.new-2.ensures.items) (start_stands c.args.leaves)

@@ -1,0 +1,4 @@
+pub mod Net
+pub mod Posting
+pub mod Network
+pub mod Standing

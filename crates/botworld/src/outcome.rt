@@ -1,0 +1,98 @@
+// What came of steps.
+ghost use Rattle.std.specs.Prelude.{◌≡◌, length};
+
+use sharelink::{LinkFault, Note};
+use std::marker::Model;
+
+/// How a bot's part in a step ended.
+#[derive(Clone, Copy, Debug, PartialEq, Eq)]
+pub enum End {
+    /// Done, with this note.
+    Note(Note),
+    /// Refused; nothing changed.
+    Refused(LinkFault),
+    /// A growth was refused; nothing changed.
+    NoMemory,
+}
+
+/// A bot's part in a step.
+#[derive(Clone, Copy, Debug, PartialEq, Eq)]
+pub struct Report {
+    /// The bot's number.
+    pub bot: u16,
+    /// How it ended.
+    pub end: End,
+    /// The number of the first packet that the step sent, or would have sent.
+    pub first: u64,
+    /// How many packets the step sent.
+    pub count: usize,
+}
+
+/// What came of a step.
+#[derive(Clone, Copy, Debug, PartialEq, Eq)]
+pub enum Outcome {
+    /// A bot took part.
+    Report(Report),
+    /// O2: there is no such bot; nothing changed.
+    NoSuchBot,
+    /// O3: there is no such packet; nothing changed.
+    NoSuchPacket,
+}
+
+impl Outcome {
+    /// The letter and number of an outcome in which no bot took part; none for a report.
+    pub fn code(&self) -> Option<&'static str> {
+        match self {
+            Outcome::Report(_) => None,
+            Outcome::NoSuchBot => Some("O2"),
+            Outcome::NoSuchPacket => Some("O3"),
+        }
+    }
+}
+
+/// Outcomes in the order of their steps. Contracts see the list of them.
+#[derive(Debug, Drop)]
+pub struct Outcomes {
+    items: Vec<Outcome>,
+}
+
+impl Model for Outcomes {
+    ghost use Rattle.std.specs.Prelude.{List};
+    ghost use Rattle.botworld.specs.declared.outcome.Outcome.{Outcome};
+
+    ghost Value = { List Outcome };
+
+    ghost view = { λ o. o.items.items };
+}
+
+impl Outcomes {
+    /// These outcomes. Takes no memory.
+    pub fn new(items: Vec<Outcome>) -> Outcomes
+        ensures { result ≡ items.items }
+    {
+        Outcomes { items }
+    }
+
+    /// The outcomes, in order.
+    pub fn as_slice(&self) -> &[Outcome]
+        ensures { result.now ≡ self.now }
+    {
+        self.items.as_slice()
+    }
+
+    /// How many there are.
+    pub fn len(&self) -> usize
+        ensures { result ≡ length self.now }
+    {
+        self.items.len()
+    }
+}
+
+/// What came of a list of steps.
+#[derive(Debug, Drop)]
+pub struct Transcript {
+    /// An outcome for each step that was made.
+    pub outcomes: Outcomes,
+    /// Whether the run stopped early, since room for the next step was refused. The steps before it stand.
+    pub cut: bool,
+}

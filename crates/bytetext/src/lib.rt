@@ -1,0 +1,25 @@
+//! Text as bytes, and the want of memory that every crate of this repository carries.
+//!
+//! IRC text is bytes without a stated encoding (RFC 2812 section 2.3), so nothing here is a `str`.
+//! A [`Text`] is seen by contracts as the list of its bytes, and a [`Texts`] as the list of those lists: a record
+//! that holds them reads as plain data in a clause, and no capacity gets into an equation. Both are made from a
+//! `Vec` and give it back without taking memory.
+//!
+//! [`NoMemory`] is the one answer where a growth is refused. It comes from either of the allocator's errors by `?`.
+//!
+//! ```text
+//! let name = Text::from_slice(alloc, b"egg0")?;
+//! let twin = name.copy(alloc)?;
+//! ```
+#![tactic(auto)]
+
+mod memory;
+mod text;
+mod texts;
+
+pub use crate::memory::NoMemory;
+pub use crate::text::Text;
+pub use crate::texts::Texts;
+
+#[cfg(test)]
+mod tests;

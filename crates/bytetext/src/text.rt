@@ -1,0 +1,102 @@
+// One text.
+ghost use Rattle.std.specs.Prelude.{◌≡◌, ◌↔◌, [], IsTrue, IfOk, length};
+
+use crate::memory::NoMemory;
+use std::alloc::{AllocError, Global};
+use std::marker::Model;
+
+/// A text of any bytes. Contracts see the list of its bytes.
+#[derive(Debug, Drop)]
+pub struct Text {
+    bytes: Vec<u8>,
+}
+
+impl Model for Text {
+    ghost use Rattle.std.specs.Prelude.{List, ℕ};
+
+    ghost Value = { List ℕ };
+
+    ghost view = { λ t. t.bytes.items };
+}
+
+impl Text {
+    /// The text of these bytes. Takes no memory.
+    pub fn new(bytes: Vec<u8>) -> Text
+        ensures { result ≡ bytes.items }
+    {
+        Text { bytes }
+    }
+
+    /// The empty text, whose later growths are on this allocator. Takes no memory.
+    pub fn empty(alloc: Global) -> Text
+        ensures { result ≡ [] }
+    {
+        Text::new(Vec::new(alloc))
+    }
+
+    /// A copy of these bytes.
+    ///
+    /// # Errors
+    /// `NoMemory` where room for the copy is refused.
+    pub fn from_slice(alloc: Global, bytes: &[u8]) -> Result<Text, NoMemory>
+        ensures { IfOk result (λ t. t ≡ bytes.now) }
+    {
+        let bytes = Vec::from_slice(alloc, bytes)?;
+        Ok(Text { bytes })
+    }
+
+    /// The bytes.
+    pub fn as_bytes(&self) -> &[u8]
+        ensures { result.now ≡ self.now }
+    {
+        self.bytes.as_slice()
+    }
+
+    /// How many bytes there are.
+    pub fn len(&self) -> usize
+        ensures { result ≡ length self.now }
+    {
+        self.bytes.len()
+    }
+
+    /// Whether there is no byte.
+    pub fn is_empty(&self) -> bool
+        ensures { IsTrue result ↔ (self.now ≡ []) }
+    {
+        self.bytes.is_empty()
+    }
+
+    /// Whether the text has just these bytes, byte for byte.
+    pub fn is_same(&self, bytes: &[u8]) -> bool
+        ensures { IsTrue result ↔ (self.now ≡ bytes.now) }
+    {
+        self.bytes.as_slice() == bytes
+    }
+
+    /// The bytes as a `Vec`. Takes no memory.
+    pub fn into_vec(self) -> Vec<u8>
+        ensures { result.items ≡ self }
+    {
+        self.bytes
+    }
+
+    /// An equal text of its own.
+    ///
+    /// # Errors
+    /// `NoMemory` where room for the copy is refused.
+    pub fn copy(&self, alloc: Global) -> Result<Text, NoMemory>
+        ensures { IfOk result (λ t. t ≡ self.now) }
+    {
+        Text::from_slice(alloc, self.bytes.as_slice())
+    }
+}
+
+impl Clone for Text {
+    ghost is_clone = { λ text twin. twin ≡ text };
+
+    fn clone(&self) -> Result<Text, AllocError> {
+        Ok(Text {
+            bytes: self.bytes.clone()?,
+        })
+    }
+}

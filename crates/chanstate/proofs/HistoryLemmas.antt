@@ -1,0 +1,507 @@
+-- The state after some items is what looking back over them says.
+use Rattle.std.proofs.Common.{◌≡◌, ℕ, Bool, true, false, cond, not, ◌||◌, ◌&&◌, suc, map, length, Option, Some, None, List, [], ◌∷◌, ◌++◌, refl, sym, ap, subst, ◌∙◌}
+use Rattle.std.specs.Prelude.{find, is_some, unwrap_or, IfSome}
+use Rattle.std.specs.Option.{option_map}
+use Rattle.std.proofs.lemmas.Bool.{cond-true, cond-false}
+use Rattle.chanstate.specs.declared.member.Member.{Member}
+use Rattle.chanstate.specs.declared.member.Mark.{Mark}
+use Rattle.chanstate.specs.declared.member.Mark.TheVariants.{Op, Voice, HalfOp}
+use Rattle.chanstate.specs.declared.channel.Channel.{Channel}
+use Rattle.chanstate.specs.declared.state.ChanState.{ChanState}
+use Rattle.ircline.specs.declared.message.Message.{Message}
+use Rattle.chanstate.specs.Names.{alike}
+use Rattle.chanstate.specs.Members.{is_called, unmarked, with_mark, with_address, with_marks_of, with_nick}
+use Rattle.chanstate.specs.Channels.{opened, with_topic, with_members}
+use Rattle.chanstate.specs.Items.{Item, Welcomed, Joined, Left, Departed, Renamed, Marked, Titled, Listed, Addressed, items_of}
+use Rattle.chanstate.specs.Steps.{step, steps, after}
+use Rattle.chanstate.specs.Views.{connected, channel_in, members_of, member_in}
+use Rattle.chanstate.specs.History.{own, own_said, held, channel_said, topic, topic_said, spelling, name_said, on, nick_said, known, member_said, has_mark, marked, mark_begins, mark_says, if_same_mark, user_begins, user_says, host_begins, host_says, nick_begins, nick_says, IsAsSaid, Agrees, before, history_from, history, after_all, arrival, joins, opening}
+use Rattle.chanstate.proofs.FindLemmas.{list_any-find}
+use Rattle.chanstate.proofs.DistinctLemmas.{Distinct}
+use Rattle.chanstate.proofs.OrderLemmas.{Ordered, at, on_name, arrival-alike, order-after, channels-in-order}
+use Rattle.chanstate.proofs.LookLemmas.{come_as, come_as-none, come_as-some, rename_as, rename_as-none, rename_as-some}
+use Rattle.chanstate.proofs.ItemLemmas.{nick_of_member, name_of, channel_after, channel_in-step, distinct-step, members-after, member_after, member-after, mark_keeps}
+
+-- ---- the bot's nick
+
+chosen : {X : Type 0} (b : Bool) (x y : X) → cond b x y ≡ unwrap_or (cond b (Some x) None) y
+chosen true x y = refl
+chosen false x y = refl
+
+one_nick : (b : Bool) (s t : ChanState) → s.nick ≡ t.nick → (cond b s t).nick ≡ t.nick
+one_nick true s t is = is
+one_nick false s t is = refl
+
+own-step : (item : Item) (s : ChanState) → (step item s).nick ≡ unwrap_or (own_said item s.nick) s.nick
+own-step (Welcomed nick) s = refl
+own-step (Joined nick user host d) s = one_nick (alike nick s.nick) _ _ refl
+own-step (Left nick d) s = one_nick (alike nick s.nick) _ _ refl
+own-step (Departed nick) s = one_nick (alike nick s.nick) _ _ refl
+own-step (Renamed old new) s = chosen (alike old s.nick) new s.nick
+own-step (Marked d mark set nick) s = refl
+own-step (Titled d topic) s = refl
+own-step (Listed d one) s = refl
+own-step (Addressed d nick user host) s = refl
+
+-- ---- channels
+
+some-map : {X Y : Type 0} (f : X → Y) (o : Option X) → is_some (option_map f o) ≡ is_some o
+some-map f None = refl
+some-map f (Some x) = refl
+
+some_same : {X : Type 0} (b : Bool) (o w : Option X) → is_some w ≡ is_some o → is_some (cond b w o) ≡ is_some o
+some_same true o w is = is
+some_same false o w is = refl
+
+h_joined : (b1 b2 : Bool) (v : Channel) (w o : Option Channel) → is_some w ≡ is_some o → is_some (cond b1 (cond b2 (Some v) w) o) ≡ unwrap_or (cond (b1 && b2) (Some true) None) (is_some o)
+h_joined true true v w o is = refl
+h_joined true false v w o is = is
+h_joined false b2 v w o is = refl
+
+h_left : (b1 b2 : Bool) (w o : Option Channel) → is_some w ≡ is_some o → is_some (cond b1 (cond b2 None w) o) ≡ unwrap_or (cond (b1 && b2) (Some false) None) (is_some o)
+h_left true true w o is = refl
+h_left true false w o is = is
+h_left false b2 w o is = refl
+
+held-after : (item : Item) (me c : List ℕ) (o : Option Channel) → is_some (channel_after item me c o) ≡ unwrap_or (channel_said item me c) (is_some o)
+held-after (Welcomed nick) me c o = refl
+held-after (Joined nick user host d) me c o = h_joined (alike c d) (alike nick me) _ _ o (some-map _ o)
+held-after (Left nick d) me c o = h_left (alike c d) (alike nick me) _ o (some-map _ o)
+held-after (Departed nick) me c o = h_left true (alike nick me) _ o (some-map _ o)
+held-after (Renamed old new) me c o = some-map _ o
+held-after (Marked d mark set nick) me c o = some_same (alike c d) o _ (some-map _ o)
+held-after (Titled d topic) me c o = some_same (alike c d) o _ (some-map _ o)
+held-after (Listed d one) me c o = some_same (alike c d) o _ (some-map _ o)
+held-after (Addressed d nick user host) me c o = some_same (alike c d) o _ (some-map _ o)
+
+-- ---- topics
+
+abbrev HasTopic : List ℕ → Option Channel → Type 0
+HasTopic t o = IfSome o (λ ch. ch.topic ≡ t)
+
+t_members : (t : List ℕ) (f : List Member → List Member) (o : Option Channel) → HasTopic t o → HasTopic t (option_map (with_members f) o)
+t_members t f None is = is
+t_members t f (Some ch) is = is
+
+t_same : (b : Bool) (t : List ℕ) (w o : Option Channel) → HasTopic t w → HasTopic t o → HasTopic t (cond b w o)
+t_same true t w o one two = one
+t_same false t w o one two = two
+
+t_joined : (b1 b2 : Bool) (t : List ℕ) (v : Channel) (w o : Option Channel) → v.topic ≡ [] → HasTopic t w → HasTopic t o → HasTopic (unwrap_or (cond (b1 && b2) (Some []) None) t) (cond b1 (cond b2 (Some v) w) o)
+t_joined true true t v w o new one two = new
+t_joined true false t v w o new one two = one
+t_joined false b2 t v w o new one two = two
+
+t_left : (b1 b2 : Bool) (t : List ℕ) (w o : Option Channel) → HasTopic t w → HasTopic t o → HasTopic t (cond b1 (cond b2 None w) o)
+t_left true true t w o one two = tt
+t_left true false t w o one two = one
+t_left false b2 t w o one two = two
+
+t_titled : (b : Bool) (t new : List ℕ) (o : Option Channel) → HasTopic t o → HasTopic (unwrap_or (cond b (Some new) None) t) (cond b (option_map (with_topic new) o) o)
+t_titled true t new None is = tt
+t_titled true t new (Some ch) is = refl
+t_titled false t new o is = is
+
+topic-after : (item : Item) (me c t : List ℕ) (o : Option Channel) → HasTopic t o → HasTopic (unwrap_or (topic_said item me c) t) (channel_after item me c o)
+topic-after (Welcomed nick) me c t o is = tt
+topic-after (Joined nick user host d) me c t o is = t_joined (alike c d) (alike nick me) t _ _ o refl (t_members t _ o is) is
+topic-after (Left nick d) me c t o is = t_left (alike c d) (alike nick me) t _ o (t_members t _ o is) is
+topic-after (Departed nick) me c t o is = t_left true (alike nick me) t _ o (t_members t _ o is) is
+topic-after (Renamed old new) me c t o is = t_members t _ o is
+topic-after (Marked d mark set nick) me c t o is = t_same (alike c d) t _ o (t_members t _ o is) is
+topic-after (Titled d new) me c t o is = t_titled (alike c d) t new o is
+topic-after (Listed d one) me c t o is = t_same (alike c d) t _ o (t_members t _ o is) is
+topic-after (Addressed d nick user host) me c t o is = t_same (alike c d) t _ o (t_members t _ o is) is
+
+-- ---- spellings
+
+abbrev HasName : List ℕ → Option Channel → Type 0
+HasName t o = IfSome o (λ ch. ch.name ≡ t)
+
+n_mapped : (t : List ℕ) (f : Channel → Channel) → ((ch : Channel) → (f ch).name ≡ ch.name) → (o : Option Channel) → HasName t o → HasName t (option_map f o)
+n_mapped t f keeps None is = tt
+n_mapped t f keeps (Some ch) is = keeps ch ∙ is
+
+n_same : (b : Bool) (t : List ℕ) (w o : Option Channel) → HasName t w → HasName t o → HasName t (cond b w o)
+n_same true t w o one two = one
+n_same false t w o one two = two
+
+n_joined : (b1 b2 : Bool) (t d : List ℕ) (v : Channel) (w o : Option Channel) → v.name ≡ d → HasName t w → HasName t o → HasName (unwrap_or (cond (b1 && b2) (Some d) None) t) (cond b1 (cond b2 (Some v) w) o)
+n_joined true true t d v w o new one two = new
+n_joined true false t d v w o new one two = one
+n_joined false b2 t d v w o new one two = two
+
+n_left : (b1 b2 : Bool) (t : List ℕ) (w o : Option Channel) → HasName t w → HasName t o → HasName t (cond b1 (cond b2 None w) o)
+n_left true true t w o one two = tt
+n_left true false t w o one two = one
+n_left false b2 t w o one two = two
+
+name-after : (item : Item) (me c t : List ℕ) (o : Option Channel) → HasName t o → HasName (unwrap_or (name_said item me c) t) (channel_after item me c o)
+name-after (Welcomed nick) me c t o is = tt
+name-after (Joined nick user host d) me c t o is = n_joined (alike c d) (alike nick me) t d _ _ o refl (n_mapped t _ (λ ch. refl) o is) is
+name-after (Left nick d) me c t o is = n_left (alike c d) (alike nick me) t _ o (n_mapped t _ (λ ch. refl) o is) is
+name-after (Departed nick) me c t o is = n_left true (alike nick me) t _ o (n_mapped t _ (λ ch. refl) o is) is
+name-after (Renamed old new) me c t o is = n_mapped t _ (λ ch. refl) o is
+name-after (Marked d mark set nick) me c t o is = n_same (alike c d) t _ o (n_mapped t _ (λ ch. refl) o is) is
+name-after (Titled d new) me c t o is = n_same (alike c d) t _ o (n_mapped t _ (λ ch. refl) o is) is
+name-after (Listed d one) me c t o is = n_same (alike c d) t _ o (n_mapped t _ (λ ch. refl) o is) is
+name-after (Addressed d nick user host) me c t o is = n_same (alike c d) t _ o (n_mapped t _ (λ ch. refl) o is) is
+
+-- ---- who is on a channel
+
+o_joined : (b1 b2 b3 here : Bool) (v w : Member) (o : Option Member) →
+    is_some (cond b1 (cond b2 (cond b3 (Some v) None) (cond (here && b3) (Some w) o)) o) ≡ unwrap_or (cond b1 (cond b2 (Some b3) (cond (here && b3) (Some true) None)) None) (is_some o)
+o_joined true true true here v w o = refl
+o_joined true true false here v w o = refl
+o_joined true false true true v w o = refl
+o_joined true false true false v w o = refl
+o_joined true false false true v w o = refl
+o_joined true false false false v w o = refl
+o_joined false b2 b3 here v w o = refl
+
+o_gone : (b : Bool) (o : Option Member) → is_some (cond b None o) ≡ unwrap_or (cond b (Some false) None) (is_some o)
+o_gone true o = refl
+o_gone false o = refl
+
+o_listed : (b : Bool) (w : Member) (o : Option Member) → is_some (cond b (Some w) o) ≡ unwrap_or (cond b (Some true) None) (is_some o)
+o_listed true w o = refl
+o_listed false w o = refl
+
+o_renamed_some : (b2 b3 : Bool) (m : Member) (o : Option Member) → is_some (cond b2 (Some m) (cond b3 None o)) ≡ unwrap_or (cond b2 (Some true) (cond b3 (Some false) None)) (is_some o)
+o_renamed_some true b3 m o = refl
+o_renamed_some false true m o = refl
+o_renamed_some false false m o = refl
+
+o_renamed : (old new x : List ℕ) (w o : Option Member) →
+    is_some (rename_as old new x w o) ≡ unwrap_or (cond (is_some w) (cond (alike x new) (Some true) (cond (alike x old) (Some false) None)) None) (is_some o)
+o_renamed old new x None o = ap is_some (rename_as-none old new x o)
+o_renamed old new x (Some m) o = ap is_some (rename_as-some old new x m o) ∙ o_renamed_some (alike x new) (alike x old) (with_nick new m) o
+
+on-after : (item : Item) (me : List ℕ) (here : Bool) (c x : List ℕ) (look : List ℕ → Option Member) →
+    is_some (member_after item me here c look x) ≡ unwrap_or (nick_said item me here c (λ y. is_some (look y)) x) (is_some (look x))
+on-after (Welcomed nick) me here c x look = refl
+on-after (Joined nick user host d) me here c x look = o_joined (alike c d) (alike nick me) (alike x nick) here _ _ (look x)
+on-after (Left nick d) me here c x look = o_gone (alike c d && (alike nick me || alike x nick)) (look x)
+on-after (Departed nick) me here c x look = o_gone (alike nick me || alike x nick) (look x)
+on-after (Renamed old new) me here c x look = o_renamed old new x (look old) (look x)
+on-after (Marked d mark set nick) me here c x look = some_same (alike c d && alike x nick) (look x) _ (some-map _ (look x))
+on-after (Titled d topic) me here c x look = refl
+on-after (Listed d one) me here c x look = o_listed (alike c d && (here && alike x one.nick)) _ (look x)
+on-after (Addressed d nick user host) me here c x look = some_same (alike c d && alike x nick) (look x) _ (some-map _ (look x))
+
+-- ---- what is known of a member
+
+-- how a part of a member begins and changes, as the items say
+pub record Part {A : Type 0} (get : Member → A) (begins : Item → A) (says : Item → Option A) : Type 0 where
+  pub joins : (nick user host d : List ℕ) → get (unmarked nick user host) ≡ begins (Joined nick user host d)
+  pub rejoins : (nick user host d : List ℕ) (m : Member) → get (with_address user host m) ≡ unwrap_or (says (Joined nick user host d)) (get m)
+  pub lists : (d : List ℕ) (one : Member) → get one ≡ begins (Listed d one)
+  pub relists : (d : List ℕ) (one m : Member) → get (with_marks_of one m) ≡ unwrap_or (says (Listed d one)) (get m)
+  pub renames : (old new : List ℕ) (m : Member) → get (with_nick new m) ≡ unwrap_or (says (Renamed old new)) (get m)
+  pub marks : (d : List ℕ) (mark : Mark) (set : Bool) (nick : List ℕ) (m : Member) → get (with_mark mark set m) ≡ unwrap_or (says (Marked d mark set nick)) (get m)
+  pub addresses : (d nick user host : List ℕ) (m : Member) → get (with_address user host m) ≡ unwrap_or (says (Addressed d nick user host)) (get m)
+
+abbrev pub Has : {A : Type 0} → (Member → A) → A → Option Member → Type 0
+Has get a o = IfSome o (λ m. get m ≡ a)
+
+d_come : {A : Type 0} (get : Member → A) (one : Member) (f : Member → Member) (begins : A) (says : Option A) (a : A) (o : Option Member) →
+    get one ≡ begins → ((m : Member) → get (f m) ≡ unwrap_or says (get m)) → Has get a o → get (come_as one f o) ≡ cond (not (is_some o)) begins (unwrap_or says a)
+d_come get one f begins says a None new old is = ap get (come_as-none one f) ∙ new
+d_come get one f begins says a (Some m) new old is = ap get (come_as-some one f m) ∙ (old m ∙ ap (unwrap_or says) is)
+
+d_joined : {A : Type 0} (get : Member → A) (one : Member) (f : Member → Member) (begins : A) (says : Option A) (a : A) (o : Option Member) (b1 b2 b3 here : Bool) →
+    get one ≡ begins → ((m : Member) → get (f m) ≡ unwrap_or says (get m)) → (here ≡ false → o ≡ None) → Has get a o →
+    Has get (cond (b1 && b3) (cond (b2 || not (is_some o)) begins (unwrap_or says a)) a) (cond b1 (cond b2 (cond b3 (Some one) None) (cond (here && b3) (Some (come_as one f o)) o)) o)
+d_joined get one f begins says a o true true true here new old away is = new
+d_joined get one f begins says a o true true false here new old away is = tt
+d_joined get one f begins says a o true false true true new old away is = d_come get one f begins says a o new old is
+d_joined get one f begins says a o true false true false new old away is = subst (λ w. Has get (cond (not (is_some o)) begins (unwrap_or says a)) w) (sym (away refl)) tt
+d_joined get one f begins says a o true false false true new old away is = is
+d_joined get one f begins says a o true false false false new old away is = is
+d_joined get one f begins says a o false b2 b3 here new old away is = is
+
+swapped : {A : Type 0} (b : Bool) (x y : A) → cond (not b) x y ≡ cond b y x
+swapped true x y = refl
+swapped false x y = refl
+
+d_listed : {A : Type 0} (get : Member → A) (one : Member) (f : Member → Member) (begins : A) (says : Option A) (a : A) (o : Option Member) (b1 b3 here : Bool) →
+    get one ≡ begins → ((m : Member) → get (f m) ≡ unwrap_or says (get m)) → (here ≡ false → o ≡ None) → Has get a o →
+    Has get (cond (b1 && b3) (cond (is_some o) (unwrap_or says a) begins) a) (cond (b1 && (here && b3)) (Some (come_as one f o)) o)
+d_listed get one f begins says a o true true true new old away is = d_come get one f begins says a o new old is ∙ swapped (is_some o) begins (unwrap_or says a)
+d_listed get one f begins says a o true true false new old away is = subst (λ w. Has get (cond (is_some o) (unwrap_or says a) begins) w) (sym (away refl)) tt
+d_listed get one f begins says a o true false true new old away is = is
+d_listed get one f begins says a o true false false new old away is = is
+d_listed get one f begins says a o false b3 here new old away is = is
+
+d_changed : {A : Type 0} (get : Member → A) (f : Member → Member) (says : Option A) (a : A) (o : Option Member) (b : Bool) →
+    ((m : Member) → get (f m) ≡ unwrap_or says (get m)) → Has get a o → Has get (cond b (unwrap_or says a) a) (cond b (option_map f o) o)
+d_changed get f says a None true old is = tt
+d_changed get f says a (Some m) true old is = old m ∙ ap (unwrap_or says) is
+d_changed get f says a o false old is = is
+
+d_gone : {A : Type 0} (get : Member → A) (a : A) (o : Option Member) (b : Bool) → Has get a o → Has get a (cond b None o)
+d_gone get a o true is = tt
+d_gone get a o false is = is
+
+d_renamed_some : {A : Type 0} (get : Member → A) (new : Member) (now a : A) (o : Option Member) (b2 b3 : Bool) → get new ≡ now → Has get a o → Has get (cond b2 now a) (cond b2 (Some new) (cond b3 None o))
+d_renamed_some get new now a o true b3 made is = made
+d_renamed_some get new now a o false true made is = tt
+d_renamed_some get new now a o false false made is = is
+
+d_renamed : {A : Type 0} (get : Member → A) (old new x : List ℕ) (says : Option A) (a e : A) (w o : Option Member) → ((m : Member) → get (with_nick new m) ≡ unwrap_or says (get m)) → Has get e w → Has get a o →
+    Has get (cond (is_some w && alike x new) (unwrap_or says e) a) (rename_as old new x w o)
+d_renamed get old new x says a e None o made before is = subst (λ z. Has get a z) (sym (rename_as-none old new x o)) is
+d_renamed get old new x says a e (Some m) o made before is =
+    subst (λ z. Has get (cond (alike x new) (unwrap_or says e) a) z) (sym (rename_as-some old new x m o))
+    (d_renamed_some get (with_nick new m) (unwrap_or says e) a o (alike x new) (alike x old) (made m ∙ ap (unwrap_or says) before) is)
+
+pub known-after : {A : Type 0} (get : Member → A) (begins : Item → A) (says : Item → Option A) → Part get begins says →
+    (item : Item) (me : List ℕ) (here : Bool) (c x : List ℕ) (look : List ℕ → Option Member) (before : List ℕ → A) → (here ≡ false → look x ≡ None) → ((y : List ℕ) → Has get (before y) (look y)) →
+    Has get (member_said begins says item me c (λ y. is_some (look y)) before x) (member_after item me here c look x)
+known-after get begins says part (Welcomed nick) me here c x look before away is = tt
+known-after get begins says part (Joined nick user host d) me here c x look before away is =
+    d_joined get (unmarked nick user host) (with_address user host) (begins (Joined nick user host d)) (says (Joined nick user host d)) (before x) (look x) (alike c d) (alike nick me) (alike x nick) here
+    (part.joins nick user host d) (part.rejoins nick user host d) away (is x)
+known-after get begins says part (Left nick d) me here c x look before away is = d_gone get (before x) (look x) (alike c d && (alike nick me || alike x nick)) (is x)
+known-after get begins says part (Departed nick) me here c x look before away is = d_gone get (before x) (look x) (alike nick me || alike x nick) (is x)
+known-after get begins says part (Renamed old new) me here c x look before away is =
+    d_renamed get old new x (says (Renamed old new)) (before x) (before old) (look old) (look x) (part.renames old new) (is old) (is x)
+known-after get begins says part (Marked d mark set nick) me here c x look before away is =
+    d_changed get (with_mark mark set) (says (Marked d mark set nick)) (before x) (look x) (alike c d && alike x nick) (part.marks d mark set nick) (is x)
+known-after get begins says part (Titled d topic) me here c x look before away is = is x
+known-after get begins says part (Listed d one) me here c x look before away is =
+    d_listed get one (with_marks_of one) (begins (Listed d one)) (says (Listed d one)) (before x) (look x) (alike c d) (alike x one.nick) here
+    (part.lists d one) (part.relists d one) away (is x)
+known-after get begins says part (Addressed d nick user host) me here c x look before away is =
+    d_changed get (with_address user host) (says (Addressed d nick user host)) (before x) (look x) (alike c d && alike x nick) (part.addresses d nick user host) (is x)
+
+-- ---- the parts of a member
+
+mark_keeps_user : (mark : Mark) (set : Bool) (m : Member) → (with_mark mark set m).user ≡ m.user
+mark_keeps_user Op set m = refl
+mark_keeps_user Voice set m = refl
+mark_keeps_user HalfOp set m = refl
+
+mark_keeps_host : (mark : Mark) (set : Bool) (m : Member) → (with_mark mark set m).host ≡ m.host
+mark_keeps_host Op set m = refl
+mark_keeps_host Voice set m = refl
+mark_keeps_host HalfOp set m = refl
+
+or_is : (a b : Bool) → (a || b) ≡ unwrap_or (cond b (Some true) None) a
+or_is true true = refl
+or_is true false = refl
+or_is false true = refl
+or_is false false = refl
+
+mark_set : (k mark : Mark) (set : Bool) (m : Member) → has_mark k (with_mark mark set m) ≡ unwrap_or (if_same_mark k mark set) (has_mark k m)
+mark_set Op Op set m = refl
+mark_set Op Voice set m = refl
+mark_set Op HalfOp set m = refl
+mark_set Voice Op set m = refl
+mark_set Voice Voice set m = refl
+mark_set Voice HalfOp set m = refl
+mark_set HalfOp Op set m = refl
+mark_set HalfOp Voice set m = refl
+mark_set HalfOp HalfOp set m = refl
+
+nick_part : Part (λ m. m.nick) nick_begins nick_says
+nick_part = record {
+  joins = λ nick user host d. refl;
+  rejoins = λ nick user host d m. refl;
+  lists = λ d one. refl;
+  relists = λ d one m. refl;
+  renames = λ old new m. refl;
+  marks = λ d mark set nick m. mark_keeps mark set m;
+  addresses = λ d nick user host m. refl;
+}
+
+user_part : Part (λ m. m.user) user_begins user_says
+user_part = record {
+  joins = λ nick user host d. refl;
+  rejoins = λ nick user host d m. refl;
+  lists = λ d one. refl;
+  relists = λ d one m. refl;
+  renames = λ old new m. refl;
+  marks = λ d mark set nick m. mark_keeps_user mark set m;
+  addresses = λ d nick user host m. refl;
+}
+
+host_part : Part (λ m. m.host) host_begins host_says
+host_part = record {
+  joins = λ nick user host d. refl;
+  rejoins = λ nick user host d m. refl;
+  lists = λ d one. refl;
+  relists = λ d one m. refl;
+  renames = λ old new m. refl;
+  marks = λ d mark set nick m. mark_keeps_host mark set m;
+  addresses = λ d nick user host m. refl;
+}
+
+op_part : Part (has_mark Op) (mark_begins Op) (mark_says Op)
+op_part = record {
+  joins = λ nick user host d. refl;
+  rejoins = λ nick user host d m. refl;
+  lists = λ d one. refl;
+  relists = λ d one m. or_is m.op one.op;
+  renames = λ old new m. refl;
+  marks = λ d mark set nick m. mark_set Op mark set m;
+  addresses = λ d nick user host m. refl;
+}
+
+voice_part : Part (has_mark Voice) (mark_begins Voice) (mark_says Voice)
+voice_part = record {
+  joins = λ nick user host d. refl;
+  rejoins = λ nick user host d m. refl;
+  lists = λ d one. refl;
+  relists = λ d one m. or_is m.voice one.voice;
+  renames = λ old new m. refl;
+  marks = λ d mark set nick m. mark_set Voice mark set m;
+  addresses = λ d nick user host m. refl;
+}
+
+half_op_part : Part (has_mark HalfOp) (mark_begins HalfOp) (mark_says HalfOp)
+half_op_part = record {
+  joins = λ nick user host d. refl;
+  rejoins = λ nick user host d m. refl;
+  lists = λ d one. refl;
+  relists = λ d one m. or_is m.half_op one.half_op;
+  renames = λ old new m. refl;
+  marks = λ d mark set nick m. mark_set HalfOp mark set m;
+  addresses = λ d nick user host m. refl;
+}
+
+-- ---- all of it
+
+nick_said-same : (item : Item) (me : List ℕ) (here : Bool) (c x : List ℕ) (was now : List ℕ → Bool) → ((y : List ℕ) → was y ≡ now y) → nick_said item me here c was x ≡ nick_said item me here c now x
+nick_said-same (Welcomed nick) me here c x was now same = refl
+nick_said-same (Joined nick user host d) me here c x was now same = refl
+nick_said-same (Left nick d) me here c x was now same = refl
+nick_said-same (Departed nick) me here c x was now same = refl
+nick_said-same (Renamed old new) me here c x was now same = ap (λ b. cond b (cond (alike x new) (Some true) (cond (alike x old) (Some false) None)) None) (same old)
+nick_said-same (Marked d mark set nick) me here c x was now same = refl
+nick_said-same (Titled d topic) me here c x was now same = refl
+nick_said-same (Listed d one) me here c x was now same = refl
+nick_said-same (Addressed d nick user host) me here c x was now same = refl
+
+member_said-same : {A : Type 0} (begins : Item → A) (says : Item → Option A) (item : Item) (me c x : List ℕ) (was now : List ℕ → Bool) (old_values : List ℕ → A) → ((y : List ℕ) → was y ≡ now y) →
+    member_said begins says item me c was old_values x ≡ member_said begins says item me c now old_values x
+member_said-same begins says (Welcomed nick) me c x was now vs same = refl
+member_said-same begins says (Joined nick user host d) me c x was now vs same =
+    ap (λ b. cond (alike c d && alike x nick) (cond (alike nick me || not b) (begins (Joined nick user host d)) (unwrap_or (says (Joined nick user host d)) (vs x))) (vs x)) (same x)
+member_said-same begins says (Left nick d) me c x was now vs same = refl
+member_said-same begins says (Departed nick) me c x was now vs same = refl
+member_said-same begins says (Renamed old new) me c x was now vs same = ap (λ b. cond (b && alike x new) (unwrap_or (says (Renamed old new)) (vs old)) (vs x)) (same old)
+member_said-same begins says (Marked d mark set nick) me c x was now vs same = refl
+member_said-same begins says (Titled d topic) me c x was now vs same = refl
+member_said-same begins says (Listed d one) me c x was now vs same =
+    ap (λ b. cond (alike c d && alike x one.nick) (cond b (unwrap_or (says (Listed d one)) (vs x)) (begins (Listed d one))) (vs x)) (same x)
+member_said-same begins says (Addressed d nick user host) me c x was now vs same = refl
+
+if_some : {X : Type 0} (P Q : X → Type 0) (o : Option X) → ((x : X) → P x → Q x) → IfSome o P → IfSome o Q
+if_some P Q None f is = tt
+if_some P Q (Some x) f is = f x is
+
+gather : (first c : List ℕ) (past : List Item) (x : List ℕ) (o : Option Member) →
+    Has (λ m. m.nick) (known nick_begins nick_says [] first c past x) o → Has (λ m. m.user) (known user_begins user_says [] first c past x) o → Has (λ m. m.host) (known host_begins host_says [] first c past x) o →
+    Has (has_mark Op) (marked Op first c past x) o → Has (has_mark Voice) (marked Voice first c past x) o → Has (has_mark HalfOp) (marked HalfOp first c past x) o → IfSome o (IsAsSaid first c past x)
+gather first c past x None a b d e f g = tt
+gather first c past x (Some m) a b d e f g = record { nick = a; user = b; host = d; op = e; voice = f; half_op = g }
+
+-- the state stands for the history, and no name is twice in it
+pub record Stands (first : List ℕ) (past : List Item) (s : ChanState) : Type 0 where
+  pub names : Distinct name_of s.channels
+  pub nicks : (c : List ℕ) → Distinct nick_of_member (members_of (channel_in c s))
+  pub places : (c : List ℕ) → Ordered (length past) (map (at (arrival first c past)) (members_of (channel_in c s)))
+  pub joined : Ordered (length past) (map (on_name (opening first past)) s.channels)
+  pub agrees : Agrees first past s
+
+no_channel : (x : List ℕ) (o : Option Channel) → is_some o ≡ false → find (is_called x) (members_of o) ≡ None
+no_channel x None is = refl
+no_channel x (Some ch) is = cc
+
+member_is : (item : Item) (s : ChanState) (first c x : List ℕ) (past : List Item) → Stands first past s →
+    member_in c x (step item s) ≡ member_after item (own first past) (held first c past) c (λ y. member_in c y s) x
+member_is item s first c x past stands =
+    ap (λ o. find (is_called x) (members_of o)) (channel_in-step item s c stands.names)
+    ∙ (member-after item s.nick c x (channel_in c s) (stands.nicks c)
+    ∙ (ap (λ me. member_after item me (is_some (channel_in c s)) c (λ y. member_in c y s) x) stands.agrees.own_nick
+    ∙ ap (λ here. member_after item (own first past) here c (λ y. member_in c y s) x) (stands.agrees.channels c)))
+
+part_is : {A : Type 0} (get : Member → A) (begins : Item → A) (says : Item → Option A) (none : A) → Part get begins says →
+    (item : Item) (s : ChanState) (first c x : List ℕ) (past : List Item) → Stands first past s → ((y : List ℕ) → Has get (known begins says none first c past y) (member_in c y s)) →
+    Has get (known begins says none first c (item ∷ past) x) (member_in c x (step item s))
+part_is get begins says none part item s first c x past stands is =
+    subst (λ o. Has get (known begins says none first c (item ∷ past) x) o) (sym (member_is item s first c x past stands))
+    (subst (λ a. Has get a (member_after item (own first past) (held first c past) c (λ y. member_in c y s) x))
+    (member_said-same begins says item (own first past) c x (λ y. is_some (member_in c y s)) (on first c past) (known begins says none first c past) (stands.agrees.members c))
+    (known-after get begins says part item (own first past) (held first c past) c x (λ y. member_in c y s) (known begins says none first c past)
+    (λ away. no_channel x (channel_in c s) (stands.agrees.channels c ∙ away)) is))
+
+-- the places of members and of channels
+
+places-step : (item : Item) (s : ChanState) (first c : List ℕ) (past : List Item) → Stands first past s → Ordered (suc (length past)) (map (at (arrival first c (item ∷ past))) (members_of (channel_in c (step item s))))
+places-step item s first c past stands =
+    subst (λ o. Ordered (suc (length past)) (map (at (arrival first c (item ∷ past))) (members_of o))) (sym (channel_in-step item s c stands.names))
+    (subst (λ me. Ordered (suc (length past)) (map (at (member_said (λ _. length past) (λ _. None) item me c (on first c past) (arrival first c past))) (members_of (channel_after item s.nick c (channel_in c s))))) stands.agrees.own_nick
+    (order-after item s.nick c (channel_in c s) (on first c past) (arrival first c past) (length past) (stands.nicks c)
+    (λ x. sym (stands.agrees.members c x) ∙ sym (list_any-find (is_called x) (members_of (channel_in c s))))
+    (λ x y is. arrival-alike first c x y past is) (stands.places c)))
+
+joined-step : (item : Item) (s : ChanState) (first : List ℕ) (past : List Item) → Stands first past s → Ordered (suc (length past)) (map (on_name (opening first (item ∷ past))) (step item s).channels)
+joined-step item s first past stands =
+    subst (λ me. Ordered (suc (length past)) (map (on_name (λ c. cond (joins item me c) (length past) (opening first past c))) (step item s).channels)) stands.agrees.own_nick
+    (channels-in-order item s (opening first past) (length past) stands.names stands.joined)
+
+agrees-step : (item : Item) (s : ChanState) (first : List ℕ) (past : List Item) → Stands first past s → Agrees first (item ∷ past) (step item s)
+agrees-step item s first past stands = record {
+  own_nick = own-step item s ∙ ap (λ nick. unwrap_or (own_said item nick) nick) stands.agrees.own_nick;
+  channels = λ c. ap is_some (channel_in-step item s c stands.names) ∙ (held-after item s.nick c (channel_in c s)
+      ∙ (ap (λ me. unwrap_or (channel_said item me c) (is_some (channel_in c s))) stands.agrees.own_nick ∙ ap (λ b. unwrap_or (channel_said item (own first past) c) b) (stands.agrees.channels c)));
+  names = λ c. subst (λ o. HasName (spelling first c (item ∷ past)) o) (sym (channel_in-step item s c stands.names))
+      (subst (λ me. HasName (unwrap_or (name_said item me c) (spelling first c past)) (channel_after item s.nick c (channel_in c s))) stands.agrees.own_nick
+      (name-after item s.nick c (spelling first c past) (channel_in c s) (stands.agrees.names c)));
+  topics = λ c. subst (λ o. HasTopic (topic first c (item ∷ past)) o) (sym (channel_in-step item s c stands.names))
+      (subst (λ me. HasTopic (unwrap_or (topic_said item me c) (topic first c past)) (channel_after item s.nick c (channel_in c s))) stands.agrees.own_nick
+      (topic-after item s.nick c (topic first c past) (channel_in c s) (stands.agrees.topics c)));
+  members = λ c x. ap is_some (member_is item s first c x past stands) ∙ (on-after item (own first past) (held first c past) c x (λ y. member_in c y s)
+      ∙ (ap (λ o. unwrap_or o (is_some (member_in c x s))) (nick_said-same item (own first past) (held first c past) c x (λ y. is_some (member_in c y s)) (on first c past) (stands.agrees.members c))
+      ∙ ap (λ b. unwrap_or (nick_said item (own first past) (held first c past) c (on first c past) x) b) (stands.agrees.members c x)));
+  member_order = λ c. (places-step item s first c past stands).0;
+  channel_order = (joined-step item s first past stands).0;
+  details = λ c x. gather first c (item ∷ past) x (member_in c x (step item s))
+      (part_is (λ m. m.nick) nick_begins nick_says [] nick_part item s first c x past stands (λ y. if_some (IsAsSaid first c past y) _ (member_in c y s) (λ m known. known.nick) (stands.agrees.details c y)))
+      (part_is (λ m. m.user) user_begins user_says [] user_part item s first c x past stands (λ y. if_some (IsAsSaid first c past y) _ (member_in c y s) (λ m known. known.user) (stands.agrees.details c y)))
+      (part_is (λ m. m.host) host_begins host_says [] host_part item s first c x past stands (λ y. if_some (IsAsSaid first c past y) _ (member_in c y s) (λ m known. known.host) (stands.agrees.details c y)))
+      (part_is (has_mark Op) (mark_begins Op) (mark_says Op) false op_part item s first c x past stands (λ y. if_some (IsAsSaid first c past y) _ (member_in c y s) (λ m known. known.op) (stands.agrees.details c y)))
+      (part_is (has_mark Voice) (mark_begins Voice) (mark_says Voice) false voice_part item s first c x past stands (λ y. if_some (IsAsSaid first c past y) _ (member_in c y s) (λ m known. known.voice) (stands.agrees.details c y)))
+      (part_is (has_mark HalfOp) (mark_begins HalfOp) (mark_says HalfOp) false half_op_part item s first c x past stands (λ y. if_some (IsAsSaid first c past y) _ (member_in c y s) (λ m known. known.half_op) (stands.agrees.details c y)));
+}
+
+stands-step : (item : Item) (s : ChanState) (first : List ℕ) (past : List Item) → Stands first past s → Stands first (item ∷ past) (step item s)
+stands-step item s first past stands = record {
+  names = distinct-step item s stands.names;
+  nicks = λ c. subst (λ o. Distinct nick_of_member (members_of o)) (sym (channel_in-step item s c stands.names)) (members-after item s.nick c (channel_in c s) (stands.nicks c));
+  places = λ c. places-step item s first c past stands;
+  joined = joined-step item s first past stands;
+  agrees = agrees-step item s first past stands;
+}
+
+stands-steps : (items : List Item) (s : ChanState) (first : List ℕ) (past : List Item) → Stands first past s → Stands first (before past items) (steps items s)
+stands-steps [] s first past stands = stands
+stands-steps (item ∷ more) s first past stands = stands-steps more (step item s) first (item ∷ past) (stands-step item s first past stands)
+
+stands-all : (messages : List Message) (s : ChanState) (first : List ℕ) (past : List Item) → Stands first past s → Stands first (history_from past messages) (after_all messages s)
+stands-all [] s first past stands = stands
+stands-all (m ∷ more) s first past stands = stands-all more (after m s) first (before past (items_of m)) (stands-steps (items_of m) s first past stands)
+
+pub stands-connected : (first : List ℕ) → Stands first [] (connected first)
+stands-connected first = record {
+  names = tt;
+  nicks = λ c. tt;
+  places = λ c. (tt, tt);
+  joined = (tt, tt);
+  agrees = record { own_nick = refl; channels = λ c. refl; names = λ c. tt; topics = λ c. tt; members = λ c x. refl; details = λ c x. tt; member_order = λ c. tt; channel_order = tt };
+}
+
+pub history-stands : (first : List ℕ) (messages : List Message) → Stands first (history messages) (after_all messages (connected first))
+history-stands first messages = stands-all messages (connected first) first [] (stands-connected first)

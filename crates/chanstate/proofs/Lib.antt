@@ -1,0 +1,9 @@
+pub mod FirstsLemmas
+pub mod MapLemmas
+pub mod StepLemmas
+pub mod FindLemmas
+pub mod DistinctLemmas
+pub mod LookLemmas
+pub mod ItemLemmas
+pub mod HistoryLemmas
+pub mod OrderLemmas

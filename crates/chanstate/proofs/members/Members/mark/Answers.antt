@@ -1,0 +1,13 @@
+use Rattle.std.proofs.Common.{refl, sym, ap}
+use Rattle.chanstate.specs.Members.{is_called, with_mark, with_address, with_marks_of, with_nick, arrived, listed}
+use Rattle.chanstate.specs.Channels.{is_named, with_members, with_topic}
+use Rattle.chanstate.specs.Firsts.{first_removed, first_changed}
+use Rattle.chanstate.proofs.FirstsLemmas.{changed_at, changed_nowhere}
+use Rattle.chanstate.proofs.members.Members.mark.Goals as goal
+
+pub returns-in-Some : goal.returns-in-Some
+returns-in-Some c =
+    changed_at (is_called c.args.nick.now) (with_mark c.args.mark c.args.on) _ _ c.in-Some.at c.index_mut-member.result.now _ c.self.view_is c.in-Some.ensures c.index_mut-member.ensures.value (sym c.set_mark.ensures)
+
+pub returns-in_default : goal.returns-in_default
+returns-in_default c = changed_nowhere (is_called c.args.nick.now) (with_mark c.args.mark c.args.on) _ c.place.result c.place.ensures c.in_default.is

@@ -1,0 +1,7 @@
+use Rattle.std.proofs.Common.{◌≡◌, take, map}
+use Rattle.chanstate.specs.Items.{Joined}
+use Rattle.chanstate.specs.Steps.{steps}
+use Rattle.chanstate.proofs.state.ChanState.join_each.Given as goal
+
+abbrev pub invariant-loop-name : goal.invariant-loop-name
+invariant-loop-name l = l.self ≡ steps (map (λ name. Joined l.nick l.user l.host name.now) (take l.name-index l.names)) l.initial.self

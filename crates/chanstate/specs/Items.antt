@@ -1,0 +1,214 @@
+-- What a message says of the bot's channels (RFC 2812 sections 3.1.2, 3.1.3, 3.1.7, 3.2 and 5), one item at a time:
+-- a list of channels, of modes or of names gives an item for each, in its order.
+-- A line that lacks a needed parameter says nothing.
+use Rattle.std.specs.Option.{option_to_list}
+use Rattle.std.specs.Prelude.{ℕ, ◌-◌, unwrap_or, Bool, true, false, ◌||◌, ◌&&◌, not, ◌==◌, nat_eq, nat_le, List, [], ◌∷◌, ◌++◌, map, filter, drop, take, length, if◌then◌else◌, codes, Option, Some, None, slice_get, slice_index}
+use Rattle.std.specs.List.{list_any, list_all, filter_map, slice_split, position_or_len}
+use Rattle.std.specs.Cmp.Lexicographic.{pointwise}
+use Rattle.ircline.specs.declared.message.Message.{Message}
+use Rattle.ircline.specs.Source.{Origin, Nobody, Server, Person, origin_of}
+use Rattle.chanstate.specs.declared.member.Member.{Member}
+use Rattle.chanstate.specs.declared.member.Mark.{Mark}
+use Rattle.chanstate.specs.declared.member.Mark.TheVariants.{Op, Voice, HalfOp}
+use Rattle.chanstate.specs.declared.verb.Verb.{Verb}
+use Rattle.chanstate.specs.declared.verb.Verb.TheVariants as verb
+
+pub data Item : Type 0 where
+  -- the server has welcomed the bot under this nick
+  Welcomed : List ℕ → Item
+  -- the person nick, user, host has joined the channel
+  Joined : List ℕ → List ℕ → List ℕ → List ℕ → Item
+  -- the nick has left the channel
+  Left : List ℕ → List ℕ → Item
+  -- the nick has left the network
+  Departed : List ℕ → Item
+  -- the first nick is now the second
+  Renamed : List ℕ → List ℕ → Item
+  -- on the channel, the mark of the nick is set or cleared
+  Marked : List ℕ → Mark → Bool → List ℕ → Item
+  -- the channel has this topic
+  Titled : List ℕ → List ℕ → Item
+  -- the channel has this member, who has these marks at least
+  Listed : List ℕ → Member → Item
+  -- on the channel, the nick has this user and host
+  Addressed : List ℕ → List ℕ → List ℕ → List ℕ → Item
+
+-- what follows from a parameter, if it is there
+abbrev pub if_given : Option (List ℕ) → (List ℕ → List Item) → List Item
+if_given None items = []
+if_given (Some text) items = items text
+
+-- a channel's name begins with & # + or !, has 1 to 100 bytes, and no space, comma or control G
+abbrev pub is_channel_byte : ℕ → Bool
+is_channel_byte b = not (b == 32) && (not (b == 44) && not (b == 7))
+
+abbrev pub is_channel_start : ℕ → Bool
+is_channel_start b = b == 38 || (b == 35 || (b == 43 || b == 33))
+
+abbrev pub is_channel_name : List ℕ → Bool
+is_channel_name text = is_channel_start (slice_index text 0) && (nat_le (length text) 100 && list_all is_channel_byte text)
+
+-- the channels of a list with commas between; a piece that is no channel's name names none
+abbrev pub channels_in : List ℕ → List (List ℕ)
+channels_in text = filter is_channel_name (slice_split (λ b. b == 44) text)
+
+-- @ % + & ~ stand before a nick in a list of names
+abbrev pub is_sign : ℕ → Bool
+is_sign b = b == 64 || (b == 37 || (b == 43 || (b == 38 || b == 126)))
+
+abbrev pub signs_len : List ℕ → ℕ
+signs_len word = position_or_len (λ b. not (is_sign b)) word
+
+-- a word of such a list: @ is op, % is half-op, + is voice
+abbrev pub named_by : List ℕ → List ℕ → Option Member
+named_by signs nick =
+    if length nick == 0 then None
+    else Some (record {
+      nick = nick;
+      user = [];
+      host = [];
+      op = list_any (λ s. s == 64) signs;
+      voice = list_any (λ s. s == 43) signs;
+      half_op = list_any (λ s. s == 37) signs;
+    })
+
+abbrev pub named : List ℕ → Option Member
+named word = named_by (take (signs_len word) word) (drop (signs_len word) word)
+
+abbrev pub names_in : List ℕ → List Member
+names_in text = filter_map named (slice_split (λ b. b == 32) text)
+
+-- one mode of a mode string
+pub record Single : Type 0 where
+  pub on : Bool
+  pub letter : ℕ
+  pub argument : List ℕ
+
+-- o v b e I k h have an argument under both signs, l under plus alone, and no other letter has one
+abbrev pub has_argument : Bool → ℕ → Bool
+has_argument on b = b == 111 || (b == 118 || (b == 98 || (b == 101 || (b == 73 || (b == 107 || (b == 104 || (on && b == 108)))))))
+
+-- + and - are signs, and each holds until the next one
+abbrev pub sign_after : Bool → ℕ → Bool
+sign_after on b = if b == 43 then true else (if b == 45 then false else on)
+
+abbrev pub is_letter : ℕ → Bool
+is_letter b = not (b == 43 || b == 45)
+
+-- the argument of a letter; a missing one is the empty text
+abbrev pub argument_of : Bool → ℕ → List (List ℕ) → List ℕ
+argument_of on b arguments = if has_argument on b then unwrap_or (slice_get arguments 0) [] else []
+
+abbrev pub arguments_after : Bool → ℕ → List (List ℕ) → List (List ℕ)
+arguments_after on b arguments = if is_letter b && has_argument on b then drop 1 arguments else arguments
+
+-- the single mode of a byte, which is none for a sign
+abbrev pub single_at : Bool → ℕ → List (List ℕ) → Option Single
+single_at on b arguments = if is_letter b then Some (record { on = on; letter = b; argument = argument_of on b arguments }) else None
+
+-- the single modes of a mode string; the sign is plus at first
+abbrev pub singles : Bool → List ℕ → List (List ℕ) → List Single
+singles on [] arguments = []
+singles on (b ∷ bs) arguments = option_to_list (single_at on b arguments) ++ singles (sign_after on b) bs (arguments_after on b arguments)
+
+-- o v h set or clear a mark
+abbrev pub mark_of : ℕ → Option Mark
+mark_of b = if b == 111 then Some Op else (if b == 118 then Some Voice else (if b == 104 then Some HalfOp else None))
+
+abbrev pub marking : List ℕ → Bool → List ℕ → Option Mark → List Item
+marking channel on nick None = []
+marking channel on nick (Some mark) = Marked channel mark on nick ∷ []
+
+abbrev pub markings : List ℕ → List Single → List Item
+markings channel [] = []
+markings channel (one ∷ more) = marking channel one.on one.argument (mark_of one.letter) ++ markings channel more
+
+-- the command of a message, as far as channels are concerned
+abbrev pub is_command : List ℕ → List ℕ → Bool
+is_command command name = pointwise nat_eq command name
+
+abbrev pub verb_of : List ℕ → Verb
+verb_of c =
+    if is_command c (codes "001") then verb.Welcome
+    else (if is_command c (codes "JOIN") then verb.Join
+    else (if is_command c (codes "PART") then verb.Part
+    else (if is_command c (codes "KICK") then verb.Kick
+    else (if is_command c (codes "QUIT") then verb.Quit
+    else (if is_command c (codes "NICK") then verb.Nick
+    else (if is_command c (codes "MODE") then verb.Mode
+    else (if is_command c (codes "TOPIC") then verb.Topic
+    else (if is_command c (codes "332") then verb.TopicIs
+    else (if is_command c (codes "331") then verb.NoTopic
+    else (if is_command c (codes "353") then verb.Names
+    else (if is_command c (codes "352") then verb.Who
+    else verb.Other)))))))))))
+
+-- 001: the first parameter is the bot's nick
+abbrev pub welcome_items : List (List ℕ) → List Item
+welcome_items ps = if_given (slice_get ps 0) (λ nick. Welcomed nick ∷ [])
+
+-- JOIN and PART of a person
+abbrev pub join_items : Origin → List (List ℕ) → List Item
+join_items (Person nick user host) ps = if_given (slice_get ps 0) (λ list. map (Joined nick user host) (channels_in list))
+join_items who ps = []
+
+abbrev pub part_items : Origin → List (List ℕ) → List Item
+part_items (Person nick user host) ps = if_given (slice_get ps 0) (λ list. map (Left nick) (channels_in list))
+part_items who ps = []
+
+-- KICK, by anyone
+abbrev pub kick_items : List (List ℕ) → List Item
+kick_items ps = if_given (slice_get ps 0) (λ channel. if_given (slice_get ps 1) (λ target. Left target channel ∷ []))
+
+-- QUIT and NICK of a person
+abbrev pub quit_items : Origin → List Item
+quit_items (Person nick user host) = Departed nick ∷ []
+quit_items who = []
+
+abbrev pub nick_items : Origin → List (List ℕ) → List Item
+nick_items (Person nick user host) ps = if_given (slice_get ps 0) (λ new. Renamed nick new ∷ [])
+nick_items who ps = []
+
+-- MODE of a channel, by anyone
+abbrev pub mode_items : List (List ℕ) → List Item
+mode_items ps = if_given (slice_get ps 0) (λ channel. if_given (slice_get ps 1) (λ modes. markings channel (singles true modes (drop 2 ps))))
+
+abbrev pub last_of : List (List ℕ) → Option (List ℕ)
+last_of ps = slice_get ps (length ps - 1)
+
+-- TOPIC: the channel is the first parameter; 332 and 331: the second. The last parameter is the topic, for 331 none
+abbrev pub topic_items : List (List ℕ) → List Item
+topic_items ps = if_given (slice_get ps 0) (λ channel. if_given (slice_get ps 1) (λ text. if_given (last_of ps) (λ topic. Titled channel topic ∷ [])))
+
+abbrev pub topic_is_items : List (List ℕ) → List Item
+topic_is_items ps = if_given (slice_get ps 1) (λ channel. if_given (slice_get ps 2) (λ text. if_given (last_of ps) (λ topic. Titled channel topic ∷ [])))
+
+abbrev pub no_topic_items : List (List ℕ) → List Item
+no_topic_items ps = if_given (slice_get ps 1) (λ channel. Titled channel [] ∷ [])
+
+-- 353: the third parameter is the channel, the fourth the names
+abbrev pub names_items : List (List ℕ) → List Item
+names_items ps = if_given (slice_get ps 2) (λ channel. if_given (slice_get ps 3) (λ names. map (Listed channel) (names_in names)))
+
+-- 352: the second, third, fourth and sixth are channel, user, host and nick
+abbrev pub who_items : List (List ℕ) → List Item
+who_items ps =
+    if_given (slice_get ps 1) (λ channel. if_given (slice_get ps 2) (λ user. if_given (slice_get ps 3) (λ host. if_given (slice_get ps 5) (λ nick. Addressed channel nick user host ∷ []))))
+
+abbrev pub items_by : Verb → Origin → List (List ℕ) → List Item
+items_by verb.Welcome who ps = welcome_items ps
+items_by verb.Join who ps = join_items who ps
+items_by verb.Part who ps = part_items who ps
+items_by verb.Kick who ps = kick_items ps
+items_by verb.Quit who ps = quit_items who
+items_by verb.Nick who ps = nick_items who ps
+items_by verb.Mode who ps = mode_items ps
+items_by verb.Topic who ps = topic_items ps
+items_by verb.TopicIs who ps = topic_is_items ps
+items_by verb.NoTopic who ps = no_topic_items ps
+items_by verb.Names who ps = names_items ps
+items_by verb.Who who ps = who_items ps
+items_by verb.Other who ps = []
+
+abbrev pub items_of : Message → List Item
+items_of m = items_by (verb_of m.command) (origin_of m.prefix) m.params

@@ -1,0 +1,11 @@
+pub mod Names
+pub mod Firsts
+pub mod Members
+pub mod Channels
+pub mod Items
+pub mod Steps
+pub mod Seen
+pub mod Views
+pub mod EventShape
+pub mod Events
+pub mod History

@@ -1,0 +1,68 @@
+-- The members of one channel, in the order in which they came.
+use Rattle.std.specs.Prelude.{ℕ, Bool, true, false, ◌||◌, List, [], ◌∷◌, ◌++◌, if◌then◌else◌}
+use Rattle.std.specs.List.{list_any}
+use Rattle.chanstate.specs.declared.member.Member.{Member}
+use Rattle.chanstate.specs.declared.member.Mark.{Mark}
+use Rattle.chanstate.specs.declared.member.Mark.TheVariants.{Op, Voice, HalfOp}
+use Rattle.chanstate.specs.Names.{alike}
+use Rattle.chanstate.specs.Firsts.{first_removed, first_changed}
+
+-- whether the member has this nick
+abbrev pub is_called : List ℕ → Member → Bool
+is_called nick m = alike nick m.nick
+
+-- whether one of the members has this nick
+abbrev pub has_member : List ℕ → List Member → Bool
+has_member nick members = list_any (is_called nick) members
+
+-- one who has no mark yet
+abbrev pub unmarked : List ℕ → List ℕ → List ℕ → Member
+unmarked nick user host = record { nick = nick; user = user; host = host; op = false; voice = false; half_op = false }
+
+-- the member with another user and host
+abbrev pub with_address : List ℕ → List ℕ → Member → Member
+with_address user host m = record m { user = user; host = host }
+
+-- the member under another nick
+abbrev pub with_nick : List ℕ → Member → Member
+with_nick nick m = record m { nick = nick }
+
+-- the member with a mark set or cleared
+abbrev pub with_mark : Mark → Bool → Member → Member
+with_mark Op on m = record m { op = on }
+with_mark Voice on m = record m { voice = on }
+with_mark HalfOp on m = record m { half_op = on }
+
+-- the member with these marks besides those that it has
+abbrev pub with_marks_of : Member → Member → Member
+with_marks_of more m = record m { op = m.op || more.op; voice = m.voice || more.voice; half_op = m.half_op || more.half_op }
+
+-- one who joins: a member's address is renewed, and anyone else comes last, without marks
+abbrev pub arrived : Member → List Member → List Member
+arrived one members =
+    if has_member one.nick members
+    then first_changed (is_called one.nick) (with_address one.user one.host) members
+    else members ++ one ∷ []
+
+-- one who is listed: a member gets the marks, and anyone else comes last with them
+abbrev pub listed : Member → List Member → List Member
+listed one members =
+    if has_member one.nick members
+    then first_changed (is_called one.nick) (with_marks_of one) members
+    else members ++ one ∷ []
+
+-- several, in their order
+abbrev pub listed_each : List Member → List Member → List Member
+listed_each [] members = members
+listed_each (one ∷ more) members = listed_each more (listed one members)
+
+-- the members without another of the new nick
+abbrev pub without_namesake : List ℕ → List ℕ → List Member → List Member
+without_namesake old new members = if alike old new then members else first_removed (is_called new) members
+
+-- a member takes another nick in its place, and another of that nick goes first
+abbrev pub renamed : List ℕ → List ℕ → List Member → List Member
+renamed old new members =
+    if has_member old members
+    then first_changed (is_called old) (with_nick new) (without_namesake old new members)
+    else members

@@ -1,0 +1,41 @@
+-- What a bot may ask of its channels.
+use Rattle.std.specs.Prelude.{ℕ, Bool, false, ◌&&◌, Option, None, Some, List, [], map, filter, find}
+use Rattle.std.specs.Option.{option_map}
+use Rattle.chanstate.specs.declared.member.Member.{Member}
+use Rattle.chanstate.specs.declared.channel.Channel.{Channel}
+use Rattle.chanstate.specs.declared.state.ChanState.{ChanState}
+use Rattle.chanstate.specs.Members.{is_called, has_member}
+use Rattle.chanstate.specs.Channels.{is_named}
+
+-- no channel is held yet
+abbrev pub connected : List ℕ → ChanState
+connected nick = record { nick = nick; channels = [] }
+
+-- the channel of this name, if it is held
+abbrev pub channel_in : List ℕ → ChanState → Option Channel
+channel_in name s = find (is_named name) s.channels
+
+-- its topic
+abbrev pub topic_in : List ℕ → ChanState → Option (List ℕ)
+topic_in name s = option_map (λ channel. channel.topic) (channel_in name s)
+
+-- its members, and nobody where it isn't held
+abbrev pub members_of : Option Channel → List Member
+members_of None = []
+members_of (Some channel) = channel.members
+
+abbrev pub members_in : List ℕ → ChanState → List Member
+members_in name s = members_of (channel_in name s)
+
+-- the member of this nick
+abbrev pub member_in : List ℕ → List ℕ → ChanState → Option Member
+member_in name nick s = find (is_called nick) (members_in name s)
+
+-- whether that member is a channel operator
+abbrev pub is_op : Option Member → Bool
+is_op None = false
+is_op (Some member) = member.op
+
+-- the names of the channels that have a member of this nick, in the order in which the bot joined them
+abbrev pub channels_with : List ℕ → ChanState → List (List ℕ)
+channels_with nick s = map (λ channel. channel.name) (filter (λ channel. has_member nick channel.members) s.channels)

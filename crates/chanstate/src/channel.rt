@@ -1,0 +1,56 @@
+// One channel that the bot is on.
+ghost use Rattle.std.specs.Prelude.{◌≡◌, IfOk};
+ghost use Rattle.chanstate.specs.Channels.{opened, with_members};
+ghost use Rattle.chanstate.specs.Members.{is_called, renamed};
+ghost use Rattle.chanstate.specs.Firsts.{first_removed};
+
+use crate::member::Member;
+use crate::members::Members;
+use bytetext::{NoMemory, Text};
+use std::alloc::Global;
+
+/// A channel that the bot is on.
+#[derive(Debug, Drop)]
+pub struct Channel {
+    pub(crate) name: Text,
+    pub(crate) topic: Text,
+    pub(crate) members: Members,
+}
+
+impl Channel {
+    // A channel that the bot has just joined.
+    pub(crate) fn open(alloc: Global, name: &[u8], bot: Member) -> Result<Channel, NoMemory>
+        ensures { IfOk result (λ c. c ≡ opened name.now bot) }
+    {
+        Ok(Channel {
+            name: Text::from_slice(alloc, name)?,
+            topic: Text::empty(alloc),
+            members: Members::one(alloc, bot)?,
+        })
+    }
+
+    // An equal channel of its own.
+    pub(crate) fn copy(&self, alloc: Global) -> Result<Channel, NoMemory>
+        ensures { IfOk result (λ c. c ≡ self.now) }
+    {
+        Ok(Channel {
+            name: self.name.copy(alloc)?,
+            topic: self.topic.copy(alloc)?,
+            members: self.members.copy(alloc)?,
+        })
+    }
+
+    // Someone leaves.
+    pub(crate) fn depart(&mut self, nick: &[u8])
+        ensures { self.new ≡ with_members (first_removed (is_called nick.now)) self.old }
+    {
+        self.members.remove(nick);
+    }
+
+    // Someone takes another nick.
+    pub(crate) fn rename(&mut self, old: &[u8], new: Text)
+        ensures { self.new ≡ with_members (renamed old.now new) self.old }
+    {
+        self.members.rename(old, new);
+    }
+}

@@ -1,0 +1,74 @@
+// What a message means to those who bind procs to it.
+ghost use Rattle.std.specs.Prelude.{◌≡◌, IfOk, map};
+ghost use Rattle.std.specs.Option.{option_copied};
+ghost use Rattle.chanstate.specs.EventShape.{event_with};
+
+use bytetext::{NoMemory, Text, Texts};
+use std::alloc::Global;
+
+/// The kinds of events, named as Eggdrop's bind types.
+#[derive(Clone, Copy, Debug)]
+pub enum Kind {
+    /// Any message, by its command.
+    Raw,
+    /// A private message, by its first word.
+    Msg,
+    /// A private message, by its whole text.
+    Msgm,
+    /// A notice, by its whole text.
+    Notc,
+    /// A message to a channel, by its first word.
+    Pub,
+    /// A message to a channel, by the channel and the whole text.
+    Pubm,
+}
+
+/// An event of a message.
+#[derive(Debug, Drop)]
+pub struct Event {
+    /// Its kind.
+    pub kind: Kind,
+    /// What a bind's mask is matched against.
+    pub subject: Text,
+    /// The channel that it happens on, as the bot spells it; none for an event that is on no channel.
+    pub channel: Option<Text>,
+    /// What a proc is given, but for the person's handle, which would follow `user@host`.
+    pub arguments: Texts,
+}
+
+impl Event {
+    // An event of these parts.
+    pub(crate) fn new(
+        alloc: Global,
+        kind: Kind,
+        subject: &[u8],
+        channel: Option<&[u8]>,
+        arguments: &[&[u8]],
+    ) -> Result<Event, NoMemory>
+        ensures { IfOk result (λ e. e ≡ event_with kind subject.now (option_copied channel.entry) (map (λ x. x.now) arguments.now)) }
+    {
+        let subject = Text::from_slice(alloc, subject)?;
+        let channel = match channel {
+            Some(name) => Some(Text::from_slice(alloc, name)?),
+            None => None,
+        };
+        let arguments = texts_of(alloc, arguments)?;
+        Ok(Event {
+            kind,
+            subject,
+            channel,
+            arguments: Texts::new(arguments),
+        })
+    }
+}
+
+// A copy of each of these, in order.
+fn texts_of(alloc: Global, texts: &[&[u8]]) -> Result<Vec<Text>, NoMemory>
+    ensures { IfOk result (λ copies. copies.items ≡ map (λ x. x.now) texts.now) }
+{
+    let mut copies = Vec::with_capacity(alloc, texts.len())?;
+    for text in texts {
+        copies.push(Text::from_slice(alloc, text)?)?;
+    }
+    Ok(copies)
+}

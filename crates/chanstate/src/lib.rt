@@ -1,0 +1,50 @@
+//! What a bot knows of the channels that it is on, and the events of a message.
+//!
+//! A [`ChanState`] begins with the nick under which the bot connects. Each message is taken in by [`ChanState::apply`];
+//! then one may ask for the channels that the bot is on, in the order in which it joined them, and for each its topic
+//! and its members, in the order in which they came, with their marks and addresses. Names compare by casemapping.
+//! A message that lacks a needed parameter changes nothing, and a refusal of memory leaves the state as it was.
+//!
+//! [`events`] says what a message means to those who bind procs: a raw event for every message, and those of what a
+//! person says to the bot or on a channel that it is on. They are told against the state before the message.
+//!
+//! What the state is after some messages is stated twice. `apply` is one step of the table in `specs/Steps.antt`. The
+//! law [`history_says`] is that these steps leave just what one learns by looking back over the history, from its
+//! newest line: each question is answered by the last line that concerns it (`specs/History.antt`).
+//!
+//! ```text
+//! let mut state = ChanState::new(alloc, b"Egg")?;
+//! state.apply(alloc, &message)?;                 // :Egg!e@h JOIN #a
+//! state.members(alloc, b"#A")?.len()             // 1
+//! events(alloc, &message, &state)?               // :a!b@c PRIVMSG egg :hi you gives raw, msgm and msg
+//! ```
+#![tactic(auto)]
+
+mod change;
+mod channel;
+mod channels;
+mod comings;
+mod event;
+mod history;
+mod listings;
+mod marks;
+mod member;
+mod members;
+mod modes;
+mod names;
+mod renames;
+mod speech;
+mod state;
+mod topics;
+mod verb;
+mod words;
+
+pub use crate::event::{Event, Kind};
+pub use crate::history::history_says;
+pub use crate::member::{Mark, Member};
+pub use crate::members::Members;
+pub use crate::speech::events;
+pub use crate::state::ChanState;
+
+#[cfg(test)]
+mod tests;

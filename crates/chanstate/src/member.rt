@@ -1,0 +1,98 @@
+// One member of a channel.
+ghost use Rattle.std.specs.Prelude.{◌≡◌, IfOk};
+ghost use Rattle.chanstate.specs.Members.{unmarked, with_mark, with_marks_of, with_address};
+
+use bytetext::{NoMemory, Text};
+use std::alloc::Global;
+
+/// A mark that a member of a channel may have.
+#[derive(Clone, Copy, Debug)]
+pub enum Mark {
+    /// Channel operator, `@` in a list of names and `o` in a mode.
+    Op,
+    /// Voice, `+` in a list of names and `v` in a mode.
+    Voice,
+    /// Half-operator, `%` in a list of names and `h` in a mode.
+    HalfOp,
+}
+
+/// One who is on a channel.
+#[derive(Debug, Drop)]
+pub struct Member {
+    /// The nick, as the line spelled it that put the member there or renamed it.
+    pub nick: Text,
+    /// The user name; empty while no line has told it.
+    pub user: Text,
+    /// The host; empty while no line has told it.
+    pub host: Text,
+    /// Whether the member is a channel operator.
+    pub op: bool,
+    /// Whether the member has voice.
+    pub voice: bool,
+    /// Whether the member is a half-operator.
+    pub half_op: bool,
+}
+
+impl Member {
+    /// One without marks, of this nick and address.
+    ///
+    /// # Errors
+    /// `NoMemory` where room for a copy is refused.
+    pub fn new(alloc: Global, nick: &[u8], user: &[u8], host: &[u8]) -> Result<Member, NoMemory>
+        ensures { IfOk result (λ m. m ≡ unmarked nick.now user.now host.now) }
+    {
+        Ok(Member {
+            nick: Text::from_slice(alloc, nick)?,
+            user: Text::from_slice(alloc, user)?,
+            host: Text::from_slice(alloc, host)?,
+            op: false,
+            voice: false,
+            half_op: false,
+        })
+    }
+
+    /// An equal member of its own.
+    ///
+    /// # Errors
+    /// `NoMemory` where room for a copy is refused.
+    pub fn copy(&self, alloc: Global) -> Result<Member, NoMemory>
+        ensures { IfOk result (λ m. m ≡ self.now) }
+    {
+        Ok(Member {
+            nick: self.nick.copy(alloc)?,
+            user: self.user.copy(alloc)?,
+            host: self.host.copy(alloc)?,
+            op: self.op,
+            voice: self.voice,
+            half_op: self.half_op,
+        })
+    }
+
+    // Sets or clears a mark.
+    pub(crate) fn set_mark(&mut self, mark: Mark, on: bool)
+        ensures { self.new ≡ with_mark mark on self.old }
+    {
+        match mark {
+            Mark::Op => self.op = on,
+            Mark::Voice => self.voice = on,
+            Mark::HalfOp => self.half_op = on,
+        }
+    }
+
+    // Sets the marks that another has.
+    pub(crate) fn add_marks(&mut self, more: &Member)
+        ensures { self.new ≡ with_marks_of more.now self.old }
+    {
+        self.op |= more.op;
+        self.voice |= more.voice;
+        self.half_op |= more.half_op;
+    }
+
+    // Gives the member another address.
+    pub(crate) fn set_address(&mut self, user: Text, host: Text)
+        ensures { self.new ≡ with_address user host self.old }
+    {
+        self.user = user;
+        self.host = host;
+    }
+}

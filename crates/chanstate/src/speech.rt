@@ -1,0 +1,237 @@
+// What people say, as events.
+ghost use Rattle.std.specs.Prelude.{◌≡◌, ◌≤◌, ◌∷◌, ◌++◌, ◌==◌, not, length, take, if◌then◌else◌, [], IfOk};
+ghost use Rattle.std.specs.List.{position_or_len};
+ghost use Rattle.std.specs.Option.{option_copied};
+ghost use Rattle.chanstate.specs.Events.{spaces_len, word_len, first_word, behind_word, to_bot, to_channel, noticed, is_hidden, said, noted, said_by, noted_by, address_of, typed, raw, events_of};
+
+use crate::event::{Event, Kind};
+use crate::names::is_alike;
+use crate::state::ChanState;
+use crate::verb::is;
+use crate::words::param;
+use bytetext::{NoMemory, Text};
+use ircline::{Message, Source, source};
+use std::alloc::Global;
+
+// How long the first word is.
+fn count_word(text: &[u8]) -> usize
+    ensures value { result ≡ word_len text.now }
+    ensures within { result ≤ length text.now }
+{
+    let mut count = 0;
+    while count < text.len() && text[count] != b' ' {
+        count += 1;
+    }
+    count
+}
+
+// How many spaces stand in front.
+fn count_spaces(text: &[u8]) -> usize
+    ensures value { result ≡ spaces_len text.now }
+    ensures within { result ≤ length text.now }
+{
+    let mut count = 0;
+    while count < text.len() && text[count] == b' ' {
+        count += 1;
+    }
+    count
+}
+
+// What stands behind the first word and the spaces after it.
+fn after_word(text: &[u8]) -> &[u8]
+    ensures { result.now ≡ behind_word text.now }
+{
+    let rest = &text[count_word(text)..];
+    &rest[count_spaces(rest)..]
+}
+
+// Two texts with a byte between them.
+fn joined(alloc: Global, front: &[u8], between: u8, back: &[u8]) -> Result<Text, NoMemory>
+    ensures { IfOk result (λ t. t ≡ front.now ++ between ∷ back.now) }
+{
+    let mut bytes = Vec::new(alloc);
+    bytes.extend_from_slice(front)?;
+    bytes.push(between)?;
+    bytes.extend_from_slice(back)?;
+    Ok(Text::new(bytes))
+}
+
+fn is_for_programs(text: &[u8]) -> bool
+    ensures { result ≡ is_hidden text.now }
+{
+    !text.is_empty() && text[0] == 1
+}
+
+// The two events of a text: by all of it, and by its first word, if it begins with one.
+fn both(alloc: Global, whole: Event, word: Event, has_word: bool) -> Result<Vec<Event>, NoMemory>
+    ensures { IfOk result (λ v. v.items ≡ (if has_word then whole ∷ word ∷ [] else whole ∷ [])) }
+{
+    let mut events = Vec::with_capacity(alloc, 2)?;
+    events.push(whole)?;
+    if has_word {
+        events.push(word)?;
+    }
+    Ok(events)
+}
+
+// A person says something to the bot.
+fn say_to_bot(
+    alloc: Global,
+    nick: &[u8],
+    address: &[u8],
+    text: &[u8],
+) -> Result<Vec<Event>, NoMemory>
+    ensures { IfOk result (λ v. v.items ≡ to_bot nick.now address.now text.now) }
+{
+    let word = &text[..count_word(text)];
+    let whole = Event::new(alloc, Kind::Msgm, text, None, &[nick, address, text])?;
+    let first = Event::new(
+        alloc,
+        Kind::Msg,
+        word,
+        None,
+        &[nick, address, after_word(text)],
+    )?;
+    both(alloc, whole, first, !word.is_empty())
+}
+
+// A person says something on a channel.
+fn say_on(
+    alloc: Global,
+    nick: &[u8],
+    address: &[u8],
+    channel: &[u8],
+    text: &[u8],
+) -> Result<Vec<Event>, NoMemory>
+    ensures { IfOk result (λ v. v.items ≡ to_channel nick.now address.now channel.now text.now) }
+{
+    let word = &text[..count_word(text)];
+    let subject = joined(alloc, channel, b' ', text)?;
+    let whole = Event::new(
+        alloc,
+        Kind::Pubm,
+        subject.as_bytes(),
+        Some(channel),
+        &[nick, address, channel, text],
+    )?;
+    let first = Event::new(
+        alloc,
+        Kind::Pub,
+        word,
+        Some(channel),
+        &[nick, address, channel, after_word(text)],
+    )?;
+    both(alloc, whole, first, !word.is_empty())
+}
+
+// A person notes something.
+fn note(
+    alloc: Global,
+    nick: &[u8],
+    address: &[u8],
+    channel: Option<&[u8]>,
+    text: &[u8],
+    dest: &[u8],
+) -> Result<Vec<Event>, NoMemory>
+    ensures { IfOk result (λ v. v.items ≡ noticed nick.now address.now (option_copied channel.entry) text.now dest.now) }
+{
+    let mut events = Vec::with_capacity(alloc, 1)?;
+    events.push(Event::new(
+        alloc,
+        Kind::Notc,
+        text,
+        channel,
+        &[nick, address, text, dest],
+    )?)?;
+    Ok(events)
+}
+
+// What a PRIVMSG to this target gives.
+fn say(
+    alloc: Global,
+    nick: &[u8],
+    address: &[u8],
+    target: &[u8],
+    text: &[u8],
+    state: &ChanState,
+) -> Result<Vec<Event>, NoMemory>
+    ensures { IfOk result (λ v. v.items ≡ said nick.now address.now target.now text.now state.now) }
+{
+    if is_for_programs(text) {
+        return Ok(Vec::new(alloc));
+    }
+    if is_alike(target, state.own_nick()) {
+        return say_to_bot(alloc, nick, address, text);
+    }
+    match state.held(target) {
+        Some(channel) => say_on(alloc, nick, address, channel, text),
+        None => Ok(Vec::new(alloc)),
+    }
+}
+
+// What a NOTICE to this target gives.
+fn notice(
+    alloc: Global,
+    nick: &[u8],
+    address: &[u8],
+    target: &[u8],
+    text: &[u8],
+    state: &ChanState,
+) -> Result<Vec<Event>, NoMemory>
+    ensures { IfOk result (λ v. v.items ≡ noted nick.now address.now target.now text.now state.now) }
+{
+    if is_for_programs(text) {
+        return Ok(Vec::new(alloc));
+    }
+    if is_alike(target, state.own_nick()) {
+        return note(alloc, nick, address, None, text, target);
+    }
+    match state.held(target) {
+        Some(channel) => note(alloc, nick, address, Some(channel), text, channel),
+        None => Ok(Vec::new(alloc)),
+    }
+}
+
+// The events that depend on the command, for a message with a target and a text.
+fn spoken(alloc: Global, message: &Message, state: &ChanState) -> Result<Vec<Event>, NoMemory>
+    ensures { IfOk result (λ v. v.items ≡ typed message.now state.now) }
+{
+    let is_said = is(message.command.as_bytes(), b"PRIVMSG");
+    if !is_said && !is(message.command.as_bytes(), b"NOTICE") {
+        return Ok(Vec::new(alloc));
+    }
+    let Source::Person { nick, user, host } = source(message.prefix.as_bytes()) else {
+        return Ok(Vec::new(alloc));
+    };
+    let params = message.params.as_slice();
+    let Some(target) = param(params, 0) else {
+        return Ok(Vec::new(alloc));
+    };
+    let Some(text) = param(params, 1) else {
+        return Ok(Vec::new(alloc));
+    };
+    let address = joined(alloc, user, b'@', host)?;
+    if is_said {
+        say(alloc, nick, address.as_bytes(), target, text, state)
+    } else {
+        notice(alloc, nick, address.as_bytes(), target, text, state)
+    }
+}
+
+/// The events of a message, against the state of the channels before it: the raw event, and then those of its command.
+///
+/// # Errors
+/// `NoMemory` where room for them is refused.
+pub fn events(alloc: Global, message: &Message, state: &ChanState) -> Result<Vec<Event>, NoMemory>
+    ensures { IfOk result (λ v. v.items ≡ events_of message.now state.now) }
+{
+    let parts = [
+        message.prefix.as_bytes(),
+        message.command.as_bytes(),
+        message.rest.as_bytes(),
+    ];
+    let raw = Event::new(alloc, Kind::Raw, message.command.as_bytes(), None, &parts)?;
+    let mut events = spoken(alloc, message, state)?;
+    events.insert(0, raw)?;
+    Ok(events)
+}

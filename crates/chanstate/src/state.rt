@@ -1,0 +1,159 @@
+// The bot's channels.
+ghost use Rattle.std.specs.Prelude.{◌≡◌, IfOk, MatchResult};
+ghost use Rattle.std.specs.Option.{option_copied, option_map};
+ghost use Rattle.chanstate.specs.Channels.{is_held};
+ghost use Rattle.chanstate.specs.Views.{connected, channel_in, topic_in, members_in, member_in, is_op, channels_with};
+ghost use Rattle.chanstate.specs.Steps.{after};
+
+use crate::change::{Change, change_of};
+use crate::channels::Channels;
+use crate::members::Members;
+use bytetext::{NoMemory, Text, Texts};
+use ircline::Message;
+use std::alloc::Global;
+
+/// What a bot knows of the channels that it is on, by the lines that it has read since it connected.
+#[derive(Debug, Drop)]
+pub struct ChanState {
+    pub(crate) nick: Text,
+    pub(crate) channels: Channels,
+}
+
+impl ChanState {
+    /// The state of a bot that has just connected under this nick: it is on no channel.
+    ///
+    /// # Errors
+    /// `NoMemory` where room for the nick is refused.
+    pub fn new(alloc: Global, nick: &[u8]) -> Result<ChanState, NoMemory>
+        ensures { IfOk result (λ s. s ≡ connected nick.now) }
+    {
+        let nick = Text::from_slice(alloc, nick)?;
+        Ok(ChanState {
+            nick,
+            channels: Channels::new(alloc),
+        })
+    }
+
+    /// The nick that the server knows the bot by.
+    pub fn own_nick(&self) -> &[u8]
+        ensures { result.now ≡ self.now.nick }
+    {
+        self.nick.as_bytes()
+    }
+
+    /// Whether the bot is on the channel.
+    pub fn holds(&self, channel: &[u8]) -> bool
+        ensures { result ≡ is_held channel.now self.now.channels }
+    {
+        self.channels.holds(channel)
+    }
+
+    // The name of a channel, as the bot spells it.
+    pub(crate) fn held(&self, channel: &[u8]) -> Option<&[u8]>
+        ensures { option_copied result ≡ option_map (λ c. c.name) (channel_in channel.now self.now) }
+    {
+        match self.channels.find(channel) {
+            Some(held) => Some(held.name.as_bytes()),
+            None => None,
+        }
+    }
+
+    /// The topic of a channel, empty where it has none; nothing where the bot isn't on the channel.
+    pub fn topic(&self, channel: &[u8]) -> Option<&[u8]>
+        ensures { option_copied result ≡ topic_in channel.now self.now }
+    {
+        match self.channels.find(channel) {
+            Some(held) => Some(held.topic.as_bytes()),
+            None => None,
+        }
+    }
+
+    /// Whether the nick is a channel operator there.
+    pub fn is_op(&self, channel: &[u8], nick: &[u8]) -> bool
+        ensures { result ≡ is_op (member_in channel.now nick.now self.now) }
+    {
+        match self.channels.find(channel) {
+            Some(held) => held.members.is_op(nick),
+            None => false,
+        }
+    }
+
+    /// The members of a channel in the order in which they came; nobody where the bot isn't on the channel.
+    ///
+    /// # Errors
+    /// `NoMemory` where room for the copies is refused.
+    pub fn members(&self, alloc: Global, channel: &[u8]) -> Result<Members, NoMemory>
+        ensures { IfOk result (λ m. m ≡ members_in channel.now self.now) }
+    {
+        match self.channels.find(channel) {
+            Some(held) => held.members.copy(alloc),
+            None => Ok(Members::new(alloc)),
+        }
+    }
+
+    /// The channels that the bot is on together with this nick, as it spells them, in the order in which it joined them.
+    ///
+    /// # Errors
+    /// `NoMemory` where room for the names is refused.
+    pub fn channels_of(&self, alloc: Global, nick: &[u8]) -> Result<Texts, NoMemory>
+        ensures { IfOk result (λ names. names ≡ channels_with nick.now self.now) }
+    {
+        let names = self.channels.names_with(alloc, nick)?;
+        Ok(Texts::new(names))
+    }
+
+    /// An equal state of its own.
+    ///
+    /// # Errors
+    /// `NoMemory` where room for the copies is refused.
+    pub fn copy(&self, alloc: Global) -> Result<ChanState, NoMemory>
+        ensures { IfOk result (λ s. s ≡ self.now) }
+    {
+        Ok(ChanState {
+            nick: self.nick.copy(alloc)?,
+            channels: self.channels.copy(alloc)?,
+        })
+    }
+
+    /// Takes a message in.
+    ///
+    /// # Errors
+    /// `NoMemory` where room is refused; the state is then as before.
+    pub fn apply(&mut self, alloc: Global, message: &Message) -> Result<(), NoMemory>
+        ensures { MatchResult result (λ _. self.new ≡ after message.now self.old) (λ _. self.new ≡ self.old) }
+    {
+        match change_of(message) {
+            Change::Nothing => Ok(()),
+            Change::Welcome(nick) => self.welcome(alloc, nick),
+            Change::Join {
+                nick,
+                user,
+                host,
+                list,
+            } => self.join_all(alloc, nick, user, host, list),
+            Change::Part { nick, list } => self.leave_all(alloc, nick, list),
+            Change::Kick { channel, target } => {
+                self.leave(target, channel);
+                Ok(())
+            }
+            Change::Quit(nick) => {
+                self.depart(nick);
+                Ok(())
+            }
+            Change::Nick { old, new } => self.rename(alloc, old, new),
+            Change::Mode {
+                channel,
+                modes,
+                arguments,
+            } => self.mode(alloc, channel, modes, arguments),
+            Change::Topic { channel, topic } => self.set_topic(alloc, channel, topic),
+            Change::Names { channel, names } => self.list(alloc, channel, names),
+            Change::Address {
+                channel,
+                user,
+                host,
+                nick,
+            } => self.address(alloc, channel, user, host, nick),
+        }
+    }
+}

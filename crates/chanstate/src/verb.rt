@@ -1,0 +1,62 @@
+// The command of a message, as far as channels are concerned.
+ghost use Rattle.std.specs.Prelude.{◌≡◌, nat_eq};
+ghost use Rattle.std.specs.Cmp.Lexicographic.{pointwise};
+ghost use Rattle.chanstate.specs.Items.{verb_of, is_command};
+
+/// A command that may change the state of channels, and any other.
+#[derive(Clone, Copy)]
+pub enum Verb {
+    Welcome,
+    Join,
+    Part,
+    Kick,
+    Quit,
+    Nick,
+    Mode,
+    Topic,
+    TopicIs,
+    NoTopic,
+    Names,
+    Who,
+    Other,
+}
+
+/// Whether a command is this one.
+pub fn is(command: &[u8], name: &[u8]) -> bool
+    ensures { result ≡ is_command command.now name.now }
+{
+    command == name
+}
+
+/// The command by its name (RFC 2812 sections 3.1, 3.2 and 5.1).
+pub fn read_verb(command: &[u8]) -> Verb
+    ensures { result ≡ verb_of command.now }
+{
+    if is(command, b"001") {
+        Verb::Welcome
+    } else if is(command, b"JOIN") {
+        Verb::Join
+    } else if is(command, b"PART") {
+        Verb::Part
+    } else if is(command, b"KICK") {
+        Verb::Kick
+    } else if is(command, b"QUIT") {
+        Verb::Quit
+    } else if is(command, b"NICK") {
+        Verb::Nick
+    } else if is(command, b"MODE") {
+        Verb::Mode
+    } else if is(command, b"TOPIC") {
+        Verb::Topic
+    } else if is(command, b"332") {
+        Verb::TopicIs
+    } else if is(command, b"331") {
+        Verb::NoTopic
+    } else if is(command, b"353") {
+        Verb::Names
+    } else if is(command, b"352") {
+        Verb::Who
+    } else {
+        Verb::Other
+    }
+}

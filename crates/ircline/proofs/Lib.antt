@@ -1,0 +1,9 @@
+pub mod Places
+pub mod Params
+pub mod Streams
+pub mod Texts
+pub mod Grammars
+pub mod Messages
+pub mod Printings
+pub mod Nameless
+pub mod Splittings

@@ -1,0 +1,11 @@
+pub mod Words
+pub mod Source
+pub mod View
+pub mod Classes
+pub mod Grammar
+pub mod Reading
+pub mod Stream
+pub mod Printing
+pub mod Codes
+pub mod Failing
+pub mod Carrying

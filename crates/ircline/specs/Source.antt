@@ -1,0 +1,31 @@
+-- Who sent a message, by its prefix (RFC 2812 section 2.3.1: a server's name, or a nick with user and host).
+-- The bytes: 33 is '!', 46 is '.', 64 is '@'.
+use Rattle.std.specs.Prelude.{ℕ, Bool, List, [], ◌∷◌, ◌&&◌, not, if◌then◌else◌}
+use Rattle.ircline.specs.Words.{holds, before, behind}
+
+-- a prefix as its parts: none, a server's name, or a person
+pub data Origin : Type 0 where
+  Nobody : Origin
+  Server : List ℕ → Origin
+  Person : List ℕ → List ℕ → List ℕ → Origin
+
+-- what stands before the first '!', or where there is none before the first '@'
+abbrev pub nick_of : List ℕ → List ℕ
+nick_of prefix = if holds 33 prefix then before 33 prefix else before 64 prefix
+
+-- what stands between the first '!' and the first '@' behind it; empty without a '!'
+abbrev pub user_of : List ℕ → List ℕ
+user_of prefix = if holds 33 prefix then before 64 (behind 33 prefix) else []
+
+-- what stands behind that '@', or without a '!' behind the first '@'; empty where there is none
+abbrev pub host_of : List ℕ → List ℕ
+host_of prefix = if holds 33 prefix then behind 64 (behind 33 prefix) else behind 64 prefix
+
+-- a server has neither '!' nor '@', and a dot
+abbrev pub is_server : List ℕ → Bool
+is_server prefix = not (holds 33 prefix) && (not (holds 64 prefix) && holds 46 prefix)
+
+-- the parts of a prefix; the empty prefix is none
+abbrev pub origin_of : List ℕ → Origin
+origin_of [] = Nobody
+origin_of (b ∷ bs) = if is_server (b ∷ bs) then Server (b ∷ bs) else Person (nick_of (b ∷ bs)) (user_of (b ∷ bs)) (host_of (b ∷ bs))

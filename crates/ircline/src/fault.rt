@@ -1,0 +1,52 @@
+// What is wrong with a line, or with a message that is to be printed.
+ghost use Rattle.std.specs.Prelude.{◌≡◌, codes};
+ghost use Rattle.ircline.specs.Codes.{code_of};
+
+use thiserror::Error;
+
+/// Why a line is no message, in the order in which it is tested.
+#[derive(Clone, Copy, Debug, PartialEq, Eq, Error)]
+pub enum Fault {
+    /// More than 510 bytes stand before the line's end (RFC 2812 section 2.3: 512 with CR and LF).
+    #[error("the line is too long: send at most 510 bytes before its end")]
+    TooLong,
+    /// The line holds a NUL byte.
+    #[error("the line holds a NUL byte: leave it out")]
+    NulByte,
+    /// The line begins with a colon, and no name follows it.
+    #[error("the prefix names nobody: put a nick or a server's name behind the colon")]
+    BadPrefix,
+    /// The line has no command, or one that is neither letters nor three digits.
+    #[error("the line has no command: send letters alone or three digits")]
+    BadCommand,
+}
+
+impl Fault {
+    /// The letters of this fault: `L1`, `L4`, `L2` and `L3`, in the order of the test.
+    pub fn code(self) -> &'static str
+        ensures { result.now ≡ code_of self }
+    {
+        match self {
+            Fault::TooLong => "L1",
+            Fault::NulByte => "L4",
+            Fault::BadPrefix => "L2",
+            Fault::BadCommand => "L3",
+        }
+    }
+}
+
+/// The message's line would not read back: its prefix or command is none that a line can carry, there are more than 15
+/// parameters, one before the last is empty, begins with a colon or holds a space, a byte is NUL, CR or LF, or the
+/// line would have more than 510 bytes before its end.
+#[derive(Clone, Copy, Debug, PartialEq, Eq, Error)]
+#[error("no line can carry this message: mend its parts, or make them shorter")]
+pub struct NotPrintable;
+
+impl NotPrintable {
+    /// The letters of this fault: `L5`.
+    pub fn code(self) -> &'static str
+        ensures { result.now ≡ codes "L5" }
+    {
+        "L5"
+    }
+}

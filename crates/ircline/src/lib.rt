@@ -1,0 +1,50 @@
+//! IRC lines: a stream of bytes to messages, and messages to lines (RFC 2812 sections 2.3 and 2.3.1).
+//!
+//! A [`LineReader`] is fed the pieces of a stream, cut anywhere, and answers each line once, in order, when its end has
+//! come: a [`Message`], or the first [`Fault`] that keeps it from being one. [`read_line`] reads one line, [`print`]
+//! writes the canonical line of a message or says that no line could carry it, and [`source`] splits a prefix.
+//!
+//! Beyond the RFC, CR alone and LF alone end a line, empty lines are skipped, there may be several spaces between words
+//! and before the first, and a line of more than 510 bytes is dropped whole without being kept.
+//!
+//! ```text
+//! let mut reader = LineReader::new(alloc);
+//! reader.feed(alloc, b":ann!a@host PRIV")?;              // no line yet
+//! reader.feed(alloc, b"MSG #egg :hi there\r")?;          // PRIVMSG, with the parameters #egg and "hi there"
+//! reader.feed(alloc, b"\nQUIT")?;                        // the LF ends nothing more
+//! reader.finish(alloc)?;                                 // QUIT
+//! ```
+//!
+//! What a line reads as is `line_of` in `specs/Reading.antt`; that this is the RFC's grammar, `specs/Grammar.antt`, is
+//! the law [`reading_is_the_grammar`]. What the lines of a stream are is `specs/Stream.antt`, with the law
+//! [`runs_are_the_longest`].
+#![tactic(auto)]
+
+mod classes;
+mod fault;
+mod laws;
+mod line;
+mod message;
+mod pieces;
+mod prefix;
+mod print_error;
+mod printer;
+mod read;
+mod reader;
+mod sender;
+mod words;
+
+pub use crate::fault::{Fault, NotPrintable};
+pub use crate::laws::{reading_is_the_grammar, runs_are_the_longest};
+pub use crate::line::Line;
+pub use crate::message::Message;
+pub use crate::pieces::read_pieces;
+pub use crate::prefix::source;
+pub use crate::print_error::PrintError;
+pub use crate::printer::print;
+pub use crate::read::read_line;
+pub use crate::reader::LineReader;
+pub use crate::sender::Source;
+
+#[cfg(test)]
+mod tests;

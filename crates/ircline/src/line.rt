@@ -1,0 +1,31 @@
+// What one line reads as.
+ghost use Rattle.std.specs.Prelude.{◌≡◌, IfOk};
+
+use crate::fault::Fault;
+use crate::message::Message;
+use bytetext::NoMemory;
+use std::alloc::Global;
+
+/// One line of a stream.
+#[derive(Debug, Drop)]
+pub enum Line {
+    /// A message.
+    Message(Message),
+    /// No message, for the first fault that it has. The line is dropped.
+    Bad(Fault),
+}
+
+impl Line {
+    /// An equal line of its own.
+    ///
+    /// # Errors
+    /// `NoMemory` where room for the copy is refused.
+    pub fn copy(&self, alloc: Global) -> Result<Line, NoMemory>
+        ensures { IfOk result (λ l. l ≡ self.now) }
+    {
+        match self {
+            Line::Message(message) => Ok(Line::Message(message.copy(alloc)?)),
+            Line::Bad(fault) => Ok(Line::Bad(*fault)),
+        }
+    }
+}

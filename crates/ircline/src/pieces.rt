@@ -1,0 +1,39 @@
+// A whole stream, from the pieces that it came in.
+ghost use Rattle.std.specs.Prelude.{◌≡◌, ◌++◌, List, ℕ, IfOk};
+ghost use Rattle.std.specs.List.{flat_map};
+ghost use Rattle.std.specs.Option.{option_to_list};
+ghost use Rattle.ircline.specs.Stream.{lines_of, begun, last_line};
+
+use crate::line::Line;
+use crate::reader::LineReader;
+use bytetext::{NoMemory, Text};
+use std::alloc::Global;
+
+/// The lines of a stream that came in these pieces, in order, and last the line that only the stream's end ends. They
+/// are the same however the stream was cut.
+///
+/// # Errors
+/// `NoMemory` where room for the lines is refused.
+pub fn read_pieces(alloc: Global, pieces: &[Text]) -> Result<Vec<Line>, NoMemory>
+    ensures { IfOk result (λ lines. let stream = flat_map (λ (piece : List ℕ). piece) pieces.now in
+        lines.items ≡ lines_of stream ++ option_to_list (last_line (begun stream))) }
+{
+    let mut reader = LineReader::new(alloc);
+    let mut lines = Vec::new(alloc);
+    for piece in pieces {
+        let mut ended = reader.feed(alloc, piece.as_bytes())?;
+        lines.append(&mut ended)?;
+    }
+    let last = reader.finish(alloc)?;
+    push_last(&mut lines, last)?;
+    Ok(lines)
+}
+
+fn push_last(lines: &mut Vec<Line>, last: Option<Line>) -> Result<(), NoMemory>
+    ensures { IfOk result (λ _. lines.new.items ≡ lines.old.items ++ option_to_list last) }
+{
+    if let Some(line) = last {
+        lines.push(line)?;
+    }
+    Ok(())
+}

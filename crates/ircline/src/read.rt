@@ -1,0 +1,154 @@
+// One line to a message.
+ghost use Rattle.std.specs.Prelude.{◌≡◌, ◌++◌, true, false, map, IfOk, OnErr, MatchOption};
+ghost use Rattle.bstr.specs.Find.{IsFirstByte};
+ghost use Rattle.ircline.specs.Words.{up_to};
+ghost use Rattle.ircline.specs.Classes.{is_end, upper};
+ghost use Rattle.ircline.specs.Reading.{flush, tail_of, prefix_at, after_prefix, is_nameless, last_param, is_last, params_of, line_at, line_of, TakesMemory};
+
+use crate::classes::is_command;
+use crate::fault::Fault;
+use crate::line::Line;
+use crate::message::Message;
+use crate::prefix::nick;
+use crate::words::parted;
+use bstr::ByteSlice;
+use bytetext::{NoMemory, Text, Texts};
+use std::alloc::Global;
+
+/// The most bytes that a line may have before its end.
+pub const LIMIT: usize = 510;
+
+// How many parameters end at a space: what stands behind them is the fifteenth.
+const MIDDLES: usize = 14;
+
+/// What one line reads as: the bytes before the first CR or LF, or without these all of them. An empty line is
+/// [`Fault::BadCommand`].
+///
+/// # Errors
+/// `NoMemory` where room for the message is refused.
+pub fn read_line(alloc: Global, bytes: &[u8]) -> Result<Line, NoMemory>
+    ensures line { IfOk result (λ line. line ≡ line_of (up_to is_end bytes.now)) }
+    // A fault takes no memory.
+    ensures memory { OnErr result (TakesMemory (line_of (up_to is_end bytes.now))) }
+{
+    let (run, _) = parted(bytes, first_end(bytes));
+    read_run(alloc, run)
+}
+
+/// Where the first CR or LF stands.
+pub fn first_end(bytes: &[u8]) -> Option<usize>
+    ensures { IsFirstByte is_end bytes.now result }
+{
+    bytes.find_byteset(b"\r\n")
+}
+
+/// What a run of bytes without CR and LF reads as.
+pub fn read_run(alloc: Global, run: &[u8]) -> Result<Line, NoMemory>
+    ensures line { IfOk result (λ line. line ≡ line_of run.now) }
+    ensures memory { OnErr result (TakesMemory (line_of run.now)) }
+{
+    if run.len() > LIMIT {
+        return Ok(Line::Bad(Fault::TooLong));
+    }
+    if run.contains(&0) {
+        return Ok(Line::Bad(Fault::NulByte));
+    }
+    read_words(alloc, without_spaces(run))
+}
+
+// What a line reads as that begins with no space, and has no NUL byte.
+fn read_words(alloc: Global, text: &[u8]) -> Result<Line, NoMemory>
+    ensures line { IfOk result (λ line. line ≡ line_at text.now) }
+    ensures memory { OnErr result (TakesMemory (line_at text.now)) }
+{
+    let Some((prefix, words)) = prefix_of(text) else {
+        return Ok(Line::Bad(Fault::BadPrefix));
+    };
+    let (command, tail) = parted(words, words.find_byte(b' '));
+    if !is_command(command) {
+        return Ok(Line::Bad(Fault::BadCommand));
+    }
+    Ok(Line::Message(Message {
+        prefix: Text::from_slice(alloc, prefix)?,
+        command: upper_case(alloc, command)?,
+        params: params_of(alloc, tail)?,
+        rest: Text::from_slice(alloc, without_spaces(tail))?,
+    }))
+}
+
+// The text without the spaces at its front.
+fn without_spaces(text: &[u8]) -> &[u8]
+    ensures { result.now ≡ flush text.now }
+{
+    let mut rest = text;
+    while let [b' ', behind @ ..] = rest {
+        rest = behind;
+    }
+    rest
+}
+
+// The prefix, empty where there is none, and the words behind it; `None` where it names nobody.
+fn prefix_of(text: &[u8]) -> Option<(&[u8], &[u8])>
+    ensures { MatchOption result (is_nameless text.now ≡ true) (λ parts. (is_nameless text.now ≡ false)
+        × (parts.0.now ≡ prefix_at text.now) × (parts.1.now ≡ after_prefix text.now)) }
+{
+    match text {
+        [b':', behind @ ..] => {
+            let (prefix, tail) = parted(behind, behind.find_byte(b' '));
+            if nick(prefix).is_empty() {
+                None
+            } else {
+                Some((prefix, without_spaces(tail)))
+            }
+        }
+        _ => Some((b"", text)),
+    }
+}
+
+// The command in upper case.
+fn upper_case(alloc: Global, command: &[u8]) -> Result<Text, NoMemory>
+    ensures { IfOk result (λ t. t ≡ map upper command.now) }
+{
+    let mut bytes = Vec::with_capacity(alloc, command.len())?;
+    for byte in command {
+        bytes.push(byte.to_ascii_uppercase())?;
+    }
+    Ok(Text::new(bytes))
+}
+
+// The parameters behind a command.
+fn params_of(alloc: Global, tail: &[u8]) -> Result<Texts, NoMemory>
+    ensures { IfOk result (λ params. params ≡ params_of tail.now) }
+{
+    let (mut params, last) = middles_of(alloc, tail)?;
+    match last {
+        [] => {}
+        [b':', param @ ..] => params.push(Text::from_slice(alloc, param)?)?,
+        param => params.push(Text::from_slice(alloc, param)?)?,
+    }
+    Ok(Texts::new(params))
+}
+
+// The parameters that end at a space, and the text of the last one, empty where there is no further one.
+fn middles_of(alloc: Global, tail: &[u8]) -> Result<(Vec<Text>, &[u8]), NoMemory>
+    ensures { IfOk result (λ parts. parts.0.items ++ last_param parts.1.now ≡ params_of tail.now) }
+{
+    let mut params = Vec::new(alloc);
+    let mut text = without_spaces(tail);
+    for _ in 0..MIDDLES {
+        if is_last(text) {
+            break;
+        }
+        let (param, behind) = parted(text, text.find_byte(b' '));
+        params.push(Text::from_slice(alloc, param)?)?;
+        text = without_spaces(behind);
+    }
+    Ok((params, text))
+}
+
+// Whether the text is the last parameter, or none.
+fn is_last(text: &[u8]) -> bool
+    ensures { result ≡ is_last text.now }
+{
+    matches!(text, [] | [b':', ..])
+}

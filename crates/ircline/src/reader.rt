@@ -1,0 +1,162 @@
+// A stream of bytes to lines, in whatever pieces it comes.
+ghost use Rattle.std.specs.Prelude.{◌≡◌, ℕ, List, [], ◌++◌, map, take, drop, length, ◌≤◌, IfOk, OnErr};
+ghost use Rattle.ircline.specs.Reading.{line_of};
+ghost use Rattle.ircline.specs.Stream.{with_run, runs_from, rest_from, lines_of, begun, held_of, last_line};
+
+use crate::line::Line;
+use crate::read::{LIMIT, first_end, read_run};
+use crate::words::parted;
+use bytetext::NoMemory;
+use std::alloc::Global;
+use std::marker::Model;
+
+/// The lines of a stream, which is fed in pieces. CR alone and LF alone end a line, and empty lines are skipped.
+///
+/// Contracts see the bytes of the run that is begun and not ended: the first 511 of them, since a run of more than 510
+/// bytes is one bad line whatever it holds, and no more is kept.
+///
+/// ```text
+/// let mut reader = LineReader::new(alloc);
+/// for line in reader.feed(alloc, b"PING :irc.test\r\nPRIV")? { .. }
+/// ```
+#[derive(Debug, Drop)]
+pub struct LineReader {
+    held: Vec<u8>,
+}
+
+impl Model for LineReader {
+    ghost use Rattle.std.specs.Prelude.{List, ℕ, length, ◌≤◌};
+
+    ghost Value = { List ℕ };
+
+    ghost view = { λ r. r.held.items };
+
+    ghost invariant = { λ r. length r.held.items ≤ 511 };
+}
+
+impl LineReader {
+    /// A reader at the begin of a stream. Takes no memory.
+    pub fn new(alloc: Global) -> LineReader
+        ensures { result ≡ [] }
+    {
+        LineReader {
+            held: Vec::new(alloc),
+        }
+    }
+
+    /// The lines that this piece of the stream ends, in order.
+    ///
+    /// # Errors
+    /// `NoMemory` where room for the lines is refused. The reader is as before, and the piece can be fed again.
+    pub fn feed(&mut self, alloc: Global, piece: &[u8]) -> Result<Vec<Line>, NoMemory>
+        // Of any stream whose begun run is held, the lines go on with these.
+        ensures lines { (stream : List ℕ) → self.old ≡ held_of stream
+            → IfOk result (λ lines. lines_of (stream ++ piece.now) ≡ lines_of stream ++ lines.items) }
+        ensures held { (stream : List ℕ) → self.old ≡ held_of stream
+            → IfOk result (λ _. self.new ≡ held_of (stream ++ piece.now)) }
+        ensures few { length self.new ≤ 511 }
+        ensures err { OnErr result (self.new ≡ self.old) }
+    {
+        let (front, rest) = parted(piece, first_end(piece));
+        let run = joined(alloc, self.held.as_slice(), front)?;
+        let mut lines = Vec::new(alloc);
+        if rest.is_empty() {
+            self.held = run;
+            return Ok(lines);
+        }
+        push_line(alloc, &mut lines, run.as_slice())?;
+        let tail = push_lines(alloc, &mut lines, rest)?;
+        self.held = joined(alloc, tail, b"")?;
+        Ok(lines)
+    }
+
+    /// The line that the stream's end ends, if there is one. The reader is then at the begin of a stream.
+    ///
+    /// # Errors
+    /// `NoMemory` where room for the line is refused. The reader is as before.
+    pub fn finish(&mut self, alloc: Global) -> Result<Option<Line>, NoMemory>
+        ensures line { (stream : List ℕ) → self.old ≡ held_of stream
+            → IfOk result (λ line. line ≡ last_line (begun stream)) }
+        ensures empty { IfOk result (λ _. self.new ≡ []) }
+        ensures err { OnErr result (self.new ≡ self.old) }
+    {
+        let line = last_line(alloc, self.held.as_slice())?;
+        self.held.clear();
+        Ok(line)
+    }
+
+    /// An equal reader of its own.
+    ///
+    /// # Errors
+    /// `NoMemory` where room for the copy is refused.
+    pub fn copy(&self, alloc: Global) -> Result<LineReader, NoMemory>
+        ensures { IfOk result (λ r. r ≡ self.now) }
+    {
+        let held = Vec::from_slice(alloc, self.held.as_slice())?;
+        Ok(LineReader { held })
+    }
+}
+
+// The bytes of both, of which no more than show that a run is too long.
+fn joined(alloc: Global, front: &[u8], back: &[u8]) -> Result<Vec<u8>, NoMemory>
+    ensures run { IfOk result (λ run. run.items ≡ take 511 (front.now ++ back.now)) }
+    ensures few { IfOk result (λ run. length run.items ≤ 511) }
+{
+    let front = first_bytes(front, LIMIT + 1);
+    let mut run = Vec::from_slice(alloc, front)?;
+    run.extend_from_slice(first_bytes(back, LIMIT + 1 - front.len()))?;
+    Ok(run)
+}
+
+// No more than so many of the first bytes.
+fn first_bytes(bytes: &[u8], most: usize) -> &[u8]
+    ensures bytes { result.now ≡ take most bytes.now }
+    ensures few { length result.now ≤ most }
+{
+    if bytes.len() <= most {
+        bytes
+    } else {
+        &bytes[..most]
+    }
+}
+
+// What the last run reads as, if it isn't empty.
+fn last_line(alloc: Global, run: &[u8]) -> Result<Option<Line>, NoMemory>
+    ensures { IfOk result (λ line. line ≡ last_line run.now) }
+{
+    if run.is_empty() {
+        return Ok(None);
+    }
+    Ok(Some(read_run(alloc, run)?))
+}
+
+// Puts what the run reads as behind the lines, if it isn't empty.
+fn push_line(alloc: Global, lines: &mut Vec<Line>, run: &[u8]) -> Result<(), NoMemory>
+    ensures { IfOk result (λ _. lines.new.items ≡ lines.old.items ++ map line_of (with_run run.now [])) }
+{
+    if !run.is_empty() {
+        lines.push(read_run(alloc, run)?)?;
+    }
+    Ok(())
+}
+
+// Puts the lines of the text behind the others, and gives the run behind its last end. The text is empty, or begins
+// with an end.
+fn push_lines<'a>(
+    alloc: Global,
+    lines: &mut Vec<Line>,
+    text: &'a [u8],
+) -> Result<&'a [u8], NoMemory>
+    ensures lines { IfOk result (λ _. lines.new.items ≡ lines.old.items ++ lines_of text.now) }
+    ensures rest { IfOk result (λ rest. rest.now ≡ begun text.now) }
+{
+    let mut text = text;
+    loop {
+        let (run, rest) = parted(text, first_end(text));
+        let [_, behind @ ..] = rest else {
+            return Ok(run);
+        };
+        push_line(alloc, lines, run)?;
+        text = behind;
+    }
+}

@@ -1,0 +1,27 @@
+//! The lines that wait to be sent to an IRC server, and when each may go.
+//!
+//! A server drops a client that floods it. RFC 1459 section 8.10 says how it counts: a timer that is never behind the
+//! clock grows by two seconds with each line, and lines are read while it is less than ten seconds ahead. [`Queues`]
+//! keeps the same timer and lets a line go only while the server would read it: five at once, then one each two seconds.
+//!
+//! There are three queues of at most 500 lines. A lower one is served only while the higher ones are empty.
+//!
+//! ```text
+//! let mut queues = Queues::new(alloc);
+//! queues.put(Queue::Help, Text::from_slice(alloc, b"PRIVMSG #egg :hi")?)?;
+//! queues.put(Queue::Mode, Text::from_slice(alloc, b"PONG irc.test")?)?;
+//! queues.take(100)    // PONG irc.test
+//! queues.take(100)    // PRIVMSG #egg :hi
+//! ```
+#![tactic(auto)]
+
+mod error;
+mod pacing;
+mod queues;
+
+pub use crate::error::{PutError, QueueFault};
+pub use crate::pacing::over_moments;
+pub use crate::queues::{Queue, Queues, Which};
+
+#[cfg(test)]
+mod tests;

@@ -1,0 +1,112 @@
+-- The text of a transcript, line by line.
+use Rattle.std.specs.Prelude.{ℕ, zero, suc, ◌+◌, List, [], ◌∷◌, ◌++◌, length, Option, None, Some, codes, decimal}
+use Rattle.std.specs.List.{flat_map}
+use Rattle.flagexpr.specs.Letters.{spelling}
+use Rattle.userfile.specs.Records.{Records}
+use Rattle.userfile.specs.Codes.{fault_code}
+use Rattle.userfile.specs.declared.user.User.{User}
+use Rattle.userfile.specs.declared.channel_flags.ChannelFlags.{ChannelFlags}
+use Rattle.userfile.specs.declared.ban.Ban.{Ban}
+use Rattle.sharelink.specs.declared.error.LinkFault.{LinkFault}
+use Rattle.sharelink.specs.declared.error.LinkFault.TheVariants.{BadChange, AsksFull, Diverged, NumbersSpent}
+use Rattle.sharelink.specs.declared.answer.Note.{Note}
+use Rattle.sharelink.specs.declared.answer.Note.TheVariants.{Queued, Idle, Accepted, Refused, Served, Old, Early, Applied, Stray}
+use Rattle.sharelink.specs.declared.packet.Packet.{Packet}
+use Rattle.sharelink.specs.declared.packet.Packet.TheVariants.{Hello, Change as change_packet}
+use Rattle.botworld.specs.declared.sent.Sent.{Sent}
+use Rattle.botworld.specs.declared.outcome.End.{End}
+use Rattle.botworld.specs.declared.outcome.End.TheVariants.{Note as ended, Refused as ended_refused, NoMemory as ended_no_memory}
+use Rattle.botworld.specs.declared.outcome.Outcome.{Outcome}
+use Rattle.botworld.specs.declared.outcome.Outcome.TheVariants.{Report as reported, NoSuchBot, NoSuchPacket}
+use Rattle.botworld.specs.Net.{packet_at}
+
+-- the letters of a refusal
+abbrev pub link_code : LinkFault → List ℕ
+link_code (BadChange fault) = fault_code fault
+link_code AsksFull = codes "S1"
+link_code Diverged = codes "S3"
+link_code NumbersSpent = codes "S4"
+
+-- a note, and its number or letters where it has one
+abbrev pub note_text : Note → List ℕ
+note_text Queued = codes "Queued"
+note_text Idle = codes "Idle"
+note_text (Accepted number) = codes "Accepted " ++ decimal number
+note_text (Refused fault) = codes "Refused " ++ fault_code fault
+note_text (Served count) = codes "Served " ++ decimal count
+note_text Old = codes "Old"
+note_text Early = codes "Early"
+note_text (Applied number) = codes "Applied " ++ decimal number
+note_text Stray = codes "Stray"
+
+-- B NOTE, or B refused CODE; a step that wants memory has no line
+abbrev pub end_line : ℕ → End → List ℕ
+end_line bot (ended note) = decimal bot ++ codes " " ++ note_text note ++ 10 ∷ []
+end_line bot (ended_refused fault) = decimal bot ++ codes " refused " ++ link_code fault ++ 10 ∷ []
+end_line bot ended_no_memory = []
+
+-- KIND DETAIL
+abbrev pub packet_text : Packet → List ℕ
+packet_text (Hello leaf version) = codes "Hello " ++ decimal version
+packet_text (change_packet number origin request change) = codes "Change " ++ decimal number
+
+-- send K A>B KIND DETAIL
+abbrev pub sent_line : ℕ → Sent → List ℕ
+sent_line number sent = codes "send " ++ decimal number ++ codes " " ++ decimal sent.from ++ codes ">" ++ decimal sent.to ++ codes " " ++ packet_text sent.packet ++ 10 ∷ []
+
+abbrev pub found_line : ℕ → Option Sent → List ℕ
+found_line number None = []
+found_line number (Some sent) = sent_line number sent
+
+-- the packets from this number on, so many of them, in order
+abbrev pub sent_lines : List Sent → ℕ → ℕ → List ℕ
+sent_lines packets number zero = []
+sent_lines packets number (suc count) = found_line number (packet_at packets number) ++ sent_lines packets (number + 1) count
+
+-- a step's packets and how it ended, with all packets sent so far
+abbrev pub outcome_text : List Sent → Outcome → List ℕ
+outcome_text packets (reported report) = sent_lines packets report.first report.count ++ end_line report.bot report.end
+outcome_text packets NoSuchBot = codes "world O2" ++ 10 ∷ []
+outcome_text packets NoSuchPacket = codes "world O3" ++ 10 ∷ []
+
+-- B user H G F
+abbrev pub user_line : ℕ → User → List ℕ
+user_line bot user = decimal bot ++ codes " user " ++ user.handle ++ codes " " ++ spelling user.global ++ codes " " ++ spelling user.bot ++ 10 ∷ []
+
+-- B host H M
+abbrev pub host_line : ℕ → List ℕ → List ℕ → List ℕ
+host_line bot handle mask = decimal bot ++ codes " host " ++ handle ++ codes " " ++ mask ++ 10 ∷ []
+
+-- B chan H C F
+abbrev pub chan_line : ℕ → List ℕ → ChannelFlags → List ℕ
+chan_line bot handle entry = decimal bot ++ codes " chan " ++ handle ++ codes " " ++ entry.channel ++ codes " " ++ spelling entry.flags ++ 10 ∷ []
+
+-- a user, then the hostmasks and then the flags on channels, each in order
+abbrev pub user_lines : ℕ → User → List ℕ
+user_lines bot user = user_line bot user ++ flat_map (host_line bot user.handle) user.masks ++ flat_map (chan_line bot user.handle) user.channels
+
+-- * for a ban of all channels
+abbrev pub channel_text : List ℕ → List ℕ
+channel_text [] = codes "*"
+channel_text (b ∷ bs) = b ∷ bs
+
+-- a comment and the space before it
+abbrev pub comment_text : List ℕ → List ℕ
+comment_text [] = []
+comment_text (b ∷ bs) = codes " " ++ b ∷ bs
+
+-- B ban C M H E COMMENT
+abbrev pub ban_line : ℕ → Ban → List ℕ
+ban_line bot ban =
+    decimal bot ++ codes " ban " ++ channel_text ban.channel ++ codes " " ++ ban.mask ++ codes " " ++ ban.creator ++ codes " " ++ decimal ban.expires ++ comment_text ban.comment ++ 10 ∷ []
+
+-- B version V users U bans N
+abbrev pub version_line : ℕ → ℕ → ℕ → ℕ → List ℕ
+version_line bot version users bans = decimal bot ++ codes " version " ++ decimal version ++ codes " users " ++ decimal users ++ codes " bans " ++ decimal bans ++ 10 ∷ []
+
+-- a bot's version and records, or that there is no such bot
+abbrev pub shown_text : ℕ → Option ℕ → Option Records → List ℕ
+shown_text bot (Some version) (Some records) =
+    version_line bot version (length records.users) (length records.bans) ++ flat_map (user_lines bot) records.users ++ flat_map (ban_line bot) records.bans
+shown_text bot (Some version) None = codes "world O2" ++ 10 ∷ []
+shown_text bot None records = codes "world O2" ++ 10 ∷ []

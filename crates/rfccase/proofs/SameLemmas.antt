@@ -1,0 +1,42 @@
+-- Texts that are the same by casemapping, and folded texts as keys: for callers.
+use Rattle.std.proofs.Common.{◌≡◌, ◌≢◌, ◌↔◌, ℕ, ◌<◌, ◌++◌, true, List, [], ◌∷◌, length, nat_eq, get_or, refl, sym, ◌∙◌, ap, arith}
+use Rattle.std.proofs.lemmas.Bool.Decides.{nat_tests}
+use Rattle.std.proofs.lemmas.List.{get_or-map, length-map, map-append}
+use Rattle.std.specs.Cmp.Lexicographic.{pointwise, bytes_decides}
+use Rattle.rfccase.specs.Casemapping.{low, folded, IsSame}
+
+-- ---- being the same is an equivalence
+
+pub IsSame-refl : (a : List ℕ) → IsSame a a
+IsSame-refl a = refl
+
+pub IsSame-sym : (a b : List ℕ) → IsSame a b → IsSame b a
+IsSame-sym a b h = sym h
+
+pub IsSame-trans : (a b c : List ℕ) → IsSame a b → IsSame b c → IsSame a c
+IsSame-trans a b c h k = h ∙ k
+
+-- ---- folded texts
+
+pub length-folded : (text : List ℕ) → length (folded text) ≡ length text
+length-folded text = length-map text low
+
+pub folded-append : (a b : List ℕ) → folded (a ++ b) ≡ folded a ++ folded b
+folded-append a b = map-append low a b
+
+-- a lower case is its own
+pub low-low : (b : ℕ) → low (low b) ≡ low b
+low-low b = grind (arith, nat_tests)
+
+pub folded-folded : (text : List ℕ) → folded (folded text) ≡ folded text
+folded-folded [] = refl
+folded-folded (b ∷ text) = cc (low-low b, folded-folded text)
+
+-- two keys are equal exactly where their texts are the same
+pub equal_keys : (a b : List ℕ) → (pointwise nat_eq (folded a) (folded b) ≡ true) ↔ IsSame a b
+equal_keys a b = bytes_decides (folded a) (folded b)
+
+-- texts whose bytes differ at an index are not the same
+pub differ_at : (a b : List ℕ) (i : ℕ) → i < length a → i < length b → low (get_or a i 0) ≢ low (get_or b i 0) → IsSame a b → ⊥
+differ_at a b i ha hb ne same =
+    ne (sym (get_or-map low a i 0 0 ha) ∙ ap (λ (xs : List ℕ). get_or xs i 0) same ∙ get_or-map low b i 0 0 hb)

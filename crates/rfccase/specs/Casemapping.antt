@@ -1,0 +1,14 @@
+-- Which bytes are the lower case of which, and which texts are the same (RFC 2812 section 2.2).
+use Rattle.std.specs.Prelude.{◌≡◌, ℕ, ◌+◌, ◌==◌, ◌&&◌, nat_le, if◌then◌else◌, List, map}
+
+-- the lower case of a byte: A to Z and [ \ ] lie 32 below theirs, ~ has ^, and any other byte has itself
+abbrev pub low : ℕ → ℕ
+low b = if nat_le 65 b && nat_le b 93 then b + 32 else (if b == 126 then 94 else b)
+
+-- the lower case of each byte of a text
+abbrev pub folded : List ℕ → List ℕ
+folded text = map low text
+
+-- two texts are the same where the lists of their lower cases are equal
+abbrev pub IsSame : List ℕ → List ℕ → Type 0
+IsSame a b = folded a ≡ folded b

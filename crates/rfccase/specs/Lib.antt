@@ -1,0 +1,2 @@
+pub mod Casemapping
+pub mod Table

@@ -1,0 +1,54 @@
+// The lower case of a byte and of a text.
+ghost use Rattle.std.specs.Prelude.{◌≡◌, ◌↔◌, IsTrue, IfOk, slice_index};
+ghost use Rattle.rfccase.specs.Casemapping.{low, folded, IsSame};
+ghost use Rattle.rfccase.specs.Table.{lower_cases};
+
+use bytetext::NoMemory;
+use std::alloc::Global;
+
+/// The lower case of a byte, or the byte itself where it has none (RFC 2812 section 2.2).
+pub fn fold(byte: u8) -> u8
+    ensures lower { result ≡ low byte }
+    ensures table { result ≡ slice_index lower_cases byte }
+{
+    match byte {
+        b'A'..=b']' => byte + 32,
+        b'~' => b'^',
+        _ => byte,
+    }
+}
+
+/// Whether two texts are the same but for the case of their bytes.
+pub fn same(a: &[u8], b: &[u8]) -> bool
+    ensures { IsTrue result ↔ IsSame a.now b.now }
+{
+    if a.len() != b.len() {
+        return false;
+    }
+    for (i, byte) in a.iter().enumerate() {
+        if fold(*byte) != fold(b[i]) {
+            return false;
+        }
+    }
+    true
+}
+
+/// Puts the lower case of each byte in its place.
+pub fn fold_slice(text: &mut [u8])
+    ensures { text.new ≡ folded text.old }
+{
+    for byte in text.iter_mut() {
+        *byte = fold(*byte);
+    }
+}
+
+/// The lower case of a text.
+///
+/// # Errors
+/// `NoMemory` where room for the copy is refused.
+pub fn fold_text(alloc: Global, text: &[u8]) -> Result<Vec<u8>, NoMemory>
+    ensures { IfOk result (λ lower. lower.items ≡ folded text.now) }
+{
+    let lower = text.iter().map(|byte| fold(*byte)).collect(alloc)?;
+    Ok(lower)
+}

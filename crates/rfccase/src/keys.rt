@@ -1,0 +1,116 @@
+// A text as a key.
+ghost use Rattle.std.specs.Prelude.{◌≡◌, ◌↔◌, ℕ, List, IsTrue, IfOk, Some, nat_eq, refl};
+ghost use Rattle.std.specs.Ordering.{nat_cmp};
+ghost use Rattle.std.specs.Hash as fed;
+ghost use Rattle.std.specs.Cmp.Lexicographic.{pointwise, slice_cmp, nat_list_eq_equiv, nat_list_cmp_total, texts_ties, texts_po};
+ghost use Rattle.std.specs.Cmp.{partial_equiv_from_equiv};
+ghost use Rattle.std.specs.Cmp.Rules.{hashing};
+ghost use Rattle.std.proofs.Common.{rules};
+ghost use Rattle.rfccase.specs.Casemapping.{folded, IsSame};
+
+use crate::folds::fold_text;
+use bytetext::NoMemory;
+use std::alloc::Global;
+use std::cmp::Ordering;
+use std::hash::{Hash, Hasher};
+use std::marker::Model;
+
+/// A text as a key of a map or a set: two keys are equal exactly where their texts are the same by [`same`].
+/// Contracts see the list of the text's lower cases, by which keys are also ordered.
+///
+/// [`same`]: crate::same
+#[derive(Debug, Drop)]
+pub struct FoldKey {
+    lower: Vec<u8>,
+}
+
+impl Model for FoldKey {
+    ghost use Rattle.std.specs.Prelude.{List, ℕ};
+
+    ghost Value = { List ℕ };
+
+    ghost view = { λ k. k.lower.items };
+}
+
+impl FoldKey {
+    /// The key of this text.
+    ///
+    /// # Errors
+    /// `NoMemory` where room for the key is refused.
+    pub fn new(alloc: Global, text: &[u8]) -> Result<FoldKey, NoMemory>
+        ensures { IfOk result (λ key. key ≡ folded text.now) }
+    {
+        let lower = fold_text(alloc, text)?;
+        Ok(FoldKey { lower })
+    }
+
+    /// The lower case of the key's text.
+    pub fn as_bytes(&self) -> &[u8]
+        ensures { result.now ≡ self.now }
+    {
+        self.lower.as_slice()
+    }
+
+    /// An equal key of its own.
+    ///
+    /// # Errors
+    /// `NoMemory` where room for the copy is refused.
+    pub fn copy(&self, alloc: Global) -> Result<FoldKey, NoMemory>
+        ensures { IfOk result (λ key. key ≡ self.now) }
+    {
+        let lower = Vec::from_slice(alloc, self.as_bytes())?;
+        Ok(FoldKey { lower })
+    }
+}
+
+impl PartialEq for FoldKey {
+    ghost eq = { pointwise nat_eq };
+
+    ghost laws = { partial_equiv_from_equiv nat_list_eq_equiv };
+
+    fn eq(&self, other: &FoldKey) -> bool
+        ensures bytes { result ≡ pointwise nat_eq self.now other.now }
+        ensures same { (a b : List ℕ) → self.now ≡ folded a → other.now ≡ folded b →
+            IsTrue result ↔ IsSame a b }
+    {
+        self.lower == other.lower
+    }
+}
+
+impl Eq for FoldKey {
+    ghost laws = { nat_list_eq_equiv };
+}
+
+impl PartialOrd for FoldKey {
+    ghost partial_cmp = { λ a b. Some (slice_cmp nat_cmp a b) };
+
+    ghost laws = { texts_po };
+
+    fn partial_cmp(&self, other: &FoldKey) -> Option<Ordering> {
+        Some(self.cmp(other))
+    }
+}
+
+impl Ord for FoldKey {
+    ghost cmp = { slice_cmp nat_cmp };
+
+    ghost total = { nat_list_cmp_total };
+
+    ghost matches_partial_cmp = { λ a b. refl };
+
+    ghost matches_eq = { texts_ties };
+
+    fn cmp(&self, other: &FoldKey) -> Ordering {
+        self.lower.cmp(&other.lower)
+    }
+}
+
+impl Hash for FoldKey {
+    ghost hash_input = { fed.slice fed.u8 };
+
+    ghost respects_eq = { Prim.search (hashing, rules) };
+
+    fn hash<H: Hasher>(&self, state: &mut H) {
+        self.lower.hash(state);
+    }
+}

@@ -1,0 +1,48 @@
+// The lower case of a short text, on the stack.
+ghost use Rattle.std.specs.Prelude.{◌≡◌, ◌<◌, MatchOption, length};
+ghost use Rattle.rfccase.specs.Casemapping.{folded};
+
+use crate::folds::fold_slice;
+use std::marker::Model;
+
+/// The lower case of a text of at most `N` bytes, held without taking memory: for a look-up among folded keys in a
+/// call that may take none. Contracts see the list of the lower cases.
+#[derive(Drop)]
+pub struct ShortFold<const N: usize> {
+    bytes: [u8; N],
+    len: usize,
+}
+
+impl<const N: usize> Model for ShortFold<N> {
+    ghost use Rattle.std.specs.Prelude.{List, ℕ, take, ◌≤◌};
+
+    ghost Value = { List ℕ };
+
+    ghost view = { λ s. take s.len s.bytes };
+
+    ghost invariant = { λ s. s.len ≤ N };
+}
+
+impl<const N: usize> ShortFold<N> {
+    /// The lower case of this text, or `None` where it has more than `N` bytes.
+    pub fn new(text: &[u8]) -> Option<ShortFold<N>>
+        ensures { MatchOption result (N < length text.now) (λ lower. lower ≡ folded text.now) }
+    {
+        let len = text.len();
+        if N < len {
+            return None;
+        }
+        let mut bytes = [0; N];
+        let room = &mut bytes[..len];
+        room.copy_from_slice(text);
+        fold_slice(room);
+        Some(ShortFold { bytes, len })
+    }
+
+    /// The lower case of the text.
+    pub fn as_bytes(&self) -> &[u8]
+        ensures { result.now ≡ self.now }
+    {
+        &self.bytes[..self.len]
+    }
+}

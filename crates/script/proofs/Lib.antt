@@ -1,0 +1,4 @@
+pub mod Values
+pub mod Rests
+pub mod Sayings
+pub mod Faults

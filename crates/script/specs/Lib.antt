@@ -1,0 +1,5 @@
+pub mod Words
+pub mod Changes
+pub mod Grammar
+pub mod Reading
+pub mod Outcomes

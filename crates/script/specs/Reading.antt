@@ -1,0 +1,58 @@
+-- What a script is, and which of its lines is the first that breaks a rule.
+use Rattle.std.specs.Prelude.{◌≡◌, ℕ, zero, suc, ◌<◌, ◌≤◌, ◌==◌, Bool, true, false, List, [], ◌∷◌, length, take, map, ◌⊎◌}
+use Rattle.std.specs.List.{slice_split}
+use Rattle.script.specs.declared.saying.Saying.{Saying}
+use Rattle.script.specs.declared.saying.Saying.TheVariants.{Nothing, Leaves, Told, Wrong}
+use Rattle.script.specs.declared.reading.Script.{Script}
+use Rattle.script.specs.Grammar.{saying_of}
+
+-- the most bytes of a script
+abbrev pub max_script : ℕ
+max_script = 1048576
+
+-- the lines, which a line feed ends or divides each: behind the last one stands an empty line
+abbrev pub lines_of : List ℕ → List (List ℕ)
+lines_of bytes = slice_split (λ b. b == 10) bytes
+
+-- what lines say, without those that say nothing
+abbrev pub onto_said : Saying → List Saying → List Saying
+onto_said Nothing rest = rest
+onto_said (Leaves n) rest = Leaves n ∷ rest
+onto_said (Told command) rest = Told command ∷ rest
+onto_said Wrong rest = Wrong ∷ rest
+
+abbrev pub said : List (List ℕ) → List Saying
+said [] = []
+said (line ∷ lines) = onto_said (saying_of line) (said lines)
+
+-- commands alone
+abbrev pub are_told : List Saying → Bool
+are_told [] = true
+are_told (Told command ∷ says) = are_told says
+are_told (Nothing ∷ says) = false
+are_told (Leaves n ∷ says) = false
+are_told (Wrong ∷ says) = false
+
+-- a script can go on from here: nothing is said yet, or the number of leaves and then commands
+abbrev pub begins_script : List Saying → Bool
+begins_script [] = true
+begins_script (Leaves n ∷ says) = are_told says
+begins_script (Nothing ∷ says) = false
+begins_script (Told command ∷ says) = false
+begins_script (Wrong ∷ says) = false
+
+-- these bytes are this script: not too many, and they say the number of leaves and then its commands
+pub record Spells (bytes : List ℕ) (script : Script) : Type 0 where
+  pub short : length bytes ≤ max_script
+  pub says : said (lines_of bytes) ≡ Leaves script.leaves ∷ map Told script.commands
+
+-- a script can go on from the lines before this place, and not from those with it
+pub record BreaksAt (lines : List (List ℕ)) (place : ℕ) : Type 0 where
+  pub within : place < length lines
+  pub before : begins_script (said (take place lines)) ≡ true
+  pub here : begins_script (said (take (suc place) lines)) ≡ false
+
+-- this line, from 1, is the first that breaks a rule; 0 where the bytes are too many, or say nothing
+abbrev pub HasFault : List ℕ → ℕ → Type 0
+HasFault bytes zero = (max_script < length bytes) ⊎ (said (lines_of bytes) ≡ [])
+HasFault bytes (suc place) = (length bytes ≤ max_script) × BreaksAt (lines_of bytes) place

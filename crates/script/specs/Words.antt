@@ -1,0 +1,35 @@
+-- Words, and the numbers that they mean.
+use Rattle.std.specs.Prelude.{ℕ, ◌+◌, ◌-◌, ◌*◌, ◌^◌, ◌==◌, ◌&&◌, not, Bool, nat_le, nat_lt, List, [], ◌∷◌, length, Option, None, Some, option_and_then, if◌then◌else◌}
+use Rattle.std.specs.List.{list_all, slice_split, join_with_byte}
+
+-- a line's words, which one space divides each: two spaces have an empty word between them
+abbrev pub words_of : List ℕ → List (List ℕ)
+words_of line = slice_split (λ b. b == 32) line
+
+-- the words from one on as a line of their own again: the rest of the line, spaces and all
+abbrev pub line_of : List (List ℕ) → List ℕ
+line_of words = join_with_byte 32 words
+
+-- a word that is missing between two spaces, or at the end
+abbrev pub is_empty : List ℕ → Bool
+is_empty word = length word == 0
+
+-- 0 to 9
+abbrev pub is_digit : ℕ → Bool
+is_digit b = nat_le 48 b && nat_le b 57
+
+-- what digits mean in base ten: each counts ten times the one behind it
+abbrev pub value_of : List ℕ → ℕ
+value_of [] = 0
+value_of (d ∷ ds) = (d - 48) * 10 ^ length ds + value_of ds
+
+-- a number is one or more digits; leading zeros count for nothing
+abbrev pub number_of : List ℕ → Option ℕ
+number_of word = if not (length word == 0) && list_all is_digit word then Some (value_of word) else None
+
+-- a number below a bound
+abbrev pub below : ℕ → ℕ → Option ℕ
+below bound n = if nat_lt n bound then Some n else None
+
+abbrev pub number_below : ℕ → List ℕ → Option ℕ
+number_below bound word = option_and_then (below bound) (number_of word)

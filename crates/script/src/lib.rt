@@ -1,0 +1,34 @@
+//! Scripts: a text of commands for a botnet, read whole before the first of them is done.
+//!
+//! A script has one command a line, and words with one space between them. Its first command is `leaves N`; then come
+//! `ask B CHANGE`, `pump B`, `deliver K` and `show B`, in any order. Empty lines and lines that begin with `#` are no
+//! commands. [`Script::read`] answers the number of leaves and the commands, or the first line that breaks a rule.
+//!
+//! A CHANGE is `adduser H`, `deluser H`, `addhost H M`, `delhost H M`, `global H F`, `bot H F`, `chan H C F`,
+//! `addban C M H E COMMENT` or `delban C M`. F is letters, or `-` for none. A ban of all channels has the channel `*`,
+//! and one that does not end the expiry E 0; its comment takes the rest of the line, spaces and all, or is left out with
+//! its space. Whether handles, masks, channels and comments have a good shape is seen when the change is asked for.
+//!
+//! ```text
+//! let script = Script::read(alloc, b"leaves 1\nask 0 adduser alice\npump 0\n")?;
+//! assert!(script.leaves == 1 && script.commands.len() == 2);
+//! ```
+#![tactic(auto)]
+
+mod asking;
+mod command;
+mod error;
+mod numeral;
+mod pieces;
+mod reading;
+mod saying;
+
+pub use crate::command::{Command, Commands};
+pub use crate::error::{ScriptError, ScriptFault};
+pub use crate::reading::Script;
+
+/// The most bytes that a script has.
+pub const MAX_SCRIPT: usize = 1_048_576;
+
+#[cfg(test)]
+mod tests;

@@ -1,0 +1,94 @@
+// A whole script.
+ghost use Rattle.std.specs.Prelude.{IfOk, map};
+ghost use Rattle.script.specs.Outcomes.{GoesOn, LinesReadAs};
+ghost use Rattle.script.specs.declared.saying.Saying.TheVariants.{Leaves, Told};
+
+use crate::MAX_SCRIPT;
+use crate::command::{Command, Commands};
+use crate::error::{ScriptError, ScriptFault};
+use crate::pieces::pieces_of;
+use crate::saying::{Saying, saying_of};
+use bytetext::NoMemory;
+use std::alloc::Global;
+
+/// A script: how many leaves the botnet has, and what is done with it.
+#[derive(Debug, Drop)]
+pub struct Script {
+    /// The number of leaves, at most 1,000.
+    pub leaves: u16,
+    /// The commands, in order.
+    pub commands: Commands,
+}
+
+impl Script {
+    ghost use Rattle.script.specs.Outcomes.{ReadsAs};
+
+    /// The script that these bytes spell.
+    ///
+    /// # Errors
+    /// `Fault` with line 0 above 1,048,576 bytes, else with the first line that breaks a rule, else with line 0 where
+    /// there is no command; `NoMemory` where room is refused.
+    pub fn read(alloc: Global, bytes: &[u8]) -> Result<Script, ScriptError>
+        ensures { ReadsAs bytes.now result }
+    {
+        if bytes.len() > MAX_SCRIPT {
+            return Err(ScriptError::Fault(ScriptFault { line: 0 }));
+        }
+        let lines = pieces_of(alloc, bytes, b'\n')?;
+        script_of(alloc, lines.as_slice())
+    }
+}
+
+// The script that these lines make.
+fn script_of(alloc: Global, lines: &[&[u8]]) -> Result<Script, ScriptError>
+    ensures { LinesReadAs (map (λ line. line.now) lines.now) result }
+{
+    let mut script = None;
+    for (place, line) in lines.iter().enumerate() {
+        let saying = saying_of(alloc, line)?;
+        if !go_on(alloc, &mut script, saying)? {
+            let line = place as u64 + 1;
+            return Err(ScriptError::Fault(ScriptFault { line }));
+        }
+    }
+    match script {
+        Some(script) => Ok(script),
+        None => Err(ScriptError::Fault(ScriptFault { line: 0 })),
+    }
+}
+
+// Adds what the next line says. False where it breaks a rule behind the lines so far.
+fn go_on(alloc: Global, script: &mut Option<Script>, saying: Saying) -> Result<bool, NoMemory>
+    ensures { IfOk result (λ good. GoesOn script.old saying good script.new) }
+{
+    match saying {
+        Saying::Nothing => Ok(true),
+        Saying::Leaves(leaves) => Ok(set_leaves(alloc, script, leaves)),
+        Saying::Told(command) => add_command(script, command),
+        Saying::Wrong => Ok(false),
+    }
+}
+
+// Begins the script with the number of leaves, which is said once.
+fn set_leaves(alloc: Global, script: &mut Option<Script>, leaves: u16) -> bool
+    ensures { GoesOn script.old (Leaves leaves) result script.new }
+{
+    if script.is_some() {
+        return false;
+    }
+    let commands = Commands::empty(alloc);
+    *script = Some(Script { leaves, commands });
+    true
+}
+
+// Adds a command, behind the number of leaves. Where room is refused the script is gone: nothing is read on.
+fn add_command(script: &mut Option<Script>, command: Command) -> Result<bool, NoMemory>
+    ensures { IfOk result (λ good. GoesOn script.old (Told command) good script.new) }
+{
+    let Some(mut begun) = script.take() else {
+        return Ok(false);
+    };
+    begun.commands.push(command)?;
+    *script = Some(begun);
+    Ok(true)
+}

@@ -1,0 +1,51 @@
+-- A leaf's side of the link, call by call.
+use Rattle.std.specs.Prelude.{◌≡◌, ℕ, ◌+◌, ◌==◌, nat_lt, nat_le, List, [], ◌∷◌, if◌then◌else◌, Option, None, Some, Result, Ok, Err}
+use Rattle.userfile.specs.Records.{Records, no_records}
+use Rattle.userfile.specs.Apply.{bad_shape, refusal, changed}
+use Rattle.userfile.specs.declared.change.Change.{Change}
+use Rattle.userfile.specs.declared.error.ChangeFault.{ChangeFault}
+use Rattle.sharelink.specs.declared.packet.Packet.{Packet}
+use Rattle.sharelink.specs.declared.packet.Packet.TheVariants.{Hello, Change as change_packet}
+use Rattle.sharelink.specs.declared.answer.Note.TheVariants.{Idle, Old, Early, Applied, Stray}
+use Rattle.sharelink.specs.declared.error.LinkFault.{LinkFault}
+use Rattle.sharelink.specs.declared.error.LinkFault.TheVariants.{BadChange, AsksFull, Diverged}
+use Rattle.sharelink.specs.Meets.{Row, noted, refused}
+
+-- what a leaf stands for: its number, its version and its records
+pub record Leaf : Type 0 where
+  pub number : ℕ
+  pub version : ℕ
+  pub records : Records
+
+-- a leaf before its first change
+abbrev pub new_leaf : ℕ → Leaf
+new_leaf number = record { number = number; version = 0; records = no_records }
+
+-- a leaf takes no asks, and tells a bad shape first
+abbrev pub ask_fault : Option ChangeFault → LinkFault
+ask_fault (Some fault) = BadChange fault
+ask_fault None = AsksFull
+
+abbrev pub leaf_asked : Leaf → Change → Row Leaf
+leaf_asked old change = refused (ask_fault (bad_shape change)) old
+
+-- a leaf tells the hub its version
+abbrev pub leaf_pumped : Leaf → Row Leaf
+leaf_pumped old = record { answer = Ok (record { note = Idle; packets = record { to = 0; packet = Hello old.number old.version } ∷ [] }); after = old }
+
+-- the leaf after its next change
+abbrev pub with_next : Leaf → Change → Leaf
+with_next old change = record { number = old.number; version = old.version + 1; records = changed old.records change }
+
+-- the next change is applied, unless the records refuse it
+abbrev pub next_applied : Leaf → Change → Option ChangeFault → Row Leaf
+next_applied old change (Some fault) = refused Diverged old
+next_applied old change None = noted (Applied (old.version + 1)) (with_next old change)
+
+-- the change numbered one above the version is applied; a lower one is old, and a higher one early
+abbrev pub leaf_received : Leaf → Packet → Row Leaf
+leaf_received old (Hello leaf version) = noted Stray old
+leaf_received old (change_packet number origin request change) =
+    if nat_le number old.version then noted Old old
+    else if number == (old.version + 1) then next_applied old change (refusal old.records change)
+    else noted Early old

@@ -1,0 +1,284 @@
+// The hub's end of the link.
+ghost use Rattle.std.specs.Prelude.{◌≡◌, ◌+◌, ◌-◌, ◌^◌, ◌<◌, ◌≤◌, IfOk, length, take, drop, map};
+ghost use Rattle.sharelink.specs.HubRules.{to_each, numbered_from};
+
+use crate::answer::{Answer, Note, Outgoing, Outgoings};
+use crate::error::{LinkError, LinkFault};
+use crate::packet::Packet;
+use crate::{HELLO_CHANGES, MAX_ASKS};
+use bytetext::NoMemory;
+use std::alloc::Global;
+use std::collections::VecDeque;
+use std::marker::Model;
+use userfile::{Change, Userfile, shape};
+
+/// An accepted change, and who asked for it.
+#[derive(Debug, Drop)]
+pub struct Entry {
+    /// The bot that asked: 0 for the hub.
+    pub origin: u16,
+    /// The asking leaf's request number: 0 for the hub's own.
+    pub request: u32,
+    /// The change itself.
+    pub change: Change,
+}
+
+impl Entry {
+    ghost use Rattle.std.specs.Prelude.{◌≡◌, IfOk};
+
+    /// An equal entry of its own.
+    ///
+    /// # Errors
+    /// `NoMemory` where room for the copy is refused.
+    pub fn copy(&self, alloc: Global) -> Result<Entry, NoMemory>
+        ensures { IfOk result (λ e. e ≡ self.now) }
+    {
+        Ok(Entry {
+            origin: self.origin,
+            request: self.request,
+            change: self.change.copy(alloc)?,
+        })
+    }
+}
+
+/// The hub's end: the userfile, every change that it accepted, and the asks that wait.
+#[derive(Drop)]
+pub struct HubLink {
+    leaves: u16,
+    userfile: Userfile,
+    accepted: Vec<Entry>,
+    waiting: VecDeque<Change>,
+}
+
+impl Model for HubLink {
+    ghost use Rattle.std.specs.Prelude.{◌<◌, ◌≤◌, ◌^◌, length};
+    ghost use Rattle.sharelink.specs.HubRules.{Hub};
+
+    ghost Value = { Hub };
+
+    ghost view = { λ h. record { leaves = h.leaves; records = h.userfile; accepted = h.accepted.items; waiting = h.waiting.items } };
+
+    ghost invariant = { λ h. (length h.accepted.items < 2 ^ 32) × (h.leaves ≤ 1000) };
+}
+
+impl HubLink {
+    ghost use Rattle.std.specs.Prelude.{◌≡◌, ◌≤◌, [], length, IfOk, false};
+    ghost use Rattle.sharelink.specs.Meets.{Meets};
+    ghost use Rattle.sharelink.specs.HubRules.{new_hub, hub_asked, hub_pumped, hub_received, version_of, served};
+
+    /// A hub without records, for this many leaves, at most 1,000. Takes no memory.
+    pub fn new(alloc: Global, leaves: u16) -> HubLink
+        requires { leaves ≤ 1000 }
+        ensures { result ≡ new_hub leaves }
+    {
+        HubLink {
+            leaves,
+            userfile: Userfile::new(alloc),
+            accepted: Vec::new(alloc),
+            waiting: VecDeque::new(alloc),
+        }
+    }
+
+    /// The version: how many changes the hub has accepted.
+    pub fn version(&self) -> u32
+        ensures { result ≡ version_of self.now }
+    {
+        self.accepted.len() as u32
+    }
+
+    /// The userfile at that version.
+    pub fn userfile(&self) -> &Userfile
+        ensures { result.now ≡ self.now.records }
+    {
+        &self.userfile
+    }
+
+    /// Whether a device failed and the link waits for a restart. A link in memory has no device.
+    pub fn is_down(&self) -> bool
+        ensures { result ≡ false }
+    {
+        false
+    }
+
+    /// An equal link of its own.
+    ///
+    /// # Errors
+    /// `NoMemory` where room for the copy is refused.
+    pub fn copy(&self, alloc: Global) -> Result<HubLink, NoMemory>
+        ensures { IfOk result (λ link. link ≡ self.now) }
+    {
+        Ok(HubLink {
+            leaves: self.leaves,
+            userfile: self.userfile.copy()?,
+            accepted: entries_of(alloc, self.accepted.as_slice())?,
+            waiting: asks_of(alloc, &self.waiting)?,
+        })
+    }
+
+    /// Lets a change wait for a pump: `Queued`.
+    ///
+    /// # Errors
+    /// `BadChange` for a bad shape, then `AsksFull` where 64 asks wait, then `NoMemory`; each leaves the hub as it was.
+    pub fn ask(&mut self, alloc: Global, change: Change) -> Result<Answer, LinkError>
+        ensures row { Meets self.old (hub_asked self.old change) result self.new }
+        ensures few { IfOk result (λ answer. answer.packets ≡ []) }
+    {
+        if let Some(fault) = shape(&change) {
+            return Err(LinkError::Refused(LinkFault::BadChange(fault)));
+        }
+        if self.waiting.len() >= MAX_ASKS {
+            return Err(LinkError::Refused(LinkFault::AsksFull));
+        }
+        self.waiting.push_back(change)?;
+        Ok(Answer::only(alloc, Note::Queued))
+    }
+
+    /// Takes the oldest ask: `Accepted` with its number, and the change to each leaf; or `Refused` where the userfile
+    /// refuses it; or `Idle` where none waits.
+    ///
+    /// # Errors
+    /// `NumbersSpent` at the last version, where the ask still waits, then `NoMemory`; each leaves the hub as it was.
+    pub fn pump(&mut self, alloc: Global) -> Result<Answer, LinkError>
+        ensures row { Meets self.old (hub_pumped self.old) result self.new }
+        ensures few { IfOk result (λ answer. length answer.packets ≤ 1000) }
+    {
+        let Some(change) = self.waiting.front() else {
+            return Ok(Answer::only(alloc, Note::Idle));
+        };
+        if let Some(fault) = self.userfile.refusal_of(change) {
+            let _ = self.waiting.pop_front();
+            return Ok(Answer::only(alloc, Note::Refused(fault)));
+        }
+        let number = self.accepted.len() as u32;
+        if number == u32::MAX {
+            return Err(LinkError::Refused(LinkFault::NumbersSpent));
+        }
+        let packets = to_all(alloc, self.leaves, number + 1, change)?;
+        self.accepted.reserve(1)?;
+        match self.userfile.apply(alloc, change) {
+            Ok(()) => {}
+            Err(_) => return Err(LinkError::NoMemory),
+        }
+        if let Some(change) = self.waiting.pop_front() {
+            let entry = Entry {
+                origin: 0,
+                request: 0,
+                change,
+            };
+            self.accepted.push(entry).unwrap();
+        }
+        Ok(Answer {
+            note: Note::Accepted(number + 1),
+            packets,
+        })
+    }
+
+    /// Takes a packet. A hello of a leaf of the net, at a version that the hub has, is `Served` with the changes that
+    /// follow, at most 16; any other packet is `Stray`.
+    ///
+    /// # Errors
+    /// `NoMemory`, which leaves the hub as it was.
+    pub fn receive(&mut self, alloc: Global, packet: &Packet) -> Result<Answer, LinkError>
+        ensures row { Meets self.old (hub_received self.old packet.now) result self.new }
+        ensures few { IfOk result (λ answer. length answer.packets ≤ 16) }
+    {
+        let Packet::Hello { leaf, version } = packet else {
+            return Ok(Answer::only(alloc, Note::Stray));
+        };
+        let behind = *version as usize;
+        if *leaf == 0 || *leaf > self.leaves || behind > self.accepted.len() {
+            return Ok(Answer::only(alloc, Note::Stray));
+        }
+        let packets = next_changes(alloc, *leaf, *version, self.accepted.as_slice())?;
+        Ok(Answer {
+            note: Note::Served(packets.len()),
+            packets,
+        })
+    }
+}
+
+// A copy of each accepted change, in order.
+fn entries_of(alloc: Global, entries: &[Entry]) -> Result<Vec<Entry>, NoMemory>
+    ensures { IfOk result (λ copies. copies.items ≡ entries.now) }
+{
+    let mut copies = Vec::with_capacity(alloc, entries.len())?;
+    for entry in entries {
+        copies.push(entry.copy(alloc)?)?;
+    }
+    Ok(copies)
+}
+
+// A copy of each ask that waits, in order.
+fn asks_of(alloc: Global, asks: &VecDeque<Change>) -> Result<VecDeque<Change>, NoMemory>
+    ensures { IfOk result (λ copies. copies.items ≡ asks.now.items) }
+{
+    let mut copies = VecDeque::new(alloc);
+    for place in 0..asks.len() {
+        copies.push_back(asks[place].copy(alloc)?)?;
+    }
+    Ok(copies)
+}
+
+// The accepted change of this number to each leaf, in order.
+fn to_all(alloc: Global, leaves: u16, number: u32, change: &Change) -> Result<Outgoings, NoMemory>
+    ensures packets { IfOk result (λ packets. packets ≡ to_each 1 leaves (Packet.Change number 0 0 change.now)) }
+    ensures few { IfOk result (λ packets. length packets ≡ leaves) }
+{
+    let mut packets = Vec::with_capacity(alloc, leaves as usize)?;
+    for leaf in 0..leaves {
+        let packet = Packet::Change {
+            number,
+            origin: 0,
+            request: 0,
+            change: change.copy(alloc)?,
+        };
+        packets.push(Outgoing {
+            to: leaf + 1,
+            packet,
+        })?;
+    }
+    Ok(Outgoings::new(packets))
+}
+
+// The changes after a version to one leaf, at most 16.
+fn next_changes(
+    alloc: Global,
+    leaf: u16,
+    version: u32,
+    accepted: &[Entry],
+) -> Result<Outgoings, NoMemory>
+    requires has { version ≤ length accepted.now }
+    requires few { length accepted.now < 2 ^ 32 }
+    ensures packets { IfOk result (λ packets. packets ≡ numbered_from leaf version (take 16 (drop version accepted.now))) }
+    ensures few { IfOk result (λ packets. length packets ≤ 16) }
+{
+    let behind = &accepted[version as usize..];
+    let count = behind.len().min(HELLO_CHANGES);
+    copies_from(alloc, leaf, version, &behind[..count])
+}
+
+// These accepted changes to one leaf, numbered on from a version.
+fn copies_from(
+    alloc: Global,
+    leaf: u16,
+    version: u32,
+    entries: &[Entry],
+) -> Result<Outgoings, NoMemory>
+    requires { version + length entries.now < 2 ^ 32 }
+    ensures packets { IfOk result (λ packets. packets ≡ numbered_from leaf version entries.now) }
+    ensures few { IfOk result (λ packets. length packets ≡ length entries.now) }
+{
+    let mut packets = Vec::with_capacity(alloc, entries.len())?;
+    let mut number = version;
+    for entry in entries {
+        number += 1;
+        let packet = Packet::Change {
+            number,
+            origin: entry.origin,
+            request: entry.request,
+            change: entry.change.copy(alloc)?,
+        };
+        packets.push(Outgoing { to: leaf, packet })?;
+    }
+    Ok(Outgoings::new(packets))
+}

@@ -1,0 +1,141 @@
+// A leaf's end of the link.
+use crate::answer::{Answer, Note, Outgoing, Outgoings};
+use crate::error::{LinkError, LinkFault};
+use crate::packet::Packet;
+use bytetext::NoMemory;
+use std::alloc::Global;
+use std::marker::Model;
+use userfile::{Change, Userfile, shape};
+
+/// A leaf's end: its number, its version and its userfile.
+#[derive(Drop)]
+pub struct LeafLink {
+    number: u16,
+    version: u32,
+    userfile: Userfile,
+}
+
+impl Model for LeafLink {
+    ghost use Rattle.sharelink.specs.LeafRules.{Leaf};
+
+    ghost Value = { Leaf };
+
+    ghost view = { λ l. record { number = l.number; version = l.version; records = l.userfile } };
+}
+
+impl LeafLink {
+    ghost use Rattle.std.specs.Prelude.{◌≡◌, [], length, IfOk, IsErr, false};
+    ghost use Rattle.sharelink.specs.Meets.{Meets};
+    ghost use Rattle.sharelink.specs.LeafRules.{new_leaf, leaf_asked, leaf_pumped, leaf_received};
+
+    /// The leaf of this number, without records. Takes no memory.
+    pub fn new(alloc: Global, number: u16) -> LeafLink
+        ensures { result ≡ new_leaf number }
+    {
+        LeafLink {
+            number,
+            version: 0,
+            userfile: Userfile::new(alloc),
+        }
+    }
+
+    /// The version: how many of the hub's changes the leaf has applied.
+    pub fn version(&self) -> u32
+        ensures { result ≡ self.now.version }
+    {
+        self.version
+    }
+
+    /// The userfile at that version.
+    pub fn userfile(&self) -> &Userfile
+        ensures { result.now ≡ self.now.records }
+    {
+        &self.userfile
+    }
+
+    /// Whether a device failed and the link waits for a restart. A link in memory has no device.
+    pub fn is_down(&self) -> bool
+        ensures { result ≡ false }
+    {
+        false
+    }
+
+    /// An equal link of its own.
+    ///
+    /// # Errors
+    /// `NoMemory` where room for the copy is refused.
+    pub fn copy(&self) -> Result<LeafLink, NoMemory>
+        ensures { IfOk result (λ link. link ≡ self.now) }
+    {
+        Ok(LeafLink {
+            number: self.number,
+            version: self.version,
+            userfile: self.userfile.copy()?,
+        })
+    }
+
+    /// Takes no ask: changes are asked of the hub. Takes no memory.
+    ///
+    /// # Errors
+    /// `BadChange` for a bad shape, else `AsksFull`; each leaves the leaf as it was.
+    pub fn ask(&mut self, change: Change) -> Result<Answer, LinkError>
+        ensures row { Meets self.old (leaf_asked self.old change) result self.new }
+        ensures refused { IsErr result }
+    {
+        match shape(&change) {
+            Some(fault) => Err(LinkError::Refused(LinkFault::BadChange(fault))),
+            None => Err(LinkError::Refused(LinkFault::AsksFull)),
+        }
+    }
+
+    /// Tells the hub the version that the leaf is at: `Idle`, and a hello to the hub.
+    ///
+    /// # Errors
+    /// `NoMemory`, which leaves the leaf as it was.
+    pub fn pump(&mut self, alloc: Global) -> Result<Answer, LinkError>
+        ensures row { Meets self.old (leaf_pumped self.old) result self.new }
+        ensures few { IfOk result (λ answer. length answer.packets ≡ 1) }
+    {
+        let hello = Outgoing {
+            to: 0,
+            packet: Packet::Hello {
+                leaf: self.number,
+                version: self.version,
+            },
+        };
+        let packets = vec![in alloc; hello]?;
+        Ok(Answer {
+            note: Note::Idle,
+            packets: Outgoings::new(packets),
+        })
+    }
+
+    /// Takes a packet. The change numbered one above the version is `Applied`; one at most the version is `Old`, and
+    /// one further above is `Early`. Any other packet is `Stray`.
+    ///
+    /// # Errors
+    /// `Diverged` where the records refuse the next change, then `NoMemory`; each leaves the leaf as it was.
+    pub fn receive(&mut self, alloc: Global, packet: &Packet) -> Result<Answer, LinkError>
+        ensures row { Meets self.old (leaf_received self.old packet.now) result self.new }
+        ensures few { IfOk result (λ answer. answer.packets ≡ []) }
+    {
+        let Packet::Change { number, change, .. } = packet else {
+            return Ok(Answer::only(alloc, Note::Stray));
+        };
+        if *number <= self.version {
+            return Ok(Answer::only(alloc, Note::Old));
+        }
+        if *number - self.version > 1 {
+            return Ok(Answer::only(alloc, Note::Early));
+        }
+        if self.userfile.refusal_of(change).is_some() {
+            return Err(LinkError::Refused(LinkFault::Diverged));
+        }
+        match self.userfile.apply(alloc, change) {
+            Ok(()) => {}
+            Err(_) => return Err(LinkError::NoMemory),
+        }
+        self.version = *number;
+        Ok(Answer::only(alloc, Note::Applied(*number)))
+    }
+}

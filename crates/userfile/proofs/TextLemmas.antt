@@ -1,0 +1,40 @@
+-- Texts compared by casemapping, and hostmasks by their texts.
+use Rattle.std.proofs.Common.{◌≡◌, ℕ, ◌<◌, ◌≤◌, Bool, true, false, List, [], ◌∷◌, length, nat_eq, refl, sym, ap, ◌∙◌, arith, Some, None, Option, true≢false}
+use Rattle.std.specs.Bool.{Decides}
+use Rattle.std.specs.Option.{is_none}
+use Rattle.std.specs.Cmp.Lexicographic.{pointwise, bytes_decides}
+use Rattle.std.proofs.lemmas.Bool.{cases_Bool}
+use Rattle.std.proofs.lemmas.Bool.Decides.{nat_tests, same_from_decides}
+use Rattle.rfccase.specs.Casemapping.{folded, IsSame}
+use Rattle.rfccase.proofs.SameLemmas.{length-folded}
+use Rattle.wildmask.specs.Masks.{host_fault}
+use Rattle.wildmask.specs.declared.faults.MaskFault.{MaskFault}
+use Rattle.userfile.specs.Held.{same_text}
+use Rattle.userfile.specs.Shapes.{is_hostmask, is_handle}
+
+pub same_text-Decides : (a b : List ℕ) → Decides (same_text a b) (IsSame a b)
+unfolding same_text
+same_text-Decides a b = bytes_decides (folded a) (folded b)
+
+pub same_text-sym : (a b : List ℕ) → same_text a b ≡ same_text b a
+same_text-sym a b = same_from_decides _ _ (same_text-Decides a b) (λ h. sym ((same_text-Decides b a).0 h), λ h. (same_text-Decides b a).1 (sym h))
+
+-- texts of different lengths are not the same
+pub same_text-length : (a b : List ℕ) → length b < length a → same_text a b ≡ false
+same_text-length a b longer = by (same_text a b) refl
+  where
+    by : (t : Bool) → same_text a b ≡ t → t ≡ false
+    by false e = refl
+    by true e =
+        let lengths : length a ≡ length b = sym (length-folded a) ∙ ap length ((same_text-Decides a b).0 e) ∙ length-folded b in
+        absurd (omega arith)
+
+-- a hostmask has no fault
+pub no_fault : (text : List ℕ) (fault : MaskFault) → is_hostmask text ≡ true → host_fault text ≡ Some fault → ⊥
+unfolding is_hostmask
+no_fault text fault good bad = true≢false (sym good ∙ ap is_none bad)
+
+-- a handle has at most 32 bytes
+pub is_handle-length : (text : List ℕ) → is_handle text ≡ true → length text ≤ 32
+unfolding is_handle
+is_handle-length text good = grind (arith, nat_tests)

@@ -1,0 +1,11 @@
+pub mod Codes
+pub mod Shapes
+pub mod Hostmasks
+pub mod Records
+pub mod Held
+pub mod Apply
+pub mod Versions
+pub mod Persons
+pub mod Keys
+pub mod Best
+pub mod Together

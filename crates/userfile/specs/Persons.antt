@@ -1,0 +1,90 @@
+-- Who a person is, what flags a person has, and whom a ban keeps off.
+use Rattle.std.specs.Prelude.{◌≡◌, ◌<◌, ◌≤◌, ◌⊎◌, ℕ, ◌+◌, ◌*◌, ◌==◌, nat_lt, nat_le, Bool, ◌&&◌, ◌||◌, List, [], ◌∷◌, ◌++◌, length, map, filter, find, slice_get, codes, if◌then◌else◌, Option, None, Some}
+use Rattle.std.specs.List.{list_all, flat_map}
+use Rattle.userfile.specs.Held.{same_text, user_of, entry_of}
+use Rattle.userfile.specs.Hostmasks.{is_match, literals}
+use Rattle.userfile.specs.declared.user.User.{User}
+use Rattle.userfile.specs.declared.channel_flags.ChannelFlags.{ChannelFlags}
+use Rattle.userfile.specs.declared.flags.PersonFlags.{PersonFlags}
+use Rattle.userfile.specs.declared.ban.Ban.{Ban}
+
+-- ---- who a person is
+
+-- a hostmask that matches a person: its literals, and whose it is
+pub record Claim : Type 0 where
+  pub literals : ℕ
+  pub user : User
+
+abbrev pub claim : ℕ → User → Claim
+claim literals user = record { literals = literals; user = user }
+
+-- the claims of a user's masks that match, in the order of the masks
+abbrev pub claims_of : List ℕ → User → List (List ℕ) → List Claim
+claims_of who user masks = map (λ mask. claim (literals mask) user) (filter (λ mask. is_match mask who) masks)
+
+-- the claims of all users, those of an earlier user first
+abbrev pub claims : List ℕ → List User → List Claim
+claims who [] = []
+claims who (user ∷ users) = claims_of who user user.masks ++ claims who users
+
+-- whether each of these claims has at most so many literals
+abbrev pub is_most : ℕ → List Claim → Bool
+is_most most others = list_all (λ c. nat_le c.literals most) others
+
+-- the first claim that no later one has more literals than: of those with most, the earliest
+unfoldable pub decider : List Claim → Option User
+decider [] = None
+decider (c ∷ cs) = if is_most c.literals cs then Some c.user else decider cs
+
+-- the user that a person is
+abbrev pub user_for : List ℕ → List User → Option User
+user_for who users = decider (claims who users)
+
+-- the handle of a user, or * for an unknown person
+abbrev pub handle_or_star : Option User → List ℕ
+handle_or_star None = codes "*"
+handle_or_star (Some user) = user.handle
+
+abbrev pub handle_of : List User → List ℕ → List ℕ
+handle_of users who = handle_or_star (user_for who users)
+
+-- the claim at place k decides: those before it have fewer literals, and those behind it no more
+pub record IsDecider (cs : List Claim) (k : ℕ) (c : Claim) : Type 0 where
+  pub here : slice_get cs k ≡ Some c
+  pub before : (j : ℕ) (other : Claim) → j < k → slice_get cs j ≡ Some other → other.literals < c.literals
+  pub behind : (j : ℕ) (other : Claim) → k < j → slice_get cs j ≡ Some other → other.literals ≤ c.literals
+
+-- the handle is that of the user whose claim decides, or * where no hostmask matches
+abbrev pub IsHandleFor : List User → List ℕ → List ℕ → Type 0
+IsHandleFor users who handle =
+    ((claims who users ≡ []) × (handle ≡ codes "*"))
+    ⊎ ((k : ℕ) × ((c : Claim) × (IsDecider (claims who users) k c × (handle ≡ c.user.handle))))
+
+-- ---- flags
+
+abbrev pub entry_flags : Option ChannelFlags → ℕ
+entry_flags None = 0
+entry_flags (Some entry) = entry.flags
+
+abbrev pub flags_on : List ℕ → Option User → PersonFlags
+flags_on channel None = record { global = 0; chan = 0; bot = 0 }
+flags_on channel (Some user) = record { global = user.global; chan = entry_flags (entry_of channel user.channels); bot = user.bot }
+
+-- the flags of the user of a handle, and none where there is no such user
+abbrev pub flags_of : List User → List ℕ → List ℕ → PersonFlags
+flags_of users handle channel = flags_on channel (user_of handle users)
+
+-- ---- bans
+
+-- a ban keeps a person off a channel where it is of that channel or of all, has not ended, and its mask matches
+abbrev pub bars : List ℕ → List ℕ → ℕ → Ban → Bool
+bars channel who now ban =
+    (length ban.channel == 0 || same_text channel ban.channel) && (ban.expires == 0 || nat_lt now ban.expires) && is_match ban.mask who
+
+-- the first ban that keeps a person off a channel
+abbrev pub ban_for : List Ban → List ℕ → List ℕ → ℕ → Option Ban
+ban_for bans channel who now = find (bars channel who now) bans
+
+-- the expiry of a ban made now for so many minutes, 0 for ever
+abbrev pub expires_at : ℕ → ℕ → ℕ
+expires_at now minutes = if minutes == 0 then 0 else now + 60 * minutes

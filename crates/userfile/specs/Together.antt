@@ -1,0 +1,69 @@
+-- Which records stand together in one userfile, and what making one of them answers.
+use Rattle.std.specs.Prelude.{◌≡◌, ℕ, List, [], ◌∷◌, Bool, true, false, not, ◌&&◌, ◌||◌, ◌==◌, nat_lt, length, Option, None, Some, Result, Ok, Err}
+use Rattle.std.specs.List.{list_any, list_all}
+use Rattle.userfile.specs.Shapes.{is_handle, is_channel, is_ban_channel, is_comment}
+use Rattle.userfile.specs.Records.{Records}
+use Rattle.userfile.specs.Held.{has_user, has_mask, has_entry, has_ban}
+use Rattle.userfile.specs.Apply.{max_users, max_masks, max_channels, max_bans, fault_if, first_of_two}
+use Rattle.userfile.specs.declared.user.User.{User}
+use Rattle.userfile.specs.declared.channel_flags.ChannelFlags.{ChannelFlags}
+use Rattle.userfile.specs.declared.ban.Ban.{Ban}
+use Rattle.userfile.specs.declared.error.ChangeFault.{ChangeFault}
+use Rattle.userfile.specs.declared.error.ChangeFault.TheVariants.{UserExists, MaskHeld, BanExists, Full}
+use Rattle.userfile.specs.declared.error.ApplyError.{ApplyError}
+use Rattle.userfile.specs.declared.error.ApplyError.TheVariants.{Refused, NoMemory}
+
+-- ---- one record
+
+-- a channel is named twice
+abbrev pub repeats_channel : List ChannelFlags → Bool
+repeats_channel [] = false
+repeats_channel (e ∷ entries) = has_entry e.channel entries || repeats_channel entries
+
+-- an entry names a channel, and has flags
+abbrev pub is_entry : ChannelFlags → Bool
+is_entry e = is_channel e.channel && not (e.flags == 0)
+
+-- a user's own texts are good, and each channel is named once, with flags
+unfoldable pub is_user : User → Bool
+is_user user = is_handle user.handle && list_all is_entry user.channels && not (repeats_channel user.channels)
+
+-- a ban's own texts are good
+unfoldable pub is_good_ban : Ban → Bool
+is_good_ban ban = is_handle ban.creator && is_ban_channel ban.channel && is_comment ban.comment
+
+-- ---- several records
+
+-- a handle is held twice
+abbrev pub repeats_handle : List User → Bool
+repeats_handle [] = false
+repeats_handle (user ∷ users) = has_user user.handle users || repeats_handle users
+
+-- a mask is held twice
+abbrev pub repeats_mask : List (List ℕ) → Bool
+repeats_mask [] = false
+repeats_mask (mask ∷ masks) = has_mask mask masks || repeats_mask masks
+
+-- there are two bans of one channel and mask
+abbrev pub repeats_ban : List Ban → Bool
+repeats_ban [] = false
+repeats_ban (ban ∷ bans) = has_ban ban.channel ban.mask bans || repeats_ban bans
+
+-- a user has more than a userfile holds of one
+abbrev pub is_over : User → Bool
+is_over user = nat_lt max_masks (length user.masks) || nat_lt max_channels (length user.channels)
+
+-- the first reason for which records don't stand together: a handle, then a mask of one user, then a ban is there
+-- twice, and then there are too many
+abbrev pub records_fault : List User → List Ban → Option ChangeFault
+records_fault users bans =
+    first_of_two (fault_if (repeats_handle users) UserExists)
+    (first_of_two (fault_if (list_any (λ user. repeats_mask user.masks) users) MaskHeld)
+    (first_of_two (fault_if (repeats_ban bans) BanExists)
+    (fault_if (nat_lt max_users (length users) || nat_lt max_bans (length bans) || list_any is_over users) Full)))
+
+-- what making a userfile of records answers
+abbrev pub Gathers : List User → List Ban → Result Records ApplyError → Type 0
+Gathers users bans (Ok made) = (records_fault users bans ≡ None) × (made ≡ record { users = users; bans = bans })
+Gathers users bans (Err (Refused fault)) = records_fault users bans ≡ Some fault
+Gathers users bans (Err NoMemory) = records_fault users bans ≡ None

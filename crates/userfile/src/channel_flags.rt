@@ -1,0 +1,165 @@
+// A user's flags on channels.
+ghost use Rattle.std.specs.Prelude.{◌≡◌, OnOk, OnErr};
+ghost use Rattle.std.specs.List.{position_from};
+ghost use Rattle.std.specs.Option.{option_copied};
+ghost use Rattle.userfile.specs.Held.{same_text, entry_of, entries_without, with_entry};
+
+use crate::texts::same_text;
+use bytetext::{NoMemory, Text};
+use flagexpr::Flags;
+use std::alloc::{AllocError, Global};
+use std::marker::Model;
+
+/// A user's flags on one channel.
+#[derive(Debug, Drop)]
+pub struct ChannelFlags {
+    /// The channel as it was given last.
+    pub channel: Text,
+    /// The flags on it; a userfile holds no entry without flags.
+    pub flags: Flags,
+}
+
+impl Clone for ChannelFlags {
+    ghost is_clone = { λ entry twin. twin ≡ entry };
+
+    fn clone(&self) -> Result<ChannelFlags, AllocError> {
+        Ok(ChannelFlags {
+            channel: self.channel.clone()?,
+            flags: self.flags,
+        })
+    }
+}
+
+/// A list of a user's flags on channels. Contracts see the list of its entries.
+#[derive(Debug, Drop)]
+pub struct ChannelEntries {
+    items: Vec<ChannelFlags>,
+}
+
+impl Model for ChannelEntries {
+    ghost use Rattle.std.specs.Prelude.{List};
+    ghost use Rattle.userfile.specs.declared.channel_flags.ChannelFlags.{ChannelFlags};
+
+    ghost Value = { List ChannelFlags };
+
+    ghost view = { λ c. c.items.items };
+}
+
+impl ChannelEntries {
+    ghost use Rattle.std.specs.Prelude.{◌≡◌, [], ◌∷◌, ◌++◌, ℕ, IfOk, OnOk, OnErr, length};
+    ghost use Rattle.std.specs.Option.{option_copied};
+    ghost use Rattle.userfile.specs.Held.{entry_of, entries_without, with_entry};
+    ghost use Rattle.userfile.specs.Apply.{set_channel};
+
+    /// The list of these entries. Takes no memory.
+    pub fn new(items: Vec<ChannelFlags>) -> ChannelEntries
+        ensures { result ≡ items.items }
+    {
+        ChannelEntries { items }
+    }
+
+    /// The list without entries. Takes no memory.
+    pub fn empty(alloc: Global) -> ChannelEntries
+        ensures { result ≡ [] }
+    {
+        ChannelEntries::new(Vec::new(alloc))
+    }
+
+    /// The entries, in order.
+    pub fn as_slice(&self) -> &[ChannelFlags]
+        ensures { result.now ≡ self.now }
+    {
+        self.items.as_slice()
+    }
+
+    /// How many entries there are.
+    pub fn len(&self) -> usize
+        ensures { result ≡ length self.now }
+    {
+        self.items.len()
+    }
+
+    /// The entry of the channel, its name compared by casemapping.
+    pub fn get(&self, channel: &[u8]) -> Option<&ChannelFlags>
+        ensures { option_copied result ≡ entry_of channel.now self.now }
+    {
+        entry_of(self.items.as_slice(), channel)
+    }
+
+    // Sets the flags on a channel; without flags its entry goes.
+    pub(crate) fn set(
+        &mut self,
+        alloc: Global,
+        channel: &[u8],
+        flags: Flags,
+    ) -> Result<(), NoMemory>
+        ensures ok { OnOk result (self.new ≡ set_channel channel.now flags self.old) }
+        ensures err { OnErr result (self.new ≡ self.old) }
+    {
+        if flags.is_empty() {
+            keep_others(&mut self.items, channel);
+            return Ok(());
+        }
+        let channel = Text::from_slice(alloc, channel)?;
+        put(&mut self.items, ChannelFlags { channel, flags })
+    }
+
+    /// An equal list of its own.
+    ///
+    /// # Errors
+    /// `NoMemory` where room for the copy is refused.
+    pub fn copy(&self) -> Result<ChannelEntries, NoMemory>
+        ensures { IfOk result (λ twin. twin ≡ self.now) }
+    {
+        Ok(ChannelEntries {
+            items: self.items.clone()?,
+        })
+    }
+}
+
+impl Clone for ChannelEntries {
+    ghost is_clone = { λ entries twin. twin ≡ entries };
+
+    fn clone(&self) -> Result<ChannelEntries, AllocError> {
+        Ok(ChannelEntries {
+            items: self.items.clone()?,
+        })
+    }
+}
+
+// The entry of the channel.
+pub(crate) fn entry_of<'a>(entries: &'a [ChannelFlags], channel: &[u8]) -> Option<&'a ChannelFlags>
+    ensures { option_copied result ≡ entry_of channel.now entries.now }
+{
+    entries
+        .iter()
+        .find(|entry| same_text(channel, entry.channel.as_bytes()))
+}
+
+// Keeps the entries but the one of this channel, in their order.
+fn keep_others(entries: &mut Vec<ChannelFlags>, channel: &[u8])
+    ensures { entries.new.items ≡ entries_without channel.now entries.old.items }
+{
+    entries.retain(|entry| !same_text(channel, entry.channel.as_bytes()));
+}
+
+// Puts an entry in the place of the one of its channel, or last where there is none.
+fn put(entries: &mut Vec<ChannelFlags>, entry: ChannelFlags) -> Result<(), NoMemory>
+    ensures ok { OnOk result (entries.new.items ≡ with_entry entry entries.old.items) }
+    ensures err { OnErr result (entries.new.items ≡ entries.old.items) }
+{
+    match place_of(entries.as_slice(), entry.channel.as_bytes()) {
+        Some(place) => entries[place] = entry,
+        None => entries.push(entry)?,
+    }
+    Ok(())
+}
+
+// The place of the channel's entry.
+fn place_of(entries: &[ChannelFlags], channel: &[u8]) -> Option<usize>
+    ensures { result ≡ position_from (λ e. same_text channel.now e.channel) 0 entries.now }
+{
+    entries
+        .iter()
+        .position(|entry| same_text(channel, entry.channel.as_bytes()))
+}

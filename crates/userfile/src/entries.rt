@@ -1,0 +1,83 @@
+// The map of the users, whose keys are the lower cases of their handles.
+ghost use Rattle.std.specs.Prelude.{◌≡◌, [], ◌∷◌, ◌++◌, not, true, None, OnOk, OnErr};
+ghost use Rattle.std.specs.Option.{option_copied};
+ghost use Rattle.userfile.specs.Apply.{edited, new_user};
+ghost use Rattle.userfile.specs.Held.{same_text, user_of, has_user, users_without, with_user};
+ghost use Rattle.userfile.specs.Shapes.{is_handle};
+ghost use Rattle.userfile.specs.Keys.{IsKeyed, HasGoodMask};
+ghost use Rattle.indexmap.specs.IndexMap.{values};
+
+use crate::change::Change;
+use crate::edits::edit;
+use crate::shapes::MAX_HANDLE;
+use crate::texts::same_text;
+use crate::user::User;
+use bytetext::{NoMemory, Text};
+use indexmap::IndexMap;
+use rfccase::{ShortFold, fold_text};
+use std::alloc::Global;
+
+// The user of this handle.
+pub(crate) fn find_user<'a>(users: &'a IndexMap<Vec<u8>, User>, handle: &[u8]) -> Option<&'a User>
+    requires { IsKeyed users.now.entries }
+    ensures { option_copied result ≡ user_of handle.now (values users.now) }
+{
+    match ShortFold::<MAX_HANDLE>::new(handle) {
+        Some(lower) => users.get(lower.as_bytes()),
+        None => None,
+    }
+}
+
+// Adds a user whose handle nobody has.
+pub(crate) fn add_user(
+    users: &mut IndexMap<Vec<u8>, User>,
+    alloc: Global,
+    handle: &Text,
+) -> Result<(), NoMemory>
+    requires keyed { IsKeyed users.old.entries }
+    requires good { is_handle handle.now ≡ true }
+    requires absent { user_of handle.now (values users.old) ≡ None }
+    ensures keyed { IsKeyed users.new.entries }
+    ensures ok { OnOk result (values users.new ≡ values users.old ++ new_user handle.now ∷ []) }
+    ensures err { OnErr result (values users.new ≡ values users.old) }
+{
+    let key = fold_text(alloc, handle.as_bytes())?;
+    let user = User::new(alloc, handle.copy(alloc)?);
+    users.insert(key, user)?;
+    Ok(())
+}
+
+// Keeps the users but the one with the handle, in their order.
+pub(crate) fn keep_other_users(users: &mut IndexMap<Vec<u8>, User>, handle: &[u8])
+    requires { IsKeyed users.old.entries }
+    ensures keyed { IsKeyed users.new.entries }
+    ensures kept { values users.new ≡ users_without handle.now (values users.old) }
+{
+    users.retain(
+        |_key: &Vec<u8>, user: &mut User| -> bool
+            ensures { (result ≡ not (same_text handle.entry.now user.old.handle)) × (user.new ≡ user.old) }
+        { !same_text(handle, user.handle.as_bytes()) },
+    );
+}
+
+// Makes a change to the user with the handle.
+pub(crate) fn edit_user(
+    users: &mut IndexMap<Vec<u8>, User>,
+    alloc: Global,
+    handle: &[u8],
+    change: &Change,
+) -> Result<(), NoMemory>
+    requires keyed { IsKeyed users.old.entries }
+    requires good { HasGoodMask change.now }
+    ensures keyed { IsKeyed users.new.entries }
+    ensures ok { OnOk result (values users.new ≡ with_user handle.now (edited change.now) (values users.old)) }
+    ensures err { OnErr result (values users.new ≡ values users.old) }
+{
+    let Some(lower) = ShortFold::<MAX_HANDLE>::new(handle) else {
+        return Ok(());
+    };
+    match users.get_mut(lower.as_bytes()) {
+        Some(user) => edit(user, alloc, change),
+        None => Ok(()),
+    }
+}

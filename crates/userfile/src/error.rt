@@ -1,0 +1,107 @@
+// Why a change is not made.
+ghost use Rattle.std.specs.Prelude.{◌≡◌};
+ghost use Rattle.userfile.specs.declared.error.ApplyError.TheVariants.{NoMemory as no_memory};
+
+use bytetext::NoMemory;
+use std::alloc::{AllocError, AllocFailed};
+use thiserror::Error;
+
+/// A refusal of a change, by its letter and number. They are tested in this order: the change's own shape, then what
+/// the userfile holds, then its limits.
+#[derive(Clone, Copy, Debug, PartialEq, Eq, Error)]
+pub enum ChangeFault {
+    /// U1: the handle, or a ban's creator, has not 1 to 32 bytes, or holds a byte outside 33 to 126 or one of
+    /// `* , : @`.
+    #[error("a handle has 1 to 32 printable bytes, none of them a space or one of * , : @")]
+    BadHandle,
+    /// U4: the mask is no hostmask.
+    #[error("write the mask as nick!user@host, with at most 120 bytes and without spaces or control bytes")]
+    BadMask,
+    /// U7: the channel name does not begin with `&`, `#`, `+` or `!`, has more than 100 bytes, or holds a space, a
+    /// comma or control G.
+    #[error("a channel begins with & # + or !, and has at most 100 bytes without spaces and commas")]
+    BadChannel,
+    /// U10: the comment has more than 100 bytes, or holds NUL, CR or LF.
+    #[error("a comment has at most 100 bytes and is one line")]
+    BadText,
+    /// U3: no user has the handle.
+    #[error("no user has this handle: add the user first")]
+    NoSuchUser,
+    /// U2: a user has the handle.
+    #[error("a user has this handle: pick another")]
+    UserExists,
+    /// U5: the user has the mask.
+    #[error("the user has this mask")]
+    MaskHeld,
+    /// U6: the user has no such mask.
+    #[error("the user has no such mask")]
+    NoSuchMask,
+    /// U8: there is a ban of this channel and mask.
+    #[error("there is such a ban: delete it first")]
+    BanExists,
+    /// U9: there is no ban of this channel and mask.
+    #[error("there is no such ban")]
+    NoSuchBan,
+    /// U11: there is no place for one more.
+    #[error("there is no place for one more: delete one first")]
+    Full,
+}
+
+impl ChangeFault {
+    ghost use Rattle.std.specs.Prelude.{◌≡◌};
+    ghost use Rattle.userfile.specs.Codes.{fault_code};
+
+    /// The letter and number that transcripts print.
+    pub fn code(self) -> &'static str
+        ensures { result.now ≡ fault_code self }
+    {
+        match self {
+            ChangeFault::BadHandle => "U1",
+            ChangeFault::BadMask => "U4",
+            ChangeFault::BadChannel => "U7",
+            ChangeFault::BadText => "U10",
+            ChangeFault::NoSuchUser => "U3",
+            ChangeFault::UserExists => "U2",
+            ChangeFault::MaskHeld => "U5",
+            ChangeFault::NoSuchMask => "U6",
+            ChangeFault::BanExists => "U8",
+            ChangeFault::NoSuchBan => "U9",
+            ChangeFault::Full => "U11",
+        }
+    }
+}
+
+/// Why [`Userfile::apply`](crate::Userfile::apply) changed nothing.
+#[derive(Clone, Copy, Debug, PartialEq, Eq, Error)]
+pub enum ApplyError {
+    /// The change breaks a rule. The same change is refused again as long as the userfile stays the same.
+    #[error("{0}")]
+    Refused(ChangeFault),
+    /// A growth was refused, and no rule stands against the change.
+    #[error("out of memory: free some and try again")]
+    NoMemory,
+}
+
+impl From<NoMemory> for ApplyError {
+    ghost from_gives = { λ _ e. e ≡ no_memory };
+
+    fn from(_refused: NoMemory) -> ApplyError {
+        ApplyError::NoMemory
+    }
+}
+
+impl From<AllocError> for ApplyError {
+    ghost from_gives = { λ _ e. e ≡ no_memory };
+
+    fn from(_refused: AllocError) -> ApplyError {
+        ApplyError::NoMemory
+    }
+}
+
+impl<T: Drop> From<AllocFailed<T>> for ApplyError {
+    ghost from_gives = { λ _ e. e ≡ no_memory };
+
+    fn from(_refused: AllocFailed<T>) -> ApplyError {
+        ApplyError::NoMemory
+    }
+}

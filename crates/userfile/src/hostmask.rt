@@ -1,0 +1,195 @@
+// A hostmask, and a list of them.
+ghost use Rattle.std.specs.Prelude.{◌≡◌};
+ghost use Rattle.userfile.specs.Held.{has_mask, masks_without};
+
+use crate::texts::same_text;
+use bytetext::NoMemory;
+use std::alloc::{AllocError, Global};
+use std::marker::Model;
+use wildmask::{Mask, MaskError};
+
+/// A hostmask, which matches persons written as `nick!user@host`. Contracts see its text as it was given.
+#[derive(Debug, Drop)]
+pub struct Hostmask {
+    mask: Mask,
+    // where copies are made: `clone` is passed no allocator
+    alloc: Global,
+}
+
+impl Model for Hostmask {
+    ghost use Rattle.std.specs.Prelude.{List, ℕ, ◌≡◌};
+    ghost use Rattle.wildmask.specs.declared.items.MaskKind.TheVariants.{Host};
+
+    ghost Value = { List ℕ };
+
+    ghost view = { λ h. h.mask.text };
+
+    ghost invariant = { λ h. h.mask.kind ≡ Host };
+}
+
+impl Hostmask {
+    ghost use Rattle.std.specs.Prelude.{◌≡◌, ◌↔◌, IsTrue, IfOk};
+    ghost use Rattle.wildmask.specs.Masks.{host_mask, IsMatch};
+    ghost use Rattle.userfile.specs.Hostmasks.{MakesHostmask, is_match, literals};
+
+    /// The hostmask of this text.
+    ///
+    /// # Errors
+    /// `Refused` with the first fault of the text, or `NoMemory` where it has none and room for a copy is refused.
+    pub fn new(alloc: Global, text: &[u8]) -> Result<Hostmask, MaskError>
+        ensures { MakesHostmask text.now result }
+    {
+        let mask = Mask::host(alloc, text)?;
+        Ok(Hostmask { mask, alloc })
+    }
+
+    /// The text as it was given.
+    pub fn as_bytes(&self) -> &[u8]
+        ensures { result.now ≡ self.now }
+    {
+        self.mask.text()
+    }
+
+    /// Whether the mask matches this person.
+    pub fn matches(&self, who: &[u8]) -> bool
+        ensures relation { IsTrue result ↔ IsMatch (host_mask self.now) who.now }
+        ensures test { result ≡ is_match self.now who.now }
+    {
+        self.mask.matches(who)
+    }
+
+    /// How many items of the mask are literals.
+    pub fn literals(&self) -> u8
+        ensures { result ≡ literals self.now }
+    {
+        self.mask.literals()
+    }
+
+    /// An equal mask of its own.
+    ///
+    /// # Errors
+    /// `NoMemory` where room for the copy is refused.
+    pub fn copy(&self, alloc: Global) -> Result<Hostmask, NoMemory>
+        ensures { IfOk result (λ mask. mask ≡ self.now) }
+    {
+        let mask = self.mask.copy(alloc)?;
+        Ok(Hostmask { mask, alloc })
+    }
+}
+
+impl Clone for Hostmask {
+    ghost is_clone = { λ mask twin. twin ≡ mask };
+
+    fn clone(&self) -> Result<Hostmask, AllocError> {
+        match self.copy(self.alloc) {
+            Ok(twin) => Ok(twin),
+            Err(NoMemory) => Err(AllocError),
+        }
+    }
+}
+
+/// A list of hostmasks. Contracts see the list of their texts.
+#[derive(Debug, Drop)]
+pub struct Hostmasks {
+    items: Vec<Hostmask>,
+}
+
+impl Model for Hostmasks {
+    ghost use Rattle.std.specs.Prelude.{List, ℕ};
+
+    ghost Value = { List (List ℕ) };
+
+    ghost view = { λ h. h.items.items };
+}
+
+impl Hostmasks {
+    ghost use Rattle.std.specs.Prelude.{◌≡◌, [], ◌∷◌, ◌++◌, IfOk, OnOk, OnErr, length};
+    ghost use Rattle.userfile.specs.Held.{has_mask, masks_without};
+
+    /// The list of these masks. Takes no memory.
+    pub fn new(items: Vec<Hostmask>) -> Hostmasks
+        ensures { result ≡ items.items }
+    {
+        Hostmasks { items }
+    }
+
+    /// The list without masks. Takes no memory.
+    pub fn empty(alloc: Global) -> Hostmasks
+        ensures { result ≡ [] }
+    {
+        Hostmasks::new(Vec::new(alloc))
+    }
+
+    /// The masks, in order.
+    pub fn as_slice(&self) -> &[Hostmask]
+        ensures { result.now ≡ self.now }
+    {
+        self.items.as_slice()
+    }
+
+    /// How many masks there are.
+    pub fn len(&self) -> usize
+        ensures { result ≡ length self.now }
+    {
+        self.items.len()
+    }
+
+    /// Whether one of the masks has this text by casemapping.
+    pub fn has(&self, mask: &[u8]) -> bool
+        ensures { result ≡ has_mask mask.now self.now }
+    {
+        has_mask(self.items.as_slice(), mask)
+    }
+
+    // Puts a mask behind the others.
+    pub(crate) fn push(&mut self, mask: Hostmask) -> Result<(), NoMemory>
+        ensures ok { OnOk result (self.new ≡ self.old ++ mask ∷ []) }
+        ensures err { OnErr result (self.new ≡ self.old) }
+    {
+        self.items.push(mask)?;
+        Ok(())
+    }
+
+    // Takes out the mask of this text.
+    pub(crate) fn remove(&mut self, mask: &[u8])
+        ensures { self.new ≡ masks_without mask.now self.old }
+    {
+        keep_others(&mut self.items, mask);
+    }
+
+    /// An equal list of its own.
+    ///
+    /// # Errors
+    /// `NoMemory` where room for the copy is refused.
+    pub fn copy(&self) -> Result<Hostmasks, NoMemory>
+        ensures { IfOk result (λ twin. twin ≡ self.now) }
+    {
+        Ok(Hostmasks {
+            items: self.items.clone()?,
+        })
+    }
+}
+
+impl Clone for Hostmasks {
+    ghost is_clone = { λ masks twin. twin ≡ masks };
+
+    fn clone(&self) -> Result<Hostmasks, AllocError> {
+        Ok(Hostmasks {
+            items: self.items.clone()?,
+        })
+    }
+}
+
+// Whether one of the masks has this text by casemapping.
+pub(crate) fn has_mask(masks: &[Hostmask], mask: &[u8]) -> bool
+    ensures { result ≡ has_mask mask.now masks.now }
+{
+    masks.iter().any(|held| same_text(mask, held.as_bytes()))
+}
+
+// Keeps the masks but those of this text, in their order.
+fn keep_others(masks: &mut Vec<Hostmask>, mask: &[u8])
+    ensures { masks.new.items ≡ masks_without mask.now masks.old.items }
+{
+    masks.retain(|held| !same_text(mask, held.as_bytes()));
+}

@@ -1,0 +1,54 @@
+//! The userfile: what a botnet shares about people, as the result of a numbered list of changes.
+//!
+//! A [`Userfile`] holds users and bans, each in the order in which they were added. A [`Change`] is one edit of it;
+//! [`Userfile::apply`] either makes the change whole or answers the first refusal that holds and leaves the userfile as
+//! it was. The same changes in the same order give the same records on every bot.
+//!
+//! Handles, hostmasks and channels are compared by casemapping (RFC 2812 section 2.2) and kept as they were given.
+//! [`Userfile::handle_of`] says who a person is, written as `nick!user@host`: of all hostmasks that match, the one with
+//! most literals decides, then the earlier user, then the earlier mask. [`Userfile::flags_of`] gives a user's flags, and
+//! [`Userfile::ban_for`] the first ban that keeps a person off a channel. These take no memory.
+//!
+//! ```text
+//! let mut userfile = Userfile::new(alloc);
+//! userfile.apply(alloc, &Change::AddUser { handle })?;
+//! userfile.apply(alloc, &Change::AddHost { handle, mask })?;
+//! userfile.handle_of(b"nick!user@host")
+//! ```
+#![tactic(auto)]
+
+mod ban;
+mod bans;
+mod change;
+mod channel_flags;
+mod edits;
+mod entries;
+mod error;
+mod expiry;
+mod flags;
+mod gather;
+mod hostmask;
+mod persons;
+mod refusals;
+mod shapes;
+mod texts;
+mod together;
+mod user;
+mod userfile_core;
+
+pub use crate::ban::Ban;
+pub use crate::change::Change;
+pub use crate::channel_flags::{ChannelEntries, ChannelFlags};
+pub use crate::edits::{MAX_CHANNELS, MAX_MASKS};
+pub use crate::error::{ApplyError, ChangeFault};
+pub use crate::expiry::expires_at;
+pub use crate::flags::PersonFlags;
+pub use crate::hostmask::{Hostmask, Hostmasks};
+pub use crate::refusals::shape;
+pub use crate::shapes::{is_ban_channel, is_channel, is_comment, is_handle, is_hostmask};
+pub use crate::together::{are_bans, are_users, is_ban, is_user};
+pub use crate::user::User;
+pub use crate::userfile_core::{MAX_BANS, MAX_USERS, Userfile};
+
+#[cfg(test)]
+mod tests;

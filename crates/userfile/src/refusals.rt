@@ -1,0 +1,94 @@
+// Why a change is refused, whatever the userfile holds.
+ghost use Rattle.std.specs.Prelude.{◌≡◌};
+ghost use Rattle.userfile.specs.Apply.{fault_if, fault_unless, first_of_two, bad_shape};
+ghost use Rattle.userfile.specs.Shapes.{is_handle, is_hostmask, is_ban_channel};
+ghost use Rattle.userfile.specs.declared.error.ChangeFault.TheVariants.{BadHandle, BadMask, BadChannel};
+
+use crate::change::Change;
+use crate::error::ChangeFault;
+use crate::shapes::{is_ban_channel, is_channel, is_comment, is_handle, is_hostmask};
+
+/// The refusal of a change for its own shape, whatever a userfile holds; none where the shape is good. Takes no memory.
+pub fn shape(change: &Change) -> Option<ChangeFault>
+    ensures { result ≡ bad_shape change.now }
+{
+    match change {
+        Change::AddUser { handle }
+        | Change::DelUser { handle }
+        | Change::SetGlobal { handle, .. }
+        | Change::SetBot { handle, .. } => handle_fault(handle.as_bytes()),
+        Change::AddHost { handle, mask } | Change::DelHost { handle, mask } => {
+            first_of_two(handle_fault(handle.as_bytes()), mask_fault(mask.as_bytes()))
+        }
+        Change::SetChan {
+            handle,
+            channel,
+            ..
+        } => first_of_two(
+            handle_fault(handle.as_bytes()),
+            fault_unless(is_channel(channel.as_bytes()), ChangeFault::BadChannel),
+        ),
+        Change::AddBan {
+            channel,
+            mask,
+            creator,
+            comment,
+            ..
+        } => first_of_two(
+            handle_fault(creator.as_bytes()),
+            first_of_two(
+                ban_fault(channel.as_bytes(), mask.as_bytes()),
+                fault_unless(is_comment(comment.as_bytes()), ChangeFault::BadText),
+            ),
+        ),
+        Change::DelBan { channel, mask } => ban_fault(channel.as_bytes(), mask.as_bytes()),
+    }
+}
+
+fn handle_fault(handle: &[u8]) -> Option<ChangeFault>
+    ensures { result ≡ fault_unless (is_handle handle.now) BadHandle }
+{
+    fault_unless(is_handle(handle), ChangeFault::BadHandle)
+}
+
+fn mask_fault(mask: &[u8]) -> Option<ChangeFault>
+    ensures { result ≡ fault_unless (is_hostmask mask.now) BadMask }
+{
+    fault_unless(is_hostmask(mask), ChangeFault::BadMask)
+}
+
+fn ban_fault(channel: &[u8], mask: &[u8]) -> Option<ChangeFault>
+    ensures { result ≡ first_of_two (fault_unless (is_hostmask mask.now) BadMask) (fault_unless (is_ban_channel channel.now) BadChannel) }
+{
+    first_of_two(
+        mask_fault(mask),
+        fault_unless(is_ban_channel(channel), ChangeFault::BadChannel),
+    )
+}
+
+// This fault where the test passes.
+pub(crate) fn fault_if(test: bool, fault: ChangeFault) -> Option<ChangeFault>
+    ensures { result ≡ fault_if test fault }
+{
+    if test { Some(fault) } else { None }
+}
+
+// This fault where the test fails.
+pub(crate) fn fault_unless(test: bool, fault: ChangeFault) -> Option<ChangeFault>
+    ensures { result ≡ fault_unless test fault }
+{
+    if test { None } else { Some(fault) }
+}
+
+// The first of two refusals.
+pub(crate) fn first_of_two(
+    first: Option<ChangeFault>,
+    later: Option<ChangeFault>,
+) -> Option<ChangeFault>
+    ensures { result ≡ first_of_two first later }
+{
+    match first {
+        Some(fault) => Some(fault),
+        None => later,
+    }
+}

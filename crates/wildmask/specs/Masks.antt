@@ -1,0 +1,59 @@
+-- A mask as it was given, why a text is no mask, and what making one answers.
+use Rattle.std.specs.Prelude.{◌≡◌, ℕ, Bool, ◌==◌, ◌&&◌, ◌||◌, nat_lt, if◌then◌else◌, List, length, Option, Some, None, Result, Ok, Err, codes}
+use Rattle.std.specs.List.{list_all, list_any, after_first}
+use Rattle.wildmask.specs.declared.items.MaskKind.{MaskKind}
+use Rattle.wildmask.specs.declared.items.MaskKind.TheVariants.{Bind, Host}
+use Rattle.wildmask.specs.declared.faults.MaskFault.{MaskFault}
+use Rattle.wildmask.specs.declared.faults.MaskFault.TheVariants.{MaskEmpty, MaskTooLong, NotAHostmask}
+use Rattle.wildmask.specs.declared.faults.MaskError.{MaskError}
+use Rattle.wildmask.specs.declared.faults.MaskError.TheVariants.{Refused, NoMemory}
+use Rattle.wildmask.specs.Items.{items_of, is_bind}
+use Rattle.wildmask.specs.Matching.{Matches}
+
+-- a mask: the text as it was given, and where it is used
+pub record GivenMask : Type 0 where
+  pub kind : MaskKind
+  pub text : List ℕ
+
+abbrev pub bind_mask : List ℕ → GivenMask
+bind_mask text = record { kind = Bind; text = text }
+
+abbrev pub host_mask : List ℕ → GivenMask
+host_mask text = record { kind = Host; text = text }
+
+-- whether a mask matches a text
+abbrev pub IsMatch : GivenMask → List ℕ → Type 0
+IsMatch mask text = Matches (items_of mask.kind mask.text) text
+
+-- ---- why a text is no mask
+
+-- each byte is above 32, and behind the first ! there is an @
+abbrev pub is_hostmask : List ℕ → Bool
+is_hostmask text = list_all (λ b. nat_lt 32 b) text && list_any (λ b. b == 64) (after_first (λ b. b == 33) text)
+
+-- the first fault of a mask's text: it is empty, it has more than 120 bytes, or it should be a hostmask and is none
+abbrev pub fault_of : MaskKind → List ℕ → Option MaskFault
+fault_of mask_kind text =
+    if length text == 0 then Some MaskEmpty else
+    (if nat_lt 120 (length text) then Some MaskTooLong else
+    (if is_bind mask_kind || is_hostmask text then None else Some NotAHostmask))
+
+abbrev pub bind_fault : List ℕ → Option MaskFault
+bind_fault text = fault_of Bind text
+
+abbrev pub host_fault : List ℕ → Option MaskFault
+host_fault text = fault_of Host text
+
+-- the letters of a fault
+abbrev pub fault_code : MaskFault → List ℕ
+fault_code MaskEmpty = codes "M2"
+fault_code MaskTooLong = codes "M1"
+fault_code NotAHostmask = codes "M3"
+
+-- ---- what making a mask answers: a text without a fault gives its mask, or there is no memory for it; any other is
+-- refused for its first fault, whatever memory there is
+
+abbrev pub Makes : MaskKind → List ℕ → Result GivenMask MaskError → Type 0
+Makes mask_kind text (Ok mask) = (fault_of mask_kind text ≡ None) × (mask ≡ record { kind = mask_kind; text = text })
+Makes mask_kind text (Err (Refused fault)) = fault_of mask_kind text ≡ Some fault
+Makes mask_kind text (Err NoMemory) = fault_of mask_kind text ≡ None

@@ -1,0 +1,62 @@
+// Which texts are masks.
+ghost use Rattle.std.specs.Prelude.{◌≡◌, ◌==◌, nat_lt, position};
+ghost use Rattle.std.specs.List.{list_all};
+ghost use Rattle.wildmask.specs.Masks.{fault_of, bind_fault, host_fault, is_hostmask};
+
+use crate::faults::MaskFault;
+use crate::items::MaskKind;
+
+/// The bytes that a mask has at most.
+const MOST_BYTES: usize = 120;
+
+/// What [`Mask::bind`](crate::Mask::bind) would refuse this text for. Takes no memory.
+pub fn bind_fault(text: &[u8]) -> Option<MaskFault>
+    ensures { result ≡ bind_fault text.now }
+{
+    fault_of(MaskKind::Bind, text)
+}
+
+/// What [`Mask::host`](crate::Mask::host) would refuse this text for. Takes no memory.
+pub fn host_fault(text: &[u8]) -> Option<MaskFault>
+    ensures { result ≡ host_fault text.now }
+{
+    fault_of(MaskKind::Host, text)
+}
+
+/// The first fault of a mask's text.
+pub fn fault_of(kind: MaskKind, text: &[u8]) -> Option<MaskFault>
+    ensures { result ≡ fault_of kind text.now }
+{
+    if text.is_empty() {
+        return Some(MaskFault::MaskEmpty);
+    }
+    if text.len() > MOST_BYTES {
+        return Some(MaskFault::MaskTooLong);
+    }
+    match kind {
+        MaskKind::Host if !is_hostmask(text) => Some(MaskFault::NotAHostmask),
+        _ => None,
+    }
+}
+
+// Whether each byte is above the space, and an `@` stands behind the first `!`.
+fn is_hostmask(text: &[u8]) -> bool
+    ensures { result ≡ is_hostmask text.now }
+{
+    let Some(bang) = first_bang(text) else {
+        return false;
+    };
+    is_printable(text) && text[bang + 1..].contains(&b'@')
+}
+
+fn is_printable(text: &[u8]) -> bool
+    ensures { result ≡ list_all (λ b. nat_lt 32 b) text.now }
+{
+    text.iter().all(|byte| *byte > b' ')
+}
+
+fn first_bang(text: &[u8]) -> Option<usize>
+    ensures { result ≡ position (λ b. b == 33) text.now }
+{
+    text.iter().position(|byte| *byte == b'!')
+}

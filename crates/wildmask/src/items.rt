@@ -1,0 +1,63 @@
+// The items of a mask's text.
+ghost use Rattle.std.specs.Prelude.{◌≡◌, ◌<◌, [], ◌∷◌, length, MatchOption};
+ghost use Rattle.wildmask.specs.Items.{items_of, item_of, is_special};
+
+/// Where a mask is used, which decides what `%` and `~` mean in it.
+#[derive(Clone, Copy, Debug, Drop)]
+pub enum MaskKind {
+    /// In a bind, where `%` and `~` are special.
+    Bind,
+    /// As a hostmask, where they are literals.
+    Host,
+}
+
+/// One item of a mask.
+#[derive(Clone, Copy, Drop)]
+pub enum Item {
+    /// A byte, in either case.
+    Literal(u8),
+    /// `?`: one byte.
+    AnyByte,
+    /// `*`: any bytes.
+    AnyText,
+    /// `%` of a bind: any bytes without a space.
+    NoSpace,
+    /// `~` of a bind: one or more spaces.
+    Spaces,
+}
+
+/// The first item of what is left of a mask's text, and what is left behind it; `None` at the end.
+pub fn next_item(kind: MaskKind, mask: &[u8]) -> Option<(Item, &[u8])>
+    ensures items { MatchOption result (mask.now ≡ [])
+        (λ next. items_of kind mask.now ≡ next.0 ∷ items_of kind next.1.now) }
+    ensures shorter { MatchOption result (Unit {0}) (λ next. length next.1.now < length mask.now) }
+{
+    match mask {
+        [] => None,
+        [b'\\', escaped, rest @ ..] if is_special(*escaped) => Some((
+            Item::Literal(*escaped),
+            rest,
+        )),
+        [byte, rest @ ..] => Some((item_of(kind, *byte), rest)),
+    }
+}
+
+// Whether a backslash before the byte takes its meaning away.
+fn is_special(byte: u8) -> bool
+    ensures { result ≡ is_special byte }
+{
+    matches!(byte, b'?' | b'*' | b'%' | b'~' | b'\\')
+}
+
+// The item of a byte that no backslash stands before.
+fn item_of(kind: MaskKind, byte: u8) -> Item
+    ensures { result ≡ item_of kind byte }
+{
+    match (kind, byte) {
+        (_, b'?') => Item::AnyByte,
+        (_, b'*') => Item::AnyText,
+        (MaskKind::Bind, b'%') => Item::NoSpace,
+        (MaskKind::Bind, b'~') => Item::Spaces,
+        _ => Item::Literal(byte),
+    }
+}

@@ -1,0 +1,37 @@
+//! Masks: texts with wildcards, which binds and hostmasks are matched by.
+//!
+//! A mask is a list of items, and each item takes some texts:
+//!
+//! | in the mask | in a bind | in a hostmask |
+//! |---|---|---|
+//! | `?` | any one byte | any one byte |
+//! | `*` | any bytes | any bytes |
+//! | `%` | any bytes without a space | the byte `%` |
+//! | `~` | one or more spaces | the byte `~` |
+//! | `\` before one of `? * % ~ \` | that byte | that byte |
+//! | any other byte, another `\` too | that byte, in either case | that byte, in either case |
+//!
+//! A mask matches a text where the text can be cut so that each item takes its piece, in order. Cases are those of
+//! casemapping (RFC 2812 section 2.2). The wildcards are Eggdrop's (its Tcl commands document, "bind"); the escape is
+//! this crate's own. A [`Mask`] is made by [`Mask::bind`] or [`Mask::host`], which refuse a text that is none.
+//! [`bind_fault`] and [`host_fault`] tell why without taking memory.
+//!
+//! ```text
+//! let mask = Mask::host(alloc, b"*!bo?@*.net")?;
+//! mask.matches(b"x!Bob@a.net")             // true
+//! mask.literals()                          // 8: of two masks that match, the one with more decides
+//! ```
+#![tactic(auto)]
+
+mod checks;
+mod faults;
+mod items;
+mod masks;
+mod matching;
+
+pub use crate::checks::{bind_fault, host_fault};
+pub use crate::faults::{MaskError, MaskFault};
+pub use crate::masks::Mask;
+
+#[cfg(test)]
+mod tests;
