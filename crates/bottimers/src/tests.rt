@@ -1,7 +1,8 @@
 use crate::{
-    Clock, ClockError, ClockFault, Cron, CronFault, TimerKind, Timers, civil, cron_args, time_args,
-    time_text,
+    Clock, ClockError, ClockFault, Cron, CronFault, Listed, Timer, TimerKind, Timers, civil,
+    cron_args, time_args, time_text,
 };
+use bytetext::Text;
 use std::test::Fail;
 
 #[test]
@@ -102,5 +103,37 @@ fn each_second_of_a_jump_runs_as_itself(rt: HostRuntime) -> Result<(), Fail> {
         due |= u64::from(!timers.due(alloc, second)?.is_empty()) << (second - 101);
     }
     assert_eq!(rt; due, 1 << 9 | 1 << 19 | 1 << 29 | 1 << 39 | 1 << 49);
+    Ok(())
+}
+
+#[test]
+fn a_timer_and_its_line_are_copied(rt: HostRuntime) -> Result<(), Fail> {
+    let alloc = rt.alloc();
+    let timer = Timer {
+        id: 7,
+        kind: TimerKind::Seconds,
+        made: 100,
+        interval: 10,
+        count: 3,
+        proc: Text::from_slice(alloc, b"p")?,
+    };
+    let twin = timer.copy(alloc)?;
+    assert_eq!(rt;
+        (twin.id, twin.kind, twin.made),
+        (7, TimerKind::Seconds, 100)
+    );
+    assert_eq!(rt; (twin.interval, twin.count), (10, 3));
+    assert!(rt; twin.proc.is_same(b"p"));
+    let line = Listed {
+        kind: TimerKind::Minutes,
+        left: 2,
+        proc: timer.proc,
+        id: 7,
+        repeats: 3,
+    };
+    let twin = line.copy(alloc)?;
+    assert_eq!(rt; (twin.kind, twin.left), (TimerKind::Minutes, 2));
+    assert_eq!(rt; (twin.id, twin.repeats), (7, 3));
+    assert!(rt; twin.proc.is_same(b"p"));
     Ok(())
 }

@@ -1,3 +1,4 @@
+pub mod Codes
 pub mod Net
 pub mod Posting
 pub mod Network

@@ -1,5 +1,6 @@
 // Why a world is not made.
 ghost use Rattle.std.specs.Prelude.{◌≡◌};
+ghost use Rattle.botworld.specs.Codes.{fault_code};
 ghost use Rattle.botworld.specs.declared.error.WorldError.TheVariants.{NoMemory as no_memory};
 
 use bytetext::NoMemory;
@@ -16,8 +17,12 @@ pub enum WorldFault {
 
 impl WorldFault {
     /// The letter and number of the refusal.
-    pub fn code(self) -> &'static str {
-        "O1"
+    pub fn code(self) -> &'static str
+        ensures { result.now ≡ fault_code self }
+    {
+        match self {
+            WorldFault::BadWorld => "O1",
+        }
     }
 }
 

@@ -1,5 +1,7 @@
 // What came of steps.
 ghost use Rattle.std.specs.Prelude.{◌≡◌, length};
+ghost use Rattle.std.specs.Option.{option_copied};
+ghost use Rattle.botworld.specs.Codes.{outcome_code};
 
 use sharelink::{LinkFault, Note};
 use std::marker::Model;
@@ -41,7 +43,9 @@ pub enum Outcome {
 
 impl Outcome {
     /// The letter and number of an outcome in which no bot took part; none for a report.
-    pub fn code(&self) -> Option<&'static str> {
+    pub fn code(&self) -> Option<&'static str>
+        ensures { option_copied result ≡ outcome_code self.now }
+    {
         match self {
             Outcome::Report(_) => None,
             Outcome::NoSuchBot => Some("O2"),

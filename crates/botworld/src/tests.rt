@@ -1,4 +1,4 @@
-use crate::{End, Event, Outcome, Report, Step, World, WorldError};
+use crate::{End, Event, Outcome, Report, Step, World, WorldError, WorldFault};
 use bytetext::{NoMemory, Text};
 use sharelink::Note;
 use std::alloc::Global;
@@ -46,6 +46,7 @@ fn a_world_has_at_most_a_thousand_leaves(rt: HostRuntime) -> Result<(), Fail> {
     assert_eq!(rt; World::new(rt.alloc(), 1000)?.version(1000), Some(0));
     let refused = World::new(rt.alloc(), 1001).err();
     assert!(rt; matches!(refused, Some(WorldError::Refused(_))));
+    assert_eq!(rt; WorldFault::BadWorld.code(), "O1");
     Ok(())
 }
 
@@ -102,5 +103,8 @@ fn what_is_not_there_changes_nothing(rt: HostRuntime) -> Result<(), Fail> {
     ];
     assert_eq!(rt; transcript.outcomes.as_slice(), expected.as_slice());
     assert_eq!(rt; world.version(0), Some(0));
+    assert_eq!(rt; Outcome::NoSuchBot.code(), Some("O2"));
+    assert_eq!(rt; Outcome::NoSuchPacket.code(), Some("O3"));
+    assert_eq!(rt; expected[0].code(), None);
     Ok(())
 }

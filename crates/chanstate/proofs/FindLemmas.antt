@@ -1,5 +1,5 @@
 -- The first element that passes a test, behind an edit of the first that passes another.
-use Rattle.std.proofs.Common.{◌≡◌, ℕ, Bool, true, false, cond, not, ◌&&◌, ◌||◌, Option, Some, None, List, [], ◌∷◌, ◌++◌, map, eqb, refl, sym, ap, ◌∙◌}
+use Rattle.std.proofs.Common.{◌≡◌, ℕ, Bool, true, false, cond, ◌&&◌, ◌||◌, Option, Some, None, List, [], ◌∷◌, ◌++◌, map, eqb, refl, sym, ap, ◌∙◌}
 use Rattle.std.specs.Prelude.{find, is_some, nat_eq}
 use Rattle.std.specs.Option.{option_map}
 use Rattle.std.specs.List.{list_any}
@@ -32,7 +32,7 @@ pointwise-refl (x ∷ xs) = rw (eq-eqb x x refl) (pointwise-refl xs)
 pub alike-refl : (a : List ℕ) → alike a a ≡ true
 alike-refl a = pointwise-refl (folded a)
 
-folds-same : (a b : List ℕ) → alike a b ≡ true → folded a ≡ folded b
+pub folds-same : (a b : List ℕ) → alike a b ≡ true → folded a ≡ folded b
 folds-same a b is = pointwise-same (folded a) (folded b) is
 
 -- alike names are alike to the same names

@@ -1,26 +1,25 @@
 -- The state after some items is what looking back over them says.
-use Rattle.std.proofs.Common.{◌≡◌, ℕ, Bool, true, false, cond, not, ◌||◌, ◌&&◌, suc, map, length, Option, Some, None, List, [], ◌∷◌, ◌++◌, refl, sym, ap, subst, ◌∙◌}
+use Rattle.std.proofs.Common.{◌≡◌, ℕ, Bool, true, false, cond, not, ◌||◌, ◌&&◌, suc, map, length, Option, Some, None, List, [], ◌∷◌, refl, sym, ap, subst, ◌∙◌}
 use Rattle.std.specs.Prelude.{find, is_some, unwrap_or, IfSome}
 use Rattle.std.specs.Option.{option_map}
-use Rattle.std.proofs.lemmas.Bool.{cond-true, cond-false}
 use Rattle.chanstate.specs.declared.member.Member.{Member}
-use Rattle.chanstate.specs.declared.member.Mark.{Mark}
 use Rattle.chanstate.specs.declared.member.Mark.TheVariants.{Op, Voice, HalfOp}
 use Rattle.chanstate.specs.declared.channel.Channel.{Channel}
 use Rattle.chanstate.specs.declared.state.ChanState.{ChanState}
 use Rattle.ircline.specs.declared.message.Message.{Message}
 use Rattle.chanstate.specs.Names.{alike}
-use Rattle.chanstate.specs.Members.{is_called, unmarked, with_mark, with_address, with_marks_of, with_nick}
-use Rattle.chanstate.specs.Channels.{opened, with_topic, with_members}
+use Rattle.chanstate.specs.Members.{is_called, with_nick}
+use Rattle.chanstate.specs.Channels.{with_topic, with_members}
 use Rattle.chanstate.specs.Items.{Item, Welcomed, Joined, Left, Departed, Renamed, Marked, Titled, Listed, Addressed, items_of}
 use Rattle.chanstate.specs.Steps.{step, steps, after}
 use Rattle.chanstate.specs.Views.{connected, channel_in, members_of, member_in}
-use Rattle.chanstate.specs.History.{own, own_said, held, channel_said, topic, topic_said, spelling, name_said, on, nick_said, known, member_said, has_mark, marked, mark_begins, mark_says, if_same_mark, user_begins, user_says, host_begins, host_says, nick_begins, nick_says, IsAsSaid, Agrees, before, history_from, history, after_all, arrival, joins, opening}
+use Rattle.chanstate.specs.History.{own, own_said, held, channel_said, topic, topic_said, spelling, name_said, on, nick_said, known, member_said, has_mark, marked, mark_begins, mark_says, user_begins, user_says, host_begins, host_says, nick_begins, nick_says, IsAsSaid, Agrees, before, history_from, history, after_all, arrival, joins, opening}
 use Rattle.chanstate.proofs.FindLemmas.{list_any-find}
 use Rattle.chanstate.proofs.DistinctLemmas.{Distinct}
 use Rattle.chanstate.proofs.OrderLemmas.{Ordered, at, on_name, arrival-alike, order-after, channels-in-order}
-use Rattle.chanstate.proofs.LookLemmas.{come_as, come_as-none, come_as-some, rename_as, rename_as-none, rename_as-some}
-use Rattle.chanstate.proofs.ItemLemmas.{nick_of_member, name_of, channel_after, channel_in-step, distinct-step, members-after, member_after, member-after, mark_keeps}
+use Rattle.chanstate.proofs.LookLemmas.{rename_as, rename_as-none, rename_as-some}
+use Rattle.chanstate.proofs.ItemLemmas.{nick_of_member, name_of, channel_after, channel_in-step, distinct-step, members-after, member_after, member-after}
+use Rattle.chanstate.proofs.PartLemmas.{Has, Part, known-after, nick_part, user_part, host_part, op_part, voice_part, half_op_part}
 
 -- ---- the bot's nick
 
@@ -188,187 +187,6 @@ on-after (Marked d mark set nick) me here c x look = some_same (alike c d && ali
 on-after (Titled d topic) me here c x look = refl
 on-after (Listed d one) me here c x look = o_listed (alike c d && (here && alike x one.nick)) _ (look x)
 on-after (Addressed d nick user host) me here c x look = some_same (alike c d && alike x nick) (look x) _ (some-map _ (look x))
-
--- ---- what is known of a member
-
--- how a part of a member begins and changes, as the items say
-pub record Part {A : Type 0} (get : Member → A) (begins : Item → A) (says : Item → Option A) : Type 0 where
-  pub joins : (nick user host d : List ℕ) → get (unmarked nick user host) ≡ begins (Joined nick user host d)
-  pub rejoins : (nick user host d : List ℕ) (m : Member) → get (with_address user host m) ≡ unwrap_or (says (Joined nick user host d)) (get m)
-  pub lists : (d : List ℕ) (one : Member) → get one ≡ begins (Listed d one)
-  pub relists : (d : List ℕ) (one m : Member) → get (with_marks_of one m) ≡ unwrap_or (says (Listed d one)) (get m)
-  pub renames : (old new : List ℕ) (m : Member) → get (with_nick new m) ≡ unwrap_or (says (Renamed old new)) (get m)
-  pub marks : (d : List ℕ) (mark : Mark) (set : Bool) (nick : List ℕ) (m : Member) → get (with_mark mark set m) ≡ unwrap_or (says (Marked d mark set nick)) (get m)
-  pub addresses : (d nick user host : List ℕ) (m : Member) → get (with_address user host m) ≡ unwrap_or (says (Addressed d nick user host)) (get m)
-
-abbrev pub Has : {A : Type 0} → (Member → A) → A → Option Member → Type 0
-Has get a o = IfSome o (λ m. get m ≡ a)
-
-d_come : {A : Type 0} (get : Member → A) (one : Member) (f : Member → Member) (begins : A) (says : Option A) (a : A) (o : Option Member) →
-    get one ≡ begins → ((m : Member) → get (f m) ≡ unwrap_or says (get m)) → Has get a o → get (come_as one f o) ≡ cond (not (is_some o)) begins (unwrap_or says a)
-d_come get one f begins says a None new old is = ap get (come_as-none one f) ∙ new
-d_come get one f begins says a (Some m) new old is = ap get (come_as-some one f m) ∙ (old m ∙ ap (unwrap_or says) is)
-
-d_joined : {A : Type 0} (get : Member → A) (one : Member) (f : Member → Member) (begins : A) (says : Option A) (a : A) (o : Option Member) (b1 b2 b3 here : Bool) →
-    get one ≡ begins → ((m : Member) → get (f m) ≡ unwrap_or says (get m)) → (here ≡ false → o ≡ None) → Has get a o →
-    Has get (cond (b1 && b3) (cond (b2 || not (is_some o)) begins (unwrap_or says a)) a) (cond b1 (cond b2 (cond b3 (Some one) None) (cond (here && b3) (Some (come_as one f o)) o)) o)
-d_joined get one f begins says a o true true true here new old away is = new
-d_joined get one f begins says a o true true false here new old away is = tt
-d_joined get one f begins says a o true false true true new old away is = d_come get one f begins says a o new old is
-d_joined get one f begins says a o true false true false new old away is = subst (λ w. Has get (cond (not (is_some o)) begins (unwrap_or says a)) w) (sym (away refl)) tt
-d_joined get one f begins says a o true false false true new old away is = is
-d_joined get one f begins says a o true false false false new old away is = is
-d_joined get one f begins says a o false b2 b3 here new old away is = is
-
-swapped : {A : Type 0} (b : Bool) (x y : A) → cond (not b) x y ≡ cond b y x
-swapped true x y = refl
-swapped false x y = refl
-
-d_listed : {A : Type 0} (get : Member → A) (one : Member) (f : Member → Member) (begins : A) (says : Option A) (a : A) (o : Option Member) (b1 b3 here : Bool) →
-    get one ≡ begins → ((m : Member) → get (f m) ≡ unwrap_or says (get m)) → (here ≡ false → o ≡ None) → Has get a o →
-    Has get (cond (b1 && b3) (cond (is_some o) (unwrap_or says a) begins) a) (cond (b1 && (here && b3)) (Some (come_as one f o)) o)
-d_listed get one f begins says a o true true true new old away is = d_come get one f begins says a o new old is ∙ swapped (is_some o) begins (unwrap_or says a)
-d_listed get one f begins says a o true true false new old away is = subst (λ w. Has get (cond (is_some o) (unwrap_or says a) begins) w) (sym (away refl)) tt
-d_listed get one f begins says a o true false true new old away is = is
-d_listed get one f begins says a o true false false new old away is = is
-d_listed get one f begins says a o false b3 here new old away is = is
-
-d_changed : {A : Type 0} (get : Member → A) (f : Member → Member) (says : Option A) (a : A) (o : Option Member) (b : Bool) →
-    ((m : Member) → get (f m) ≡ unwrap_or says (get m)) → Has get a o → Has get (cond b (unwrap_or says a) a) (cond b (option_map f o) o)
-d_changed get f says a None true old is = tt
-d_changed get f says a (Some m) true old is = old m ∙ ap (unwrap_or says) is
-d_changed get f says a o false old is = is
-
-d_gone : {A : Type 0} (get : Member → A) (a : A) (o : Option Member) (b : Bool) → Has get a o → Has get a (cond b None o)
-d_gone get a o true is = tt
-d_gone get a o false is = is
-
-d_renamed_some : {A : Type 0} (get : Member → A) (new : Member) (now a : A) (o : Option Member) (b2 b3 : Bool) → get new ≡ now → Has get a o → Has get (cond b2 now a) (cond b2 (Some new) (cond b3 None o))
-d_renamed_some get new now a o true b3 made is = made
-d_renamed_some get new now a o false true made is = tt
-d_renamed_some get new now a o false false made is = is
-
-d_renamed : {A : Type 0} (get : Member → A) (old new x : List ℕ) (says : Option A) (a e : A) (w o : Option Member) → ((m : Member) → get (with_nick new m) ≡ unwrap_or says (get m)) → Has get e w → Has get a o →
-    Has get (cond (is_some w && alike x new) (unwrap_or says e) a) (rename_as old new x w o)
-d_renamed get old new x says a e None o made before is = subst (λ z. Has get a z) (sym (rename_as-none old new x o)) is
-d_renamed get old new x says a e (Some m) o made before is =
-    subst (λ z. Has get (cond (alike x new) (unwrap_or says e) a) z) (sym (rename_as-some old new x m o))
-    (d_renamed_some get (with_nick new m) (unwrap_or says e) a o (alike x new) (alike x old) (made m ∙ ap (unwrap_or says) before) is)
-
-pub known-after : {A : Type 0} (get : Member → A) (begins : Item → A) (says : Item → Option A) → Part get begins says →
-    (item : Item) (me : List ℕ) (here : Bool) (c x : List ℕ) (look : List ℕ → Option Member) (before : List ℕ → A) → (here ≡ false → look x ≡ None) → ((y : List ℕ) → Has get (before y) (look y)) →
-    Has get (member_said begins says item me c (λ y. is_some (look y)) before x) (member_after item me here c look x)
-known-after get begins says part (Welcomed nick) me here c x look before away is = tt
-known-after get begins says part (Joined nick user host d) me here c x look before away is =
-    d_joined get (unmarked nick user host) (with_address user host) (begins (Joined nick user host d)) (says (Joined nick user host d)) (before x) (look x) (alike c d) (alike nick me) (alike x nick) here
-    (part.joins nick user host d) (part.rejoins nick user host d) away (is x)
-known-after get begins says part (Left nick d) me here c x look before away is = d_gone get (before x) (look x) (alike c d && (alike nick me || alike x nick)) (is x)
-known-after get begins says part (Departed nick) me here c x look before away is = d_gone get (before x) (look x) (alike nick me || alike x nick) (is x)
-known-after get begins says part (Renamed old new) me here c x look before away is =
-    d_renamed get old new x (says (Renamed old new)) (before x) (before old) (look old) (look x) (part.renames old new) (is old) (is x)
-known-after get begins says part (Marked d mark set nick) me here c x look before away is =
-    d_changed get (with_mark mark set) (says (Marked d mark set nick)) (before x) (look x) (alike c d && alike x nick) (part.marks d mark set nick) (is x)
-known-after get begins says part (Titled d topic) me here c x look before away is = is x
-known-after get begins says part (Listed d one) me here c x look before away is =
-    d_listed get one (with_marks_of one) (begins (Listed d one)) (says (Listed d one)) (before x) (look x) (alike c d) (alike x one.nick) here
-    (part.lists d one) (part.relists d one) away (is x)
-known-after get begins says part (Addressed d nick user host) me here c x look before away is =
-    d_changed get (with_address user host) (says (Addressed d nick user host)) (before x) (look x) (alike c d && alike x nick) (part.addresses d nick user host) (is x)
-
--- ---- the parts of a member
-
-mark_keeps_user : (mark : Mark) (set : Bool) (m : Member) → (with_mark mark set m).user ≡ m.user
-mark_keeps_user Op set m = refl
-mark_keeps_user Voice set m = refl
-mark_keeps_user HalfOp set m = refl
-
-mark_keeps_host : (mark : Mark) (set : Bool) (m : Member) → (with_mark mark set m).host ≡ m.host
-mark_keeps_host Op set m = refl
-mark_keeps_host Voice set m = refl
-mark_keeps_host HalfOp set m = refl
-
-or_is : (a b : Bool) → (a || b) ≡ unwrap_or (cond b (Some true) None) a
-or_is true true = refl
-or_is true false = refl
-or_is false true = refl
-or_is false false = refl
-
-mark_set : (k mark : Mark) (set : Bool) (m : Member) → has_mark k (with_mark mark set m) ≡ unwrap_or (if_same_mark k mark set) (has_mark k m)
-mark_set Op Op set m = refl
-mark_set Op Voice set m = refl
-mark_set Op HalfOp set m = refl
-mark_set Voice Op set m = refl
-mark_set Voice Voice set m = refl
-mark_set Voice HalfOp set m = refl
-mark_set HalfOp Op set m = refl
-mark_set HalfOp Voice set m = refl
-mark_set HalfOp HalfOp set m = refl
-
-nick_part : Part (λ m. m.nick) nick_begins nick_says
-nick_part = record {
-  joins = λ nick user host d. refl;
-  rejoins = λ nick user host d m. refl;
-  lists = λ d one. refl;
-  relists = λ d one m. refl;
-  renames = λ old new m. refl;
-  marks = λ d mark set nick m. mark_keeps mark set m;
-  addresses = λ d nick user host m. refl;
-}
-
-user_part : Part (λ m. m.user) user_begins user_says
-user_part = record {
-  joins = λ nick user host d. refl;
-  rejoins = λ nick user host d m. refl;
-  lists = λ d one. refl;
-  relists = λ d one m. refl;
-  renames = λ old new m. refl;
-  marks = λ d mark set nick m. mark_keeps_user mark set m;
-  addresses = λ d nick user host m. refl;
-}
-
-host_part : Part (λ m. m.host) host_begins host_says
-host_part = record {
-  joins = λ nick user host d. refl;
-  rejoins = λ nick user host d m. refl;
-  lists = λ d one. refl;
-  relists = λ d one m. refl;
-  renames = λ old new m. refl;
-  marks = λ d mark set nick m. mark_keeps_host mark set m;
-  addresses = λ d nick user host m. refl;
-}
-
-op_part : Part (has_mark Op) (mark_begins Op) (mark_says Op)
-op_part = record {
-  joins = λ nick user host d. refl;
-  rejoins = λ nick user host d m. refl;
-  lists = λ d one. refl;
-  relists = λ d one m. or_is m.op one.op;
-  renames = λ old new m. refl;
-  marks = λ d mark set nick m. mark_set Op mark set m;
-  addresses = λ d nick user host m. refl;
-}
-
-voice_part : Part (has_mark Voice) (mark_begins Voice) (mark_says Voice)
-voice_part = record {
-  joins = λ nick user host d. refl;
-  rejoins = λ nick user host d m. refl;
-  lists = λ d one. refl;
-  relists = λ d one m. or_is m.voice one.voice;
-  renames = λ old new m. refl;
-  marks = λ d mark set nick m. mark_set Voice mark set m;
-  addresses = λ d nick user host m. refl;
-}
-
-half_op_part : Part (has_mark HalfOp) (mark_begins HalfOp) (mark_says HalfOp)
-half_op_part = record {
-  joins = λ nick user host d. refl;
-  rejoins = λ nick user host d m. refl;
-  lists = λ d one. refl;
-  relists = λ d one m. or_is m.half_op one.half_op;
-  renames = λ old new m. refl;
-  marks = λ d mark set nick m. mark_set HalfOp mark set m;
-  addresses = λ d nick user host m. refl;
-}
 
 -- ---- all of it
 

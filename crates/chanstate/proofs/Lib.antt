@@ -5,5 +5,10 @@ pub mod FindLemmas
 pub mod DistinctLemmas
 pub mod LookLemmas
 pub mod ItemLemmas
+pub mod PartLemmas
 pub mod HistoryLemmas
+pub mod RosterLemmas
+pub mod RenamingLemmas
+pub mod ReadyLemmas
 pub mod OrderLemmas
+pub mod UndoLemmas

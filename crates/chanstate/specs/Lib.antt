@@ -9,3 +9,6 @@ pub mod Views
 pub mod EventShape
 pub mod Events
 pub mod History
+pub mod Keys
+pub mod Renamings
+pub mod Undos

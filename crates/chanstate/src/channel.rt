@@ -2,10 +2,12 @@
 ghost use Rattle.std.specs.Prelude.{◌≡◌, IfOk};
 ghost use Rattle.chanstate.specs.Channels.{opened, with_members};
 ghost use Rattle.chanstate.specs.Members.{is_called, renamed};
+ghost use Rattle.chanstate.specs.Renamings.{MayBeReady};
 ghost use Rattle.chanstate.specs.Firsts.{first_removed};
 
 use crate::member::Member;
-use crate::members::Members;
+use crate::renaming::Renaming;
+use crate::roster::Roster;
 use bytetext::{NoMemory, Text};
 use std::alloc::Global;
 
@@ -14,7 +16,7 @@ use std::alloc::Global;
 pub struct Channel {
     pub(crate) name: Text,
     pub(crate) topic: Text,
-    pub(crate) members: Members,
+    pub(crate) members: Roster,
 }
 
 impl Channel {
@@ -25,7 +27,7 @@ impl Channel {
         Ok(Channel {
             name: Text::from_slice(alloc, name)?,
             topic: Text::empty(alloc),
-            members: Members::one(alloc, bot)?,
+            members: Roster::one(alloc, bot)?,
         })
     }
 
@@ -36,7 +38,7 @@ impl Channel {
         Ok(Channel {
             name: self.name.copy(alloc)?,
             topic: self.topic.copy(alloc)?,
-            members: self.members.copy(alloc)?,
+            members: self.members.copy()?,
         })
     }
 
@@ -47,10 +49,13 @@ impl Channel {
         self.members.remove(nick);
     }
 
-    // Someone takes another nick.
-    pub(crate) fn rename(&mut self, old: &[u8], new: Text)
-        ensures { self.new ≡ with_members (renamed old.now new) self.old }
+    // Someone takes another nick, if they are a member.
+    pub(crate) fn rename(&mut self, old: &[u8], new: &[u8], with: Option<Renaming>)
+        requires { MayBeReady old.now new.now self.old.members with }
+        ensures { self.new ≡ with_members (renamed old.now new.now) self.old }
     {
-        self.members.rename(old, new);
+        if let Some(with) = with {
+            self.members.rename(old, with);
+        }
     }
 }

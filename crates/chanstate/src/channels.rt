@@ -1,8 +1,11 @@
 // The channels that the bot is on.
-ghost use Rattle.std.specs.Prelude.{◌≡◌, [], length, IfOk, MatchResult, position, replicate, map, filter, find};
+ghost use Rattle.std.specs.Prelude.{◌≡◌, ◌+◌, ◌<◌, ◌≤◌, [], IfOk, MatchResult, position, length, map, filter, find};
 ghost use Rattle.std.specs.Option.{option_copied};
 ghost use Rattle.std.specs.List.{filter_map};
 ghost use Rattle.chanstate.specs.Items.{named};
+ghost use Rattle.std.specs.Vec.{vec_len, vec_capacity};
+ghost use Rattle.chanstate.specs.Undos.{put_each_last};
+ghost use Rattle.chanstate.specs.Renamings.{AreReady};
 ghost use Rattle.chanstate.specs.Firsts.{first_removed, first_changed};
 ghost use Rattle.chanstate.specs.Members.{is_called, with_mark, with_address, arrived, listed_each, has_member};
 ghost use Rattle.chanstate.specs.Channels.{is_named, is_held, with_topic, on_channel, put_last, all_without, all_renamed};
@@ -10,6 +13,7 @@ ghost use Rattle.chanstate.specs.Channels.{is_named, is_held, with_topic, on_cha
 use crate::channel::Channel;
 use crate::member::{Mark, Member};
 use crate::names::is_alike;
+use crate::renaming::Renaming;
 use bytetext::{NoMemory, Text};
 use std::alloc::Global;
 use std::marker::Model;
@@ -50,9 +54,7 @@ impl Channels {
     pub(crate) fn place(&self, name: &[u8]) -> Option<usize>
         ensures { result ≡ position (is_named name.now) self.now }
     {
-        self.items
-            .iter()
-            .position(|channel| is_alike(name, channel.name.as_bytes()))
+        place_in(self.items.as_slice(), name)
     }
 
     // Whether there is a channel of this name.
@@ -105,15 +107,12 @@ impl Channels {
         }
     }
 
-    // Puts a channel last, anew where it is held.
-    pub(crate) fn put_last(&mut self, channel: Channel) -> Result<(), NoMemory>
-        ensures { MatchResult result (λ _. self.new ≡ put_last channel self.old) (λ _. self.new ≡ self.old) }
+    // Puts each of these channels last, anew where it is held, in their order.
+    pub(crate) fn put_each_last(&mut self, channels: Vec<Channel>) -> Result<(), NoMemory>
+        ensures { MatchResult result (λ _. self.new ≡ put_each_last channels.items self.old) (λ _. self.new ≡ self.old) }
     {
-        let held = self.place(channel.name.as_bytes());
-        self.items.push(channel)?;
-        if let Some(at) = held {
-            let _gone = self.items.remove(at);
-        }
+        self.items.reserve(channels.len())?;
+        put_each(&mut self.items, channels);
         Ok(())
     }
 
@@ -125,12 +124,12 @@ impl Channels {
     }
 
     // Someone joins a channel.
-    pub(crate) fn arrive(&mut self, name: &[u8], one: Member) -> Result<(), NoMemory>
+    pub(crate) fn arrive(&mut self, alloc: Global, name: &[u8], one: Member) -> Result<(), NoMemory>
         ensures { MatchResult result (λ _. self.new ≡ on_channel name.now (arrived one) self.old) (λ _. self.new ≡ self.old) }
     {
         if let Some(at) = self.place(name) {
             let channel = &mut self.items[at];
-            channel.members.arrive(one)?;
+            channel.members.arrive(alloc, one)?;
         }
         Ok(())
     }
@@ -184,12 +183,24 @@ impl Channels {
         }
     }
 
-    // Someone takes another nick everywhere. There is a copy of the nick for each channel.
-    pub(crate) fn rename(&mut self, old: &[u8], new: &[u8], copies: Vec<Text>)
-        requires { copies.items ≡ replicate (length self.old) new.now }
+    // What it takes to rename someone on each channel.
+    pub(crate) fn renamings(
+        &self,
+        alloc: Global,
+        old: &[u8],
+        new: &[u8],
+    ) -> Result<Vec<Option<Renaming>>, NoMemory>
+        ensures { IfOk result (λ all. AreReady old.now new.now self.now all.items) }
+    {
+        renamings_for(alloc, self.items.as_slice(), old, new)
+    }
+
+    // Someone takes another nick everywhere. Takes no memory.
+    pub(crate) fn rename(&mut self, old: &[u8], new: &[u8], all: Vec<Option<Renaming>>)
+        requires { AreReady old.now new.now self.old all.items }
         ensures { self.new ≡ all_renamed old.now new.now self.old }
     {
-        rename_all(self.items.as_mut_slice(), old, new, copies);
+        rename_all(self.items.as_mut_slice(), old, new, all);
     }
 
     // An equal list of its own.
@@ -201,14 +212,64 @@ impl Channels {
     }
 }
 
+// The place of the channel of this name.
+fn place_in(channels: &[Channel], name: &[u8]) -> Option<usize>
+    ensures { result ≡ position (is_named name.now) channels.now }
+{
+    channels
+        .iter()
+        .position(|channel| is_alike(name, channel.name.as_bytes()))
+}
+
+// Puts a channel last, anew where it is held. There is room for one more.
+fn put(items: &mut Vec<Channel>, channel: Channel)
+    requires { vec_len items.old < vec_capacity items.old }
+    ensures put { items.new.items ≡ put_last channel items.old.items }
+    ensures len { vec_len items.new ≤ vec_len items.old + 1 }
+    ensures capacity { vec_capacity items.new ≡ vec_capacity items.old }
+{
+    let held = place_in(items.as_slice(), channel.name.as_bytes());
+    items.push_reserved(channel);
+    if let Some(at) = held {
+        let _gone = items.remove(at);
+    }
+}
+
+// Puts each of these channels last, in their order. There is room for each.
+fn put_each(items: &mut Vec<Channel>, channels: Vec<Channel>)
+    requires { vec_len items.old + length channels.items ≤ vec_capacity items.old }
+    ensures { items.new.items ≡ put_each_last channels.items items.old.items }
+{
+    for channel in channels {
+        put(items, channel);
+    }
+}
+
+// What it takes to rename someone on each of these, in order.
+fn renamings_for(
+    alloc: Global,
+    channels: &[Channel],
+    old: &[u8],
+    new: &[u8],
+) -> Result<Vec<Option<Renaming>>, NoMemory>
+    ensures { IfOk result (λ all. AreReady old.now new.now channels.now all.items) }
+{
+    let mut all = Vec::with_capacity(alloc, channels.len())?;
+    for channel in channels {
+        all.push(channel.members.renaming(alloc, old, new)?)?;
+    }
+    Ok(all)
+}
+
 // Someone takes another nick on each of these.
-fn rename_all(channels: &mut [Channel], old: &[u8], new: &[u8], mut copies: Vec<Text>)
-    requires { copies.items ≡ replicate (length channels.old) new.now }
+fn rename_all(channels: &mut [Channel], old: &[u8], new: &[u8], all: Vec<Option<Renaming>>)
+    requires { AreReady old.now new.now channels.old all.items }
     ensures { channels.new ≡ all_renamed old.now new.now channels.old }
 {
+    let mut rest = all.into_iter();
     for channel in channels.iter_mut() {
-        if let Some(copy) = copies.pop() {
-            channel.rename(old, copy);
+        if let Some(with) = rest.next() {
+            channel.rename(old, new, with);
         }
     }
 }

@@ -5,6 +5,10 @@
 //! and its members, in the order in which they came, with their marks and addresses. Names compare by casemapping.
 //! A message that lacks a needed parameter changes nothing, and a refusal of memory leaves the state as it was.
 //!
+//! Members are looked up by their nicks. A message costs a walk over the names of the held channels, a look-up on the
+//! channels that it names (for QUIT and NICK on every held channel), and the edit where the nick is a member; never a
+//! walk over the members of all channels.
+//!
 //! [`events`] says what a message means to those who bind procs: a raw event for every message, and those of what a
 //! person says to the bot or on a channel that it is on. They are told against the state before the message.
 //!
@@ -23,9 +27,11 @@
 mod change;
 mod channel;
 mod channels;
-mod comings;
+mod entries;
 mod event;
 mod history;
+mod joins;
+mod leavings;
 mod listings;
 mod marks;
 mod member;
@@ -33,9 +39,12 @@ mod members;
 mod modes;
 mod names;
 mod renames;
+mod renaming;
+mod roster;
 mod speech;
 mod state;
 mod topics;
+mod undo;
 mod verb;
 mod words;
 

@@ -3,7 +3,7 @@ ghost use Rattle.std.specs.Prelude.{◌≡◌, IfOk};
 ghost use Rattle.chanstate.specs.Members.{unmarked, with_mark, with_marks_of, with_address};
 
 use bytetext::{NoMemory, Text};
-use std::alloc::Global;
+use std::alloc::{AllocError, Global};
 
 /// A mark that a member of a channel may have.
 #[derive(Clone, Copy, Debug)]
@@ -94,5 +94,20 @@ impl Member {
     {
         self.user = user;
         self.host = host;
+    }
+}
+
+impl Clone for Member {
+    ghost is_clone = { λ member twin. twin ≡ member };
+
+    fn clone(&self) -> Result<Member, AllocError> {
+        Ok(Member {
+            nick: self.nick.clone()?,
+            user: self.user.clone()?,
+            host: self.host.clone()?,
+            op: self.op,
+            voice: self.voice,
+            half_op: self.half_op,
+        })
     }
 }

@@ -53,6 +53,30 @@ fn channels_are_shared_with_a_nick(rt: HostRuntime) -> Result<(), NoMemory> {
 }
 
 #[test]
+fn a_rename_keeps_the_place_and_the_marks(rt: HostRuntime) -> Result<(), NoMemory> {
+    let mut state = after(rt.alloc(), &LINES)?;
+    if let Line::Message(message) = read_line(rt.alloc(), b":op1!o@h NICK V1")? {
+        state.apply(rt.alloc(), &message)?;
+    }
+    let members = state.members(rt.alloc(), b"#a")?;
+    assert_eq!(rt; members.len(), 2, "another v1 goes");
+    let renamed = members.as_slice().get(1);
+    assert!(rt; renamed.is_some_and(|member| member.nick.as_bytes() == b"V1".as_slice()));
+    assert!(rt; state.is_op(b"#a", b"v1"));
+    Ok(())
+}
+
+#[test]
+fn one_line_joins_several_channels(rt: HostRuntime) -> Result<(), NoMemory> {
+    let lines: [&[u8]; 2] = [b":Egg!e@h JOIN #c,#d", b":zed!z@h JOIN #d,#e,#c"];
+    let state = after(rt.alloc(), &lines)?;
+    assert_eq!(rt; state.channels_of(rt.alloc(), b"egg")?.len(), 2);
+    assert_eq!(rt; state.channels_of(rt.alloc(), b"ZED")?.len(), 2);
+    assert!(rt; !state.holds(b"#e"));
+    Ok(())
+}
+
+#[test]
 fn a_text_to_the_bot_gives_three_events(rt: HostRuntime) -> Result<(), NoMemory> {
     let state = ChanState::new(rt.alloc(), b"Egg")?;
     assert_eq!(rt;

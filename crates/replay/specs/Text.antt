@@ -7,8 +7,7 @@ use Rattle.userfile.specs.Codes.{fault_code}
 use Rattle.userfile.specs.declared.user.User.{User}
 use Rattle.userfile.specs.declared.channel_flags.ChannelFlags.{ChannelFlags}
 use Rattle.userfile.specs.declared.ban.Ban.{Ban}
-use Rattle.sharelink.specs.declared.error.LinkFault.{LinkFault}
-use Rattle.sharelink.specs.declared.error.LinkFault.TheVariants.{BadChange, AsksFull, Diverged, NumbersSpent}
+use Rattle.sharelink.specs.Codes.{link_code}
 use Rattle.sharelink.specs.declared.answer.Note.{Note}
 use Rattle.sharelink.specs.declared.answer.Note.TheVariants.{Queued, Idle, Accepted, Refused, Served, Old, Early, Applied, Stray}
 use Rattle.sharelink.specs.declared.packet.Packet.{Packet}
@@ -19,13 +18,6 @@ use Rattle.botworld.specs.declared.outcome.End.TheVariants.{Note as ended, Refus
 use Rattle.botworld.specs.declared.outcome.Outcome.{Outcome}
 use Rattle.botworld.specs.declared.outcome.Outcome.TheVariants.{Report as reported, NoSuchBot, NoSuchPacket}
 use Rattle.botworld.specs.Net.{packet_at}
-
--- the letters of a refusal
-abbrev pub link_code : LinkFault → List ℕ
-link_code (BadChange fault) = fault_code fault
-link_code AsksFull = codes "S1"
-link_code Diverged = codes "S3"
-link_code NumbersSpent = codes "S4"
 
 -- a note, and its number or letters where it has one
 abbrev pub note_text : Note → List ℕ

@@ -1,12 +1,12 @@
 // The lines of a step: the packets that it sent, and how it ended.
 ghost use Rattle.std.specs.Prelude.{◌≡◌, ◌-◌, ◌≤◌, ◌++◌, OnOk, decimal};
 ghost use Rattle.std.specs.Option.{option_copied};
-ghost use Rattle.replay.specs.Text.{link_code, note_text, end_line, packet_text, found_line, sent_line, sent_lines, outcome_text};
+ghost use Rattle.replay.specs.Text.{note_text, end_line, packet_text, found_line, sent_line, sent_lines, outcome_text};
 
 use crate::print::{put, put_number};
 use botworld::{End, Outcome, Sent, World};
 use bytetext::NoMemory;
-use sharelink::{LinkFault, Note, Packet};
+use sharelink::{Note, Packet};
 
 /// Adds the lines of a step, whose packets the world has.
 ///
@@ -96,7 +96,7 @@ fn put_end(out: &mut Vec<u8>, bot: u16, end: End) -> Result<(), NoMemory>
         End::Refused(fault) => {
             put_number(out, u64::from(bot))?;
             put(out, b" refused ")?;
-            put(out, link_code(fault))?;
+            put(out, fault.code().as_bytes())?;
             put(out, b"\n")
         }
         End::NoMemory => Err(NoMemory),
@@ -131,16 +131,4 @@ fn put_counted(out: &mut Vec<u8>, word: &[u8], number: u64) -> Result<(), NoMemo
 {
     put(out, word)?;
     put_number(out, number)
-}
-
-// The letters of a link's refusal.
-fn link_code(fault: LinkFault) -> &'static [u8]
-    ensures { result.now ≡ link_code fault }
-{
-    match fault {
-        LinkFault::BadChange(fault) => fault.code().as_bytes(),
-        LinkFault::AsksFull => b"S1",
-        LinkFault::Diverged => b"S3",
-        LinkFault::NumbersSpent => b"S4",
-    }
 }

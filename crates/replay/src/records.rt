@@ -96,7 +96,7 @@ fn put_chan(
     put(out, b"\n")
 }
 
-// B ban C M H E COMMENT
+/// Adds a ban, as `B ban C M H E COMMENT`.
 #[tactic(auto, using(std::proofs::Common::append_assoc))]
 pub fn put_ban(out: &mut Vec<u8>, bot: u16, ban: &Ban) -> Result<(), NoMemory>
     ensures { OnOk result (out.new.items ≡ out.old.items ++ ban_line bot ban.now) }

@@ -49,6 +49,7 @@ pub fn fold_slice(text: &mut [u8])
 pub fn fold_text(alloc: Global, text: &[u8]) -> Result<Vec<u8>, NoMemory>
     ensures { IfOk result (λ lower. lower.items ≡ folded text.now) }
 {
-    let lower = text.iter().map(|byte| fold(*byte)).collect(alloc)?;
+    let mut lower = Vec::from_slice(alloc, text)?;
+    fold_slice(&mut lower);
     Ok(lower)
 }

@@ -8,5 +8,9 @@ use std::alloc::{AllocError, Global};
 pub fn pieces_of(alloc: Global, bytes: &[u8], separator: u8) -> Result<Vec<&[u8]>, AllocError>
     ensures { IfOk result (λ pieces. map (λ piece. piece.now) pieces.items ≡ slice_split (λ b. b == separator) bytes.now) }
 {
-    bytes.split(|byte| *byte == separator).collect(alloc)
+    let mut pieces = Vec::new(alloc);
+    for piece in bytes.split(|byte| *byte == separator) {
+        pieces.push(piece)?;
+    }
+    Ok(pieces)
 }

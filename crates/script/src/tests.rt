@@ -71,58 +71,32 @@ fn the_first_faulty_line_is_told(rt: HostRuntime) -> Result<(), ScriptError> {
     Ok(())
 }
 
+// The word that asks for a command's change.
+fn word_of(command: &Command) -> &'static str {
+    let Command::Ask { change, .. } = command else {
+        return "none";
+    };
+    match change {
+        Change::DelUser { .. } => "deluser",
+        Change::AddHost { .. } => "addhost",
+        Change::DelHost { .. } => "delhost",
+        Change::SetGlobal { .. } => "global",
+        Change::SetBot { .. } => "bot",
+        Change::DelBan { .. } => "delban",
+        _ => "another",
+    }
+}
+
 #[test]
 fn each_change_is_read(rt: HostRuntime) -> Result<(), ScriptError> {
     let bytes =
-        b"leaves 0\nask 0 addhost a m\nask 0 delhost a m\nask 0 global a om\nask 0 bot a -\nask 0 delban * m";
+        b"leaves 0\nask 0 deluser a\nask 0 addhost a m\nask 0 delhost a m\nask 0 global a om\nask 0 bot a -\nask 0 delban * m";
     let script = Script::read(rt.alloc(), bytes)?;
-    let commands = script.commands.as_slice();
-    assert_eq!(rt; commands.len(), 5);
-    assert!(rt;
-        matches!(
-            commands[0],
-            Command::Ask {
-                change: Change::AddHost { .. },
-                ..
-            }
-        )
-    );
-    assert!(rt;
-        matches!(
-            commands[1],
-            Command::Ask {
-                change: Change::DelHost { .. },
-                ..
-            }
-        )
-    );
-    assert!(rt;
-        matches!(
-            commands[2],
-            Command::Ask {
-                change: Change::SetGlobal { .. },
-                ..
-            }
-        )
-    );
-    assert!(rt;
-        matches!(
-            commands[3],
-            Command::Ask {
-                change: Change::SetBot { .. },
-                ..
-            }
-        )
-    );
-    assert!(rt;
-        matches!(
-            commands[4],
-            Command::Ask {
-                change: Change::DelBan { .. },
-                ..
-            }
-        )
-    );
+    let words = ["deluser", "addhost", "delhost", "global", "bot", "delban"];
+    assert_eq!(rt; script.commands.len(), words.len());
+    for (command, word) in script.commands.as_slice().iter().zip(words.iter()) {
+        assert_eq!(rt; word_of(command), *word);
+    }
     Ok(())
 }
 

@@ -1,3 +1,4 @@
+pub mod Codes
 pub mod Meets
 pub mod HubRules
 pub mod LeafRules

@@ -1,5 +1,6 @@
 // Why a link does not do what it is asked.
 ghost use Rattle.std.specs.Prelude.{◌≡◌};
+ghost use Rattle.sharelink.specs.Codes.{link_code};
 ghost use Rattle.sharelink.specs.declared.error.LinkError.TheVariants.{NoMemory as no_memory};
 
 use bytetext::NoMemory;
@@ -26,7 +27,9 @@ pub enum LinkFault {
 
 impl LinkFault {
     /// The letter and number that transcripts print.
-    pub fn code(self) -> &'static str {
+    pub fn code(self) -> &'static str
+        ensures { result.now ≡ link_code self }
+    {
         match self {
             LinkFault::BadChange(fault) => fault.code(),
             LinkFault::AsksFull => "S1",

@@ -36,6 +36,9 @@ fn asks_are_refused_by_name(rt: HostRuntime) -> Result<(), Fail> {
     let mut leaf = LeafLink::new(alloc, 1);
     let bad = LinkFault::BadChange(ChangeFault::BadHandle);
     assert_eq!(rt; bad.code(), "U1");
+    assert_eq!(rt; LinkFault::AsksFull.code(), "S1");
+    assert_eq!(rt; LinkFault::Diverged.code(), "S3");
+    assert_eq!(rt; LinkFault::NumbersSpent.code(), "S4");
     assert_eq!(rt;
         hub.ask(alloc, add(alloc, b"a*b")?).err(),
         Some(LinkError::Refused(bad))

@@ -124,17 +124,31 @@ impl Change {
                 creator,
                 expires,
                 comment,
-            } => Change::AddBan {
-                channel: channel.copy(alloc)?,
-                mask: mask.copy(alloc)?,
-                creator: creator.copy(alloc)?,
-                expires: *expires,
-                comment: comment.copy(alloc)?,
-            },
+            } => ban_copy(alloc, channel, mask, creator, *expires, comment)?,
             Change::DelBan { channel, mask } => Change::DelBan {
                 channel: channel.copy(alloc)?,
                 mask: mask.copy(alloc)?,
             },
         })
     }
+}
+
+// A ban to be added, of copies of these texts.
+fn ban_copy(
+    alloc: Global,
+    channel: &Text,
+    mask: &Text,
+    creator: &Text,
+    expires: u64,
+    comment: &Text,
+) -> Result<Change, NoMemory>
+    ensures { IfOk result (λ c. c ≡ Change.AddBan channel.now mask.now creator.now expires comment.now) }
+{
+    Ok(Change::AddBan {
+        channel: channel.copy(alloc)?,
+        mask: mask.copy(alloc)?,
+        creator: creator.copy(alloc)?,
+        expires,
+        comment: comment.copy(alloc)?,
+    })
 }

@@ -79,6 +79,13 @@ impl ChannelEntries {
         self.items.len()
     }
 
+    /// The entries as a `Vec`. Takes no memory.
+    pub fn into_vec(self) -> Vec<ChannelFlags>
+        ensures { result.items ≡ self }
+    {
+        self.items
+    }
+
     /// The entry of the channel, its name compared by casemapping.
     pub fn get(&self, channel: &[u8]) -> Option<&ChannelFlags>
         ensures { option_copied result ≡ entry_of channel.now self.now }

@@ -134,6 +134,13 @@ impl Hostmasks {
         self.items.len()
     }
 
+    /// The masks as a `Vec`. Takes no memory.
+    pub fn into_vec(self) -> Vec<Hostmask>
+        ensures { result.items ≡ self }
+    {
+        self.items
+    }
+
     /// Whether one of the masks has this text by casemapping.
     pub fn has(&self, mask: &[u8]) -> bool
         ensures { result ≡ has_mask mask.now self.now }

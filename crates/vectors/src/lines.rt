@@ -16,9 +16,7 @@ pub fn line(alloc: Global, words: &[Text], out: &mut Vec<u8>) -> Result<(), NoMe
 pub fn stream(alloc: Global, words: &[Text], out: &mut Vec<u8>) -> Result<(), NoMemory> {
     let lines = ircline::read_pieces(alloc, words)?;
     for (i, line) in lines.iter().enumerate() {
-        if i > 0 {
-            shown::put(b" ; ", out)?;
-        }
+        shown::between(b" ; ", i, out)?;
         line_shown(line, out)?;
     }
     Ok(())
@@ -55,13 +53,13 @@ pub fn prefix(words: &[Text], out: &mut Vec<u8>) -> Result<(), NoMemory> {
         Source::None => shown::put(b"nobody", out),
         Source::Server(name) => {
             shown::put(b"server", out)?;
-            quoted(name, out)
+            shown::quoted(name, out)
         }
         Source::Person { nick, user, host } => {
             shown::put(b"person", out)?;
-            quoted(nick, out)?;
-            quoted(user, out)?;
-            quoted(host, out)
+            shown::quoted(nick, out)?;
+            shown::quoted(user, out)?;
+            shown::quoted(host, out)
         }
     }
 }
@@ -79,14 +77,8 @@ fn message_shown(message: &Message, out: &mut Vec<u8>) -> Result<(), NoMemory> {
     shown::put(b"' ", out)?;
     shown::put(message.command.as_bytes(), out)?;
     for param in message.params.as_slice() {
-        quoted(param.as_bytes(), out)?;
+        shown::quoted(param.as_bytes(), out)?;
     }
     shown::put(b" rest", out)?;
-    quoted(message.rest.as_bytes(), out)
-}
-
-fn quoted(text: &[u8], out: &mut Vec<u8>) -> Result<(), NoMemory> {
-    shown::put(b" '", out)?;
-    shown::put(text, out)?;
-    shown::put(b"'", out)
+    shown::quoted(message.rest.as_bytes(), out)
 }

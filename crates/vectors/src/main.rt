@@ -15,6 +15,25 @@
 //! | `stream PIECE..` | the lines of a stream in these pieces, with ` ; ` between them |
 //! | `print PREFIX COMMAND PARAM..` | the line, or the code of why there is none |
 //! | `prefix TEXT` | whom the prefix names |
+//! | `person WHO CHANGE..` | the handle of who WHO is, `*` for nobody |
+//! | `userflags HANDLE CHANNEL CHANGE..` | the user's flags everywhere, on the channel and as a bot, `-` for none |
+//! | `ban CHANNEL WHO MOMENT CHANGE..` | channel (`*` for all) and mask of the ban that keeps WHO off, or `no ban` |
+//! | `chan NICK LINE.. members CHANNEL` | the members in order, each as `@%+nick!user@host`, or `nobody` |
+//! | `chan NICK LINE.. topic CHANNEL` | `topic 'TEXT'` or `not held` |
+//! | `chan NICK LINE.. op CHANNEL NICK` | `op` or `no op` |
+//! | `chan NICK LINE.. channels NICK` | the channels that the bot shares with the nick, in order, or `none` |
+//! | `chan NICK LINE.. holds CHANNEL` | `held` or `not held` |
+//! | `chan NICK LINE.. nick` | the bot's own nick |
+//! | `events NICK LINE..` | the events of the last line, as `KIND 'SUBJECT' CHANNEL 'ARGUMENT'..`, with ` ; ` between |
+//!
+//! WHO is `nick!user@host`. A CHANGE is one word, and the changes make a userfile of the empty one, in order:
+//! `adduser:H`, `deluser:H`, `addhost:H:M`, `delhost:H:M`, `global:H:F`, `bot:H:F`, `chan:H:C:F`, `addban:C:E:M` and
+//! `delban:C:M` have a handle H, a hostmask M, flags F, a channel C (of a ban, `*` for all) and an expiry E in seconds.
+//! The answer is the code of the first change that is refused, if one is.
+//!
+//! In `chan` and `events` the bot has connected under NICK and reads the LINEs in order; the answer is the code of the
+//! first that is no message, if one is. Before a member's nick stand `@` for op, `%` for half-op and `+` for voice;
+//! `!user@host` is left out where both are empty. An event that is on no channel has `-` in its place.
 //!
 //! Empty lines and lines that begin with `#` are no cases. A byte that is no printable ASCII is shown as `\x` and two
 //! hexadecimal digits. The crate's files `stdin` and `stdout` hold the cases and the answers, which were worked out by
@@ -22,10 +41,14 @@
 #![tactic(auto)]
 
 mod casemapping;
+mod changes;
+mod channels;
 mod cron;
+mod events;
 mod flags;
 mod lines;
 mod masks;
+mod persons;
 mod shown;
 mod words;
 
@@ -76,6 +99,11 @@ fn answer(alloc: Global, line: &[u8], out: &mut Vec<u8>) -> Result<(), NoMemory>
         b"stream" => lines::stream(alloc, words, out),
         b"print" => lines::print(alloc, words, out),
         b"prefix" => lines::prefix(words, out),
+        b"person" => persons::person(alloc, words, out),
+        b"userflags" => persons::user_flags(alloc, words, out),
+        b"ban" => persons::ban(alloc, words, out),
+        b"chan" => channels::chan(alloc, words, out),
+        b"events" => events::events(alloc, words, out),
         _ => shown::put(b"no such case", out),
     }
 }

@@ -25,8 +25,8 @@ pub fn words_of(alloc: Global, line: &[u8]) -> Result<Vec<Text>, NoMemory> {
     Ok(words)
 }
 
-// What stands before the first of these bytes, and what stands behind it.
-fn cut(text: &[u8], at: u8) -> (&[u8], &[u8])
+/// What stands before the first of these bytes, and what stands behind it.
+pub fn cut(text: &[u8], at: u8) -> (&[u8], &[u8])
     ensures { length result.1.now ≤ length text.now - 1 }
 {
     match text.iter().position(|byte| *byte == at) {

@@ -66,8 +66,8 @@ impl Mask {
         Ok(Mask { kind, text })
     }
 
-    /// Whether the mask matches all of this text. Cuts are tried one after another, so a mask of many `*` may take
-    /// long on a long text.
+    /// Whether the mask matches all of this text, by casemapping. A star that misses ends the search of the stars before
+    /// it, so a mask of many `*` is no slower than one of few.
     pub fn matches(&self, text: &[u8]) -> bool
         ensures { IsTrue result ↔ IsMatch self.now text.now }
     {

@@ -1,0 +1,68 @@
+// The bot is welcomed, and people leave (RFC 2812 sections 3.1.7, 3.2.2 and 3.2.8).
+ghost use Rattle.std.specs.Prelude.{◌≡◌, MatchResult, map};
+ghost use Rattle.chanstate.specs.Items.{Left, Welcomed, channels_in};
+ghost use Rattle.chanstate.specs.Steps.{left, departed, step, steps};
+
+use crate::channels::Channels;
+use crate::names::is_alike;
+use crate::state::ChanState;
+use crate::words::channel_names;
+use bytetext::{NoMemory, Text};
+use std::alloc::Global;
+
+impl ChanState {
+    // The server welcomes the bot.
+    pub(crate) fn welcome(&mut self, alloc: Global, nick: &[u8]) -> Result<(), NoMemory>
+        ensures { MatchResult result (λ _. self.new ≡ step (Welcomed nick.now) self.old) (λ _. self.new ≡ self.old) }
+    {
+        let nick = Text::from_slice(alloc, nick)?;
+        self.nick = nick;
+        self.channels = Channels::new(alloc);
+        Ok(())
+    }
+
+    // A nick leaves one channel.
+    pub(crate) fn leave(&mut self, nick: &[u8], channel: &[u8])
+        ensures { self.new ≡ left nick.now channel.now self.old }
+    {
+        if is_alike(nick, self.nick.as_bytes()) {
+            self.channels.remove(channel);
+        } else {
+            self.channels.leave(channel, nick);
+        }
+    }
+
+    // A nick leaves each of these channels, in their order.
+    fn leave_each(&mut self, nick: &[u8], names: &[&[u8]])
+        ensures { self.new ≡ steps (map (λ name. Left nick.now name.now) names.now) self.old }
+    {
+        for name in names {
+            self.leave(nick, name);
+        }
+    }
+
+    // A nick leaves the channels of a list.
+    pub(crate) fn leave_all(
+        &mut self,
+        alloc: Global,
+        nick: &[u8],
+        list: &[u8],
+    ) -> Result<(), NoMemory>
+        ensures { MatchResult result (λ _. self.new ≡ steps (map (Left nick.now) (channels_in list.now)) self.old) (λ _. self.new ≡ self.old) }
+    {
+        let names = channel_names(alloc, list)?;
+        self.leave_each(nick, names.as_slice());
+        Ok(())
+    }
+
+    // A nick leaves the network.
+    pub(crate) fn depart(&mut self, nick: &[u8])
+        ensures { self.new ≡ departed nick.now self.old }
+    {
+        if is_alike(nick, self.nick.as_bytes()) {
+            self.channels.clear();
+        } else {
+            self.channels.depart(nick);
+        }
+    }
+}

@@ -1,0 +1,73 @@
+//! Times the libraries, and prints the times to standard error. Standard output stays empty.
+//!
+//! | word | what is timed |
+//! |---|---|
+//! | `persons` | who a person is, in a userfile of 500 users with 16 hostmasks each |
+//! | `channels` | 100,000 lines for a bot on 200 channels of 1,000 people, and 1,000 people who quit |
+//! | `timers` | 200 timers over ten minutes, and 500 cron masks over a day |
+//! | `lines` | a stream of about 10 MB, to its lines |
+//! | `all` | each of these |
+//! | `small`, or no word | each of these at a small size, in less than a second |
+//!
+//! A line of what it prints is what was timed, in two words, how many calls there were, the milliseconds that they took
+//! in all, and the microseconds that one took. A line that begins with `#` tells whether what was timed did its work.
+//!
+//! The program ends with status 0; 1 where a library refuses what it is given; 2 for another word; 3 where the clock
+//! can't be read; 4 where memory runs out.
+#![tactic(auto)]
+
+mod channels;
+mod crowd;
+mod lines;
+mod persons;
+mod report;
+mod sizes;
+mod stop;
+mod tally;
+mod timers;
+
+use crate::sizes::{FULL, SMALL, Sizes};
+use crate::stop::Stop;
+use std::env;
+use std::process::ExitCode;
+use std::rt::Env;
+use std::time::Clock;
+
+fn main(rt: HostRuntime) -> ExitCode {
+    match measured(&rt) {
+        Ok(()) => ExitCode::from(0),
+        Err(stop) => {
+            let _ = eprintln!(rt; "timings: {stop}");
+            ExitCode::from(stop.status())
+        }
+    }
+}
+
+// Times what the command line asks for.
+fn measured<R: AllocGlobal + Clock + Eprint + Env>(rt: &R) -> Result<(), Stop> {
+    match env::args(rt)?.nth(1) {
+        Some(word) => part(rt, word.as_bytes()),
+        None => all(rt, &SMALL),
+    }
+}
+
+// Times what the word stands for.
+fn part<R: AllocGlobal + Clock + Eprint>(rt: &R, word: &[u8]) -> Result<(), Stop> {
+    match word {
+        b"persons" => persons::measure(rt, &FULL),
+        b"channels" => channels::measure(rt, &FULL),
+        b"timers" => timers::measure(rt),
+        b"lines" => lines::measure(rt, &FULL),
+        b"all" => all(rt, &FULL),
+        b"small" => all(rt, &SMALL),
+        _ => Err(Stop::Unknown),
+    }
+}
+
+// Times everything.
+fn all<R: AllocGlobal + Clock + Eprint>(rt: &R, sizes: &Sizes) -> Result<(), Stop> {
+    persons::measure(rt, sizes)?;
+    channels::measure(rt, sizes)?;
+    timers::measure(rt)?;
+    lines::measure(rt, sizes)
+}

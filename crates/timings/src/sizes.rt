@@ -1,0 +1,34 @@
+// How much is timed.
+
+/// How much is timed of what a bot's size decides.
+#[derive(Clone, Copy)]
+pub struct Sizes {
+    /// The users of the userfile, at most 500.
+    pub users: u32,
+    /// How many persons are looked up.
+    pub persons: u32,
+    /// The channels that the bot is on, a multiple of 4. Each has five times as many people.
+    pub channels: u32,
+    /// How often each kind of line comes once for each channel.
+    pub rounds: u32,
+    /// How many times five lines the stream has, of about 300 bytes.
+    pub fives: u32,
+}
+
+/// The size of a large botnet.
+pub const FULL: Sizes = Sizes {
+    users: 500,
+    persons: 1_000,
+    channels: 200,
+    rounds: 125,
+    fives: 30_000,
+};
+
+/// A size that takes less than a second.
+pub const SMALL: Sizes = Sizes {
+    users: 20,
+    persons: 50,
+    channels: 8,
+    rounds: 4,
+    fives: 200,
+};
