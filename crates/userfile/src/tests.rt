@@ -1,4 +1,7 @@
-use crate::{ApplyError, Change, ChangeFault, User, Userfile, are_users, expires_at};
+use crate::{
+    ApplyError, Change, ChangeFault, ChannelEntries, ChannelFlags, Hostmask, Hostmasks, User,
+    Userfile, are_users, expires_at,
+};
 use bytetext::{NoMemory, Text};
 use flagexpr::Flags;
 use std::alloc::Global;
@@ -235,5 +238,25 @@ fn records_of_one_handle_do_not_stand_together(rt: HostRuntime) -> Result<(), No
     twin.handle = Text::from_slice(alloc, b"ALICE")?;
     let both = vec![in alloc; userfile.user(b"alice").expect(&rt, "alice").copy()?, twin]?;
     assert_eq!(rt; gathered(alloc, &both), "U2");
+    Ok(())
+}
+
+#[test]
+fn lists_give_back_what_they_were_made_of(rt: HostRuntime) -> Result<(), NoMemory> {
+    let alloc = rt.alloc();
+    let entry = ChannelFlags {
+        channel: Text::from_slice(alloc, b"#a")?,
+        flags: Flags::empty(),
+    };
+    let entries = ChannelEntries::new(vec![in alloc; entry]?).into_vec();
+    assert_eq!(rt; entries.len(), 1);
+    assert!(rt; entries[0].channel.is_same(b"#a"));
+    let mut masks = Vec::new(alloc);
+    if let Ok(mask) = Hostmask::new(alloc, b"*!*@a.net") {
+        masks.push(mask)?;
+    }
+    let masks = Hostmasks::new(masks).into_vec();
+    assert_eq!(rt; masks.len(), 1);
+    assert!(rt; masks[0].as_bytes() == b"*!*@a.net".as_slice());
     Ok(())
 }
