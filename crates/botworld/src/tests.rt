@@ -1,16 +1,14 @@
-use crate::{End, Event, Outcome, Report, Step, World, WorldError, WorldFault};
+use crate::{End, Event, Outcome, Report, Step, World, WorldError};
 use bytetext::{NoMemory, Text};
 use sharelink::Note;
 use std::alloc::Global;
-use std::test::Fail;
 use userfile::{Change, ChangeFault};
 
-fn add(alloc: Global, name: &[u8]) -> Result<Step, NoMemory> {
-    let handle = Text::from_slice(alloc, name)?;
-    Ok(Step::At {
+fn ask(change: Change) -> Step {
+    Step::At {
         bot: 0,
-        event: Event::Ask(Change::AddUser { handle }),
-    })
+        event: Event::Ask(change),
+    }
 }
 
 fn pump(bot: u16) -> Step {
@@ -20,91 +18,114 @@ fn pump(bot: u16) -> Step {
     }
 }
 
-fn told(bot: u16, note: Note, first: u64, count: usize) -> Outcome {
+// What the hub tells of a step before any packet was sent.
+fn told(note: Note) -> Outcome {
     Outcome::Report(Report {
-        bot,
+        bot: 0,
         end: End::Note(note),
-        first,
-        count,
+        first: 1,
+        count: 0,
     })
 }
 
+// How many users a bot has, or none where there is no such bot.
+fn users_of(world: &World, bot: u16) -> Option<usize> {
+    match world.userfile(bot) {
+        Some(userfile) => Some(userfile.user_count()),
+        None => None,
+    }
+}
+
 #[test]
-fn a_new_world_has_no_version_and_no_users(rt: HostRuntime) -> Result<(), Fail> {
+fn a_new_world_has_no_version_and_no_users(rt: HostRuntime) -> Result<(), WorldError> {
     let world = World::new(rt.alloc(), 1)?;
-    assert_eq!(rt; world.version(0), Some(0));
-    assert_eq!(rt; world.version(1), Some(0));
-    assert_eq!(rt; world.version(2), None);
-    assert_eq!(rt; world.userfile(1).map(|u| u.user_count()), Some(0));
-    assert!(rt; world.userfile(2).is_none());
-    assert!(rt; world.packet(0).is_none());
+    assert!(rt; matches!(world.version(0), Some(0)));
+    assert!(rt; matches!(world.version(1), Some(0)));
+    assert!(rt; matches!(world.version(2), None));
+    assert!(rt; matches!(users_of(&world, 1), Some(0)));
+    assert!(rt; matches!(users_of(&world, 2), None));
+    assert!(rt; matches!(world.packet(0), None));
     Ok(())
 }
 
-#[test]
-fn a_world_has_at_most_a_thousand_leaves(rt: HostRuntime) -> Result<(), Fail> {
-    assert_eq!(rt; World::new(rt.alloc(), 1000)?.version(1000), Some(0));
-    let refused = World::new(rt.alloc(), 1001).err();
-    assert!(rt; matches!(refused, Some(WorldError::Refused(_))));
-    assert_eq!(rt; WorldFault::BadWorld.code(), "O1");
-    Ok(())
+// Whether a world of so many leaves has the last of them, or the code with which it is refused.
+fn made(alloc: Global, leaves: u16) -> &'static str {
+    match World::new(alloc, leaves) {
+        Ok(world) if matches!(world.version(leaves), Some(0)) => "all",
+        Ok(_) => "fewer",
+        Err(WorldError::Refused(fault)) => fault.code(),
+        Err(WorldError::NoMemory) => "memory",
+    }
 }
 
 #[test]
-fn a_change_reaches_a_leaf_once(rt: HostRuntime) -> Result<(), Fail> {
-    let alloc = rt.alloc();
-    let mut world = World::new(alloc, 1)?;
-    let deliver = Step::Deliver { packet: 1 };
-    let steps = vec![in alloc;
-        add(alloc, b"alice")?,
+fn a_world_has_at_most_a_thousand_leaves(rt: HostRuntime) {
+    assert!(rt; made(rt.alloc(), 1000) == "all");
+    assert!(rt; made(rt.alloc(), 1001) == "O1");
+}
+
+// Steps by which a user is added at leaf 1.
+fn adding(alloc: Global) -> Result<[Step; 3], NoMemory> {
+    let handle = Text::from_slice(alloc, b"alice")?;
+    Ok([
+        ask(Change::AddUser { handle }),
         pump(0),
-        deliver,
         Step::Deliver { packet: 1 },
-    ]?;
-    let transcript = world.run(alloc, steps.as_slice());
-    assert!(rt; !transcript.cut);
-    let expected = [
-        told(0, Note::Queued, 1, 0),
-        told(0, Note::Accepted(1), 1, 1),
-        told(1, Note::Applied(1), 2, 0),
-        told(1, Note::Old, 2, 0),
-    ];
-    assert_eq!(rt; transcript.outcomes.as_slice(), expected.as_slice());
-    let twin = world.copy(alloc)?;
-    assert_eq!(rt; twin.version(1), Some(1));
-    assert_eq!(rt; twin.packet(1).map(|sent| sent.to), Some(1));
-    Ok(())
+    ])
+}
+
+// Whether a copy of this world has leaf 1 at version 1, and the packet that brought it there.
+fn copy_has_the_change(world: &World, alloc: Global) -> bool {
+    match world.copy(alloc) {
+        Ok(twin) => matches!(twin.version(1), Some(1))
+            && matches!(twin.packet(1), Some(sent) if sent.to == 1),
+        Err(_) => false,
+    }
 }
 
 #[test]
-fn what_is_not_there_changes_nothing(rt: HostRuntime) -> Result<(), Fail> {
+fn a_copy_shows_what_the_world_shows(rt: HostRuntime) -> Result<(), WorldError> {
     let alloc = rt.alloc();
-    let mut world = World::new(alloc, 0)?;
+    let steps = adding(alloc)?;
+    let mut world = World::new(alloc, 1)?;
+    assert!(rt; !world.run(alloc, &steps).cut);
+    assert!(rt; copy_has_the_change(&world, alloc));
+    Ok(())
+}
+
+// Steps that ask for what is not there.
+fn missing(alloc: Global) -> Result<[Step; 5], NoMemory> {
     let handle = Text::from_slice(alloc, b"carol")?;
-    let unknown = Step::At {
-        bot: 0,
-        event: Event::Ask(Change::DelUser { handle }),
-    };
-    let steps = vec![in alloc;
-        unknown,
+    Ok([
+        ask(Change::DelUser { handle }),
         pump(0),
         pump(0),
         pump(1),
         Step::Deliver { packet: 9 },
-    ]?;
-    let transcript = world.run(alloc, steps.as_slice());
-    let refused = told(0, Note::Refused(ChangeFault::NoSuchUser), 1, 0);
+    ])
+}
+
+#[test]
+fn what_is_not_there_changes_nothing(rt: HostRuntime) -> Result<(), WorldError> {
+    let alloc = rt.alloc();
+    let steps = missing(alloc)?;
     let expected = [
-        told(0, Note::Queued, 1, 0),
-        refused,
-        told(0, Note::Idle, 1, 0),
+        told(Note::Queued),
+        told(Note::Refused(ChangeFault::NoSuchUser)),
+        told(Note::Idle),
         Outcome::NoSuchBot,
         Outcome::NoSuchPacket,
     ];
-    assert_eq!(rt; transcript.outcomes.as_slice(), expected.as_slice());
-    assert_eq!(rt; world.version(0), Some(0));
-    assert_eq!(rt; Outcome::NoSuchBot.code(), Some("O2"));
-    assert_eq!(rt; Outcome::NoSuchPacket.code(), Some("O3"));
-    assert_eq!(rt; expected[0].code(), None);
+    let mut world = World::new(alloc, 0)?;
+    let transcript = world.run(alloc, &steps);
+    assert!(rt; transcript.outcomes.as_slice() == expected.as_slice());
+    assert!(rt; matches!(world.version(0), Some(0)));
     Ok(())
+}
+
+#[test]
+fn an_outcome_without_a_bot_has_a_code(rt: HostRuntime) {
+    assert!(rt; Outcome::NoSuchBot.code() == Some("O2"));
+    assert!(rt; Outcome::NoSuchPacket.code() == Some("O3"));
+    assert!(rt; told(Note::Queued).code().is_none());
 }

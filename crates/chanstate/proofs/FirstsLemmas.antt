@@ -1,5 +1,5 @@
 -- Edits of the first element that passes, at the place that `position` gives.
-use Rattle.std.proofs.Common.{◌≡◌, ℕ, zero, suc, ◌<◌, ◌≤◌, ◌+◌, Bool, true, false, cond, Option, Some, None, List, [], ◌∷◌, ◌++◌, length, get_or, set, take, drop, refl, sym, ap, subst, ◌∙◌, arith}
+use Rattle.std.proofs.Common.{◌≡◌, ℕ, zero, suc, ◌<◌, ◌≤◌, Bool, true, false, cond, Option, Some, None, List, [], ◌∷◌, ◌++◌, length, get_or, set, refl, sym, ap, ◌∙◌, arith}
 use Rattle.std.specs.List.{position, position_or_len, list_any, remove}
 use Rattle.std.proofs.Common.{◌||◌, ltb}
 use Rattle.std.proofs.lemmas.List.Quantifiers.{position-Some}
@@ -25,7 +25,7 @@ pub record IsFirst {X : Type 0} (p : X → Bool) (xs : List X) (i : ℕ) (d : X)
   pub passes : p (get_or xs i d) ≡ true
   pub before : (k : ℕ) → k < i → p (get_or xs k d) ≡ false
 
-tail-first : {X : Type 0} (p : X → Bool) (x : X) (xs : List X) (i : ℕ) (d : X) → IsFirst p (x ∷ xs) (suc i) d → IsFirst p xs i d
+pub tail-first : {X : Type 0} (p : X → Bool) (x : X) (xs : List X) (i : ℕ) (d : X) → IsFirst p (x ∷ xs) (suc i) d → IsFirst p xs i d
 tail-first p x xs i d first = record {
   within = let within : suc i < suc (length xs) = first.within in omega arith;
   passes = first.passes;

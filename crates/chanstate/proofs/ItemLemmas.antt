@@ -1,8 +1,7 @@
 -- What one finds behind each item, and what stays true of the lists.
-use Rattle.std.proofs.Common.{◌≡◌, ℕ, Bool, true, false, cond, not, ◌||◌, ◌&&◌, Option, Some, None, List, [], ◌∷◌, ◌++◌, map, refl, sym, ap, subst, ◌∙◌}
-use Rattle.std.specs.Prelude.{find, is_some, unwrap_or, IfSome}
+use Rattle.std.proofs.Common.{◌≡◌, ℕ, Bool, true, false, cond, ◌||◌, ◌&&◌, Option, Some, None, List, [], ◌∷◌, ◌++◌, refl, sym, ap, ◌∙◌}
+use Rattle.std.specs.Prelude.{find, is_some}
 use Rattle.std.specs.Option.{option_map}
-use Rattle.std.specs.List.{list_any}
 use Rattle.std.proofs.lemmas.Bool.{cond-true, cond-false}
 use Rattle.chanstate.specs.declared.member.Member.{Member}
 use Rattle.chanstate.specs.declared.member.Mark.{Mark}
@@ -12,12 +11,12 @@ use Rattle.chanstate.specs.declared.state.ChanState.{ChanState}
 use Rattle.chanstate.specs.Names.{alike}
 use Rattle.chanstate.specs.Firsts.{first_removed, first_changed}
 use Rattle.chanstate.specs.Members.{is_called, has_member, unmarked, with_mark, with_address, with_marks_of, with_nick, arrived, listed, renamed, without_namesake}
-use Rattle.chanstate.specs.Channels.{is_named, opened, with_topic, with_members, on_channel, put_last, all_without, all_renamed}
+use Rattle.chanstate.specs.Channels.{is_named, opened, with_topic, with_members, on_channel, put_last}
 use Rattle.chanstate.specs.Items.{Item, Welcomed, Joined, Left, Departed, Renamed, Marked, Titled, Listed, Addressed}
 use Rattle.chanstate.specs.Steps.{step}
-use Rattle.chanstate.specs.Views.{channel_in, members_of, member_in}
-use Rattle.chanstate.proofs.FindLemmas.{alike-left, alike-right, alike-sym, alike-apart, list_any-find, find-agree, find-changed_other, find-removed_same, find-changed_new, find-changed_old, find-map, Within}
-use Rattle.chanstate.proofs.DistinctLemmas.{by, Distinct, at_most_one, distinct-removed, distinct-changed, distinct-end, distinct-renamed, distinct-map, within-all, within-none}
+use Rattle.chanstate.specs.Views.{channel_in, members_of}
+use Rattle.chanstate.proofs.FindLemmas.{alike-left, alike-right, alike-apart, list_any-find, find-agree, find-changed_other, find-removed_same, find-changed_new, find-changed_old, find-map}
+use Rattle.chanstate.proofs.DistinctLemmas.{Distinct, at_most_one, distinct-removed, distinct-changed, distinct-end, distinct-renamed, distinct-map, within-all, within-none}
 use Rattle.chanstate.proofs.LookLemmas.{find-changed, find-removed, find-put_last, find-arrived, find-listed, come_as, rename_as, rename_as-none, rename_as-some}
 
 abbrev pub nick_of_member : Member → List ℕ

@@ -7,8 +7,8 @@ pub mod LookLemmas
 pub mod ItemLemmas
 pub mod PartLemmas
 pub mod HistoryLemmas
-pub mod RosterLemmas
-pub mod RenamingLemmas
-pub mod ReadyLemmas
+pub mod SeatLemmas
+pub mod TakenLemmas
+pub mod RenameLemmas
 pub mod OrderLemmas
 pub mod UndoLemmas

@@ -1,17 +1,13 @@
 -- What one finds by name behind each edit of members and channels.
-use Rattle.std.proofs.Common.{◌≡◌, ℕ, Bool, true, false, cond, ◌||◌, ◌&&◌, Option, Some, None, List, [], ◌∷◌, ◌++◌, map, refl, sym, ap, ◌∙◌}
+use Rattle.std.proofs.Common.{◌≡◌, ℕ, Bool, true, false, cond, Option, Some, None, List, [], ◌∷◌, ◌++◌, refl, sym, ap, ◌∙◌}
 use Rattle.std.specs.Prelude.{find, is_some}
 use Rattle.std.specs.Option.{option_map}
-use Rattle.std.specs.List.{list_any}
-use Rattle.std.proofs.lemmas.Bool.{cond-true, cond-false}
 use Rattle.chanstate.specs.declared.member.Member.{Member}
-use Rattle.chanstate.specs.declared.channel.Channel.{Channel}
 use Rattle.chanstate.specs.Names.{alike}
 use Rattle.chanstate.specs.Firsts.{first_removed, first_changed}
-use Rattle.chanstate.specs.Members.{is_called, has_member, with_address, with_marks_of, with_nick, arrived, listed, renamed, without_namesake}
-use Rattle.chanstate.specs.Channels.{is_named, put_last}
-use Rattle.chanstate.proofs.FindLemmas.{alike-left, alike-right, alike-sym, alike-apart, alike-refl, list_any-find, find-none, find-agree, or_else, or_else-none, or_else-some, find-end, find-changed_same, find-changed_other, find-removed_other, find-removed_same, find-changed_new, find-changed_old, AtMostOne, Within}
-use Rattle.chanstate.proofs.DistinctLemmas.{by, Distinct, at_most_one, distinct-removed, within-all, within-none}
+use Rattle.chanstate.specs.Members.{is_called, has_member, with_address, with_marks_of, with_nick, arrived, listed}
+use Rattle.chanstate.proofs.FindLemmas.{alike-left, alike-apart, list_any-find, find-agree, or_else, or_else-none, or_else-some, find-end, find-changed_same, find-changed_other, find-removed_other, find-removed_same}
+use Rattle.chanstate.proofs.DistinctLemmas.{by, Distinct, at_most_one}
 
 pub or_else-right : {X : Type 0} (o : Option X) → or_else o None ≡ o
 or_else-right None = or_else-none None

@@ -1,22 +1,21 @@
 -- The order of members and of channels is that of their coming.
-use Rattle.std.proofs.Common.{◌≡◌, ℕ, suc, ◌<◌, ◌≤◌, ◌+◌, Bool, true, false, cond, not, ◌||◌, ◌&&◌, Option, Some, None, List, [], ◌∷◌, ◌++◌, map, length, refl, sym, ap, subst, ◌∙◌, arith}
+use Rattle.std.proofs.Common.{◌≡◌, ℕ, suc, ◌<◌, Bool, true, false, cond, not, ◌||◌, ◌&&◌, Option, Some, None, List, [], ◌∷◌, ◌++◌, map, refl, sym, ap, subst, ◌∙◌, arith}
 use Rattle.std.specs.Prelude.{find, is_some, unwrap_or}
 use Rattle.std.specs.Option.{option_map}
 use Rattle.std.specs.List.{list_any}
 use Rattle.chanstate.specs.declared.member.Member.{Member}
-use Rattle.chanstate.specs.declared.member.Mark.{Mark}
 use Rattle.chanstate.specs.declared.channel.Channel.{Channel}
 use Rattle.chanstate.specs.declared.state.ChanState.{ChanState}
 use Rattle.chanstate.specs.Names.{alike}
 use Rattle.chanstate.specs.Firsts.{first_removed, first_changed}
 use Rattle.chanstate.specs.Members.{is_called, has_member, unmarked, with_mark, with_address, with_marks_of, with_nick, arrived, listed, renamed, without_namesake}
-use Rattle.chanstate.specs.Channels.{is_named, opened, with_topic, with_members, on_channel, put_last, all_without, all_renamed}
+use Rattle.chanstate.specs.Channels.{is_named, opened, with_topic, with_members, put_last}
 use Rattle.chanstate.specs.Items.{Item, Welcomed, Joined, Left, Departed, Renamed, Marked, Titled, Listed, Addressed}
 use Rattle.chanstate.specs.Steps.{step}
 use Rattle.chanstate.specs.Views.{members_of}
-use Rattle.chanstate.specs.History.{Behind, Rising, member_said, nick_said, own, held, on, arrival, joins, opening}
-use Rattle.chanstate.proofs.FindLemmas.{alike-left, alike-right, alike-sym, alike-refl, list_any-find, or-parts, find-removed_same, Within}
-use Rattle.chanstate.proofs.DistinctLemmas.{by, Distinct, at_most_one, distinct-removed, within-all, within-none}
+use Rattle.chanstate.specs.History.{Behind, Rising, member_said, own, on, arrival, joins}
+use Rattle.chanstate.proofs.FindLemmas.{alike-left, alike-sym, alike-refl, list_any-find, or-parts, find-removed_same, Within}
+use Rattle.chanstate.proofs.DistinctLemmas.{Distinct, at_most_one, distinct-removed, within-all, within-none}
 use Rattle.chanstate.proofs.ItemLemmas.{nick_of_member, name_of, channel_after, mark_keeps}
 
 -- ---- rising numbers

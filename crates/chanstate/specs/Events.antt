@@ -1,10 +1,9 @@
 -- The events of a message, against the state of the channels before it (Eggdrop's Tcl commands, "bind").
-use Rattle.std.specs.Prelude.{ℕ, Bool, not, ◌==◌, ◌+◌, List, [], ◌∷◌, ◌++◌, take, drop, length, if◌then◌else◌, codes, Option, Some, None, slice_get, slice_index}
+use Rattle.std.specs.Prelude.{ℕ, Bool, not, ◌==◌, List, [], ◌∷◌, ◌++◌, take, drop, length, if◌then◌else◌, codes, Option, Some, None, slice_get, slice_index}
 use Rattle.std.specs.List.{position_or_len}
 use Rattle.ircline.specs.declared.message.Message.{Message}
-use Rattle.ircline.specs.Source.{Origin, Nobody, Server, Person, origin_of}
+use Rattle.ircline.specs.Source.{Origin, Person, origin_of}
 use Rattle.chanstate.specs.declared.event.Event.{Event}
-use Rattle.chanstate.specs.declared.event.Kind.{Kind}
 use Rattle.chanstate.specs.declared.event.Kind.TheVariants.{Raw, Msg, Msgm, Notc, Pub, Pubm}
 use Rattle.chanstate.specs.declared.channel.Channel.{Channel}
 use Rattle.chanstate.specs.declared.state.ChanState.{ChanState}

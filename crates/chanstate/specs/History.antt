@@ -5,13 +5,12 @@ use Rattle.std.specs.Prelude.{◌≡◌, ℕ, Bool, true, false, not, ◌&&◌, 
 use Rattle.chanstate.specs.declared.member.Member.{Member}
 use Rattle.chanstate.specs.declared.member.Mark.{Mark}
 use Rattle.chanstate.specs.declared.member.Mark.TheVariants.{Op, Voice, HalfOp}
-use Rattle.chanstate.specs.declared.channel.Channel.{Channel}
 use Rattle.chanstate.specs.declared.state.ChanState.{ChanState}
 use Rattle.ircline.specs.declared.message.Message.{Message}
 use Rattle.chanstate.specs.Names.{alike}
 use Rattle.chanstate.specs.Items.{Item, Welcomed, Joined, Left, Departed, Renamed, Marked, Titled, Listed, Addressed, items_of}
 use Rattle.chanstate.specs.Steps.{after}
-use Rattle.chanstate.specs.Views.{connected, channel_in, members_in, member_in}
+use Rattle.chanstate.specs.Views.{channel_in, members_in, member_in}
 
 -- the bot's nick: what the last welcome says, or the last change of that nick
 abbrev pub own_said : Item → List ℕ → Option (List ℕ)

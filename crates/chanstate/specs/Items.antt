@@ -6,7 +6,7 @@ use Rattle.std.specs.Prelude.{ℕ, ◌-◌, unwrap_or, Bool, true, false, ◌||�
 use Rattle.std.specs.List.{list_any, list_all, filter_map, slice_split, position_or_len}
 use Rattle.std.specs.Cmp.Lexicographic.{pointwise}
 use Rattle.ircline.specs.declared.message.Message.{Message}
-use Rattle.ircline.specs.Source.{Origin, Nobody, Server, Person, origin_of}
+use Rattle.ircline.specs.Source.{Origin, Person, origin_of}
 use Rattle.chanstate.specs.declared.member.Member.{Member}
 use Rattle.chanstate.specs.declared.member.Mark.{Mark}
 use Rattle.chanstate.specs.declared.member.Mark.TheVariants.{Op, Voice, HalfOp}

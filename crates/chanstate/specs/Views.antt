@@ -1,5 +1,5 @@
 -- What a bot may ask of its channels.
-use Rattle.std.specs.Prelude.{ℕ, Bool, false, ◌&&◌, Option, None, Some, List, [], map, filter, find}
+use Rattle.std.specs.Prelude.{ℕ, Bool, false, Option, None, Some, List, [], map, filter, find}
 use Rattle.std.specs.Option.{option_map}
 use Rattle.chanstate.specs.declared.member.Member.{Member}
 use Rattle.chanstate.specs.declared.channel.Channel.{Channel}

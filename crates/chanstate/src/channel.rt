@@ -1,8 +1,8 @@
 // One channel that the bot is on.
-ghost use Rattle.std.specs.Prelude.{◌≡◌, IfOk};
+ghost use Rattle.std.specs.Prelude.{◌≡◌, IfOk, OnErr};
 ghost use Rattle.chanstate.specs.Channels.{opened, with_members};
-ghost use Rattle.chanstate.specs.Members.{is_called, renamed};
-ghost use Rattle.chanstate.specs.Renamings.{MayBeReady};
+ghost use Rattle.chanstate.specs.Members.{is_called};
+ghost use Rattle.chanstate.specs.Renamings.{IsTaken, given_back, given_renamed};
 ghost use Rattle.chanstate.specs.Firsts.{first_removed};
 
 use crate::member::Member;
@@ -49,13 +49,34 @@ impl Channel {
         self.members.remove(nick);
     }
 
-    // Someone takes another nick, if they are a member.
-    pub(crate) fn rename(&mut self, old: &[u8], new: &[u8], with: Option<Renaming>)
-        requires { MayBeReady old.now new.now self.old.members with }
-        ensures { self.new ≡ with_members (renamed old.now new.now) self.old }
+    // What it takes to rename someone here. The channel is then without its members until that is given back.
+    pub(crate) fn ready(
+        &mut self,
+        alloc: Global,
+        old: &[u8],
+        new: &[u8],
+    ) -> Result<Option<Renaming>, NoMemory>
+        ensures ok { IfOk result (λ with. IsTaken old.now new.now self.old with self.new) }
+        ensures err { OnErr result (self.new ≡ self.old) }
+    {
+        self.members.ready(alloc, old, new)
+    }
+
+    // What was taken from here comes back.
+    pub(crate) fn give_back(&mut self, with: Option<Renaming>)
+        ensures { self.new ≡ given_back with self.old }
     {
         if let Some(with) = with {
-            self.members.rename(old, with);
+            self.members = with.into_roster();
+        }
+    }
+
+    // The same, and the member of the old nick has the new one.
+    pub(crate) fn give_renamed(&mut self, old: &[u8], with: Option<Renaming>)
+        ensures { self.new ≡ given_renamed old.now with self.old }
+    {
+        if let Some(with) = with {
+            self.members = with.into_renamed(old);
         }
     }
 }

@@ -5,7 +5,6 @@ ghost use Rattle.std.specs.List.{filter_map};
 ghost use Rattle.chanstate.specs.Items.{named};
 ghost use Rattle.std.specs.Vec.{vec_len, vec_capacity};
 ghost use Rattle.chanstate.specs.Undos.{put_each_last};
-ghost use Rattle.chanstate.specs.Renamings.{AreReady};
 ghost use Rattle.chanstate.specs.Firsts.{first_removed, first_changed};
 ghost use Rattle.chanstate.specs.Members.{is_called, with_mark, with_address, arrived, listed_each, has_member};
 ghost use Rattle.chanstate.specs.Channels.{is_named, is_held, with_topic, on_channel, put_last, all_without, all_renamed};
@@ -13,7 +12,7 @@ ghost use Rattle.chanstate.specs.Channels.{is_named, is_held, with_topic, on_cha
 use crate::channel::Channel;
 use crate::member::{Mark, Member};
 use crate::names::is_alike;
-use crate::renaming::Renaming;
+use crate::renames::rename_all;
 use bytetext::{NoMemory, Text};
 use std::alloc::Global;
 use std::marker::Model;
@@ -183,24 +182,11 @@ impl Channels {
         }
     }
 
-    // What it takes to rename someone on each channel.
-    pub(crate) fn renamings(
-        &self,
-        alloc: Global,
-        old: &[u8],
-        new: &[u8],
-    ) -> Result<Vec<Option<Renaming>>, NoMemory>
-        ensures { IfOk result (λ all. AreReady old.now new.now self.now all.items) }
+    // Someone takes another nick everywhere.
+    pub(crate) fn rename(&mut self, alloc: Global, old: &[u8], new: &[u8]) -> Result<(), NoMemory>
+        ensures { MatchResult result (λ _. self.new ≡ all_renamed old.now new.now self.old) (λ _. self.new ≡ self.old) }
     {
-        renamings_for(alloc, self.items.as_slice(), old, new)
-    }
-
-    // Someone takes another nick everywhere. Takes no memory.
-    pub(crate) fn rename(&mut self, old: &[u8], new: &[u8], all: Vec<Option<Renaming>>)
-        requires { AreReady old.now new.now self.old all.items }
-        ensures { self.new ≡ all_renamed old.now new.now self.old }
-    {
-        rename_all(self.items.as_mut_slice(), old, new, all);
+        rename_all(self.items.as_mut_slice(), alloc, old, new)
     }
 
     // An equal list of its own.
@@ -242,35 +228,6 @@ fn put_each(items: &mut Vec<Channel>, channels: Vec<Channel>)
 {
     for channel in channels {
         put(items, channel);
-    }
-}
-
-// What it takes to rename someone on each of these, in order.
-fn renamings_for(
-    alloc: Global,
-    channels: &[Channel],
-    old: &[u8],
-    new: &[u8],
-) -> Result<Vec<Option<Renaming>>, NoMemory>
-    ensures { IfOk result (λ all. AreReady old.now new.now channels.now all.items) }
-{
-    let mut all = Vec::with_capacity(alloc, channels.len())?;
-    for channel in channels {
-        all.push(channel.members.renaming(alloc, old, new)?)?;
-    }
-    Ok(all)
-}
-
-// Someone takes another nick on each of these.
-fn rename_all(channels: &mut [Channel], old: &[u8], new: &[u8], all: Vec<Option<Renaming>>)
-    requires { AreReady old.now new.now channels.old all.items }
-    ensures { channels.new ≡ all_renamed old.now new.now channels.old }
-{
-    let mut rest = all.into_iter();
-    for channel in channels.iter_mut() {
-        if let Some(with) = rest.next() {
-            channel.rename(old, new, with);
-        }
     }
 }
 

@@ -6,8 +6,8 @@
 //! A message that lacks a needed parameter changes nothing, and a refusal of memory leaves the state as it was.
 //!
 //! Members are looked up by their nicks. A message costs a walk over the names of the held channels, a look-up on the
-//! channels that it names (for QUIT and NICK on every held channel), and the edit where the nick is a member; never a
-//! walk over the members of all channels.
+//! channels that it names (for QUIT and NICK on every held channel), and a step where the nick is a member, however many
+//! others are; room that is made for later steps is shared among them.
 //!
 //! [`events`] says what a message means to those who bind procs: a raw event for every message, and those of what a
 //! person says to the bot or on a channel that it is on. They are told against the state before the message.
@@ -27,7 +27,6 @@
 mod change;
 mod channel;
 mod channels;
-mod entries;
 mod event;
 mod history;
 mod joins;
@@ -41,6 +40,7 @@ mod names;
 mod renames;
 mod renaming;
 mod roster;
+mod seats;
 mod speech;
 mod state;
 mod topics;

@@ -2,6 +2,7 @@
 ghost use Rattle.std.specs.Prelude.{◌≡◌, [], length, IfOk};
 
 use crate::member::Member;
+use crate::roster::Roster;
 use bytetext::NoMemory;
 use std::alloc::Global;
 use std::marker::Model;
@@ -45,22 +46,11 @@ impl Members {
         self.items.len()
     }
 
-    // Copies of these members, in order.
-    pub(crate) fn copied(alloc: Global, members: &[Member]) -> Result<Members, NoMemory>
-        ensures { IfOk result (λ m. m ≡ members.now) }
+    // Copies of the members of a channel, in order.
+    pub(crate) fn copied(alloc: Global, roster: &Roster) -> Result<Members, NoMemory>
+        ensures { IfOk result (λ m. m ≡ roster.now) }
     {
-        let items = copies_of(alloc, members)?;
+        let items = roster.copies(alloc)?;
         Ok(Members { items })
     }
-}
-
-// A copy of each member, in order.
-fn copies_of(alloc: Global, members: &[Member]) -> Result<Vec<Member>, NoMemory>
-    ensures { IfOk result (λ copies. copies.items ≡ members.now) }
-{
-    let mut copies = Vec::with_capacity(alloc, members.len())?;
-    for member in members {
-        copies.push(member.copy(alloc)?)?;
-    }
-    Ok(copies)
 }

@@ -86,7 +86,7 @@ impl ChanState {
         ensures { IfOk result (λ m. m ≡ members_in channel.now self.now) }
     {
         match self.channels.find(channel) {
-            Some(held) => Members::copied(alloc, held.members.as_slice()),
+            Some(held) => Members::copied(alloc, &held.members),
             None => Ok(Members::new(alloc)),
         }
     }

@@ -1,7 +1,7 @@
 use Rattle.std.proofs.Common.{◌≡◌, ◌∙◌, [], length, ap, sym, arith}
 use Rattle.std.specs.Vec.Iter.{into_iter_items}
 use Rattle.chanstate.specs.Undos.{put_each_last}
-use Rattle.chanstate.proofs.RosterLemmas.{nothing_left}
+use Rattle.chanstate.proofs.SeatLemmas.{nothing_left}
 use Rattle.chanstate.proofs.channels.put_each.Goals as goal
 
 pub put-requires : goal.put-requires

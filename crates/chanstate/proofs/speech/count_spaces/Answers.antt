@@ -1,4 +1,4 @@
-use Rattle.std.proofs.Common.{◌≡◌, ◌<◌, ◌≤◌, ◌∙◌, ℕ, true, false, eqb, length, get_or, not, ap, sym, arith}
+use Rattle.std.proofs.Common.{◌≡◌, false, eqb, get_or, not, ap, sym, arith}
 use Rattle.std.proofs.lemmas.List.Sums.{position_or_len_is}
 use Rattle.std.proofs.lemmas.Bool.Decides.{nat_tests}
 use Rattle.chanstate.proofs.speech.count_spaces.Goals as goal

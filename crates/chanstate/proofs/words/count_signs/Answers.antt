@@ -1,4 +1,4 @@
-use Rattle.std.proofs.Common.{◌<◌, ◌≤◌, ◌∙◌, ℕ, length, not, ap, sym, arith}
+use Rattle.std.proofs.Common.{◌∙◌, not, ap, sym, arith}
 use Rattle.std.proofs.lemmas.List.Sums.{position_or_len_is}
 use Rattle.chanstate.specs.Items.{is_sign}
 use Rattle.chanstate.proofs.words.count_signs.Goals as goal

@@ -1,4 +1,4 @@
-use Rattle.std.proofs.Common.{◌<◌, length, arith}
+use Rattle.std.proofs.Common.{arith}
 use Rattle.chanstate.specs.Channels.{with_members}
 use Rattle.chanstate.specs.Firsts.{first_removed}
 use Rattle.chanstate.specs.Members.{is_called}

@@ -1,4 +1,4 @@
-use Rattle.std.proofs.Common.{refl, sym, ap}
+use Rattle.std.proofs.Common.{sym, ap}
 use Rattle.std.specs.List.{filter_map}
 use Rattle.chanstate.specs.Items.{named}
 use Rattle.chanstate.specs.Members.{listed_each}

@@ -1,7 +1,7 @@
-use Rattle.std.proofs.Common.{refl, sym, ap}
-use Rattle.chanstate.specs.Members.{is_called, with_mark, with_address, with_marks_of, with_nick, arrived, listed}
-use Rattle.chanstate.specs.Channels.{is_named, with_members, with_topic}
-use Rattle.chanstate.specs.Firsts.{first_removed, first_changed}
+use Rattle.std.proofs.Common.{sym, ap}
+use Rattle.chanstate.specs.Members.{is_called, with_address}
+use Rattle.chanstate.specs.Channels.{is_named, with_members}
+use Rattle.chanstate.specs.Firsts.{first_changed}
 use Rattle.chanstate.proofs.FirstsLemmas.{changed_at, changed_nowhere}
 use Rattle.chanstate.proofs.channels.Channels.place_at.Goals as goal
 

@@ -1,7 +1,4 @@
-use Rattle.std.proofs.Common.{refl}
-use Rattle.chanstate.specs.Members.{is_called, with_mark, with_address, with_marks_of, with_nick, arrived, listed}
-use Rattle.chanstate.specs.Channels.{is_named, with_members, with_topic}
-use Rattle.chanstate.specs.Firsts.{first_removed, first_changed}
+use Rattle.chanstate.specs.Channels.{is_named}
 use Rattle.chanstate.proofs.FirstsLemmas.{removed_at, removed_nowhere}
 use Rattle.chanstate.proofs.channels.Channels.remove.Goals as goal
 

@@ -1,4 +1,4 @@
-use Rattle.std.proofs.Common.{sym, ap, map, ◌∙◌}
+use Rattle.std.proofs.Common.{ap, map, ◌∙◌}
 use Rattle.chanstate.specs.Items.{Left}
 use Rattle.chanstate.specs.Steps.{steps}
 use Rattle.chanstate.proofs.StepLemmas.{map-by}

@@ -1,5 +1,5 @@
 use Rattle.std.proofs.Common.{◌<◌, length, arith}
-use Rattle.chanstate.specs.Items.{Joined, Left}
+use Rattle.chanstate.specs.Items.{Left}
 use Rattle.chanstate.proofs.StepLemmas.{steps_more}
 use Rattle.chanstate.proofs.state.ChanState.leave_each.Goals as goal
 
