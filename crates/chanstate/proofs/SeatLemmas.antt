@@ -15,6 +15,7 @@ use Rattle.std.proofs.lemmas.Option.{get_or_from_slice_get}
 use Rattle.rfccase.specs.Casemapping.{folded}
 use Rattle.indexmap.specs.Layout.{set_value_at}
 use Rattle.indexmap.specs.IndexMap.{insert_entry}
+use Rattle.indexmap.proofs.SetLemmas.{zip_same}
 use Rattle.indexmap.proofs.MapLemmas.{absent_from_lookup, insert_entry-absent}
 use Rattle.std.proofs.lemmas.Bool.Decides.{nat_tests}
 use Rattle.chanstate.specs.declared.member.Member.{Member}
@@ -23,14 +24,11 @@ use Rattle.chanstate.specs.declared.member.Mark.TheVariants.{Op, Voice, HalfOp}
 use Rattle.chanstate.specs.Keys.{IsUnder, IsSeat, AreUnder, AreSeats, seated, is_seat_of, has_key, key_eq}
 use Rattle.chanstate.specs.Members.{is_called, with_mark}
 use Rattle.chanstate.specs.Firsts.{first_removed, first_changed}
+use Rattle.chanstate.proofs.FindLemmas.{or-parts}
 use Rattle.chanstate.proofs.FirstsLemmas.{IsFirst, first-from_position, list_any-no_position, somewhere, tail-first}
 
 abbrev pub Seat : Type 0
 Seat = Vec ℕ Global × Option Member
-
-or-false : (a b : Bool) → (a || b) ≡ false → (a ≡ false) × (b ≡ false)
-or-false true b is = cc
-or-false false b is = (refl, is)
 
 -- seats without their keys
 
@@ -154,7 +152,7 @@ seat_found nick lower es i x same seats is read =
 pub nobody_under : (nick lower : List ℕ) (es : List Seat) → lower ≡ folded nick → AreSeats es → list_any (has_key lower) (keys_of es) ≡ false → list_any (is_seat_of nick) (values_of es) ≡ false
 nobody_under nick lower [] same seats none = refl
 nobody_under nick lower (e ∷ es) same seats none =
-    let parts = or-false (has_key lower e.0) (list_any (has_key lower) (keys_of es)) none in
+    let parts = or-parts (has_key lower e.0) (list_any (has_key lower) (keys_of es)) none in
     by e.1 seats.0 parts.0 (nobody_under nick lower es same seats.1 parts.1)
   where
     by : (o : Option Member) → IsSeat e.0 o → has_key lower e.0 ≡ false → list_any (is_seat_of nick) (values_of es) ≡ false → (is_seat_of nick o || list_any (is_seat_of nick) (values_of es)) ≡ false
@@ -345,9 +343,9 @@ seated-remove_entry nick lower (x ∷ xs) same seats none = by x.1 (has_key lowe
         → seated (values_of (cond b xs ((x.0, o) ∷ remove_entry (has_key lower) xs))) ≡ seated (o ∷ values_of xs)
     by None true test seat none rest = refl
     by None false test seat none rest = rest none
-    by (Some m) false test seat none rest = ap (λ ms. m ∷ ms) (rest (or-false (is_called nick m) (list_any (is_called nick) (seated (values_of xs))) none).1)
+    by (Some m) false test seat none rest = ap (λ ms. m ∷ ms) (rest (or-parts (is_called nick m) (list_any (is_called nick) (seated (values_of xs))) none).1)
     by (Some m) true test seat none rest =
-        let here : true ≡ false = sym test ∙ same_test nick lower x.0 m same seat ∙ (or-false (is_called nick m) (list_any (is_called nick) (seated (values_of xs))) none).0 in cc
+        let here : true ≡ false = sym test ∙ same_test nick lower x.0 m same seat ∙ (or-parts (is_called nick m) (list_any (is_called nick) (seated (values_of xs))) none).0 in cc
 
 -- a new seat comes last
 
@@ -389,17 +387,6 @@ last_place k es none =
     ap (λ m. cond (nat_lt m (length (keys_of (es ++ (k, None) ∷ [])))) (Some m) None) (last_len k es none)
     ∙ ap (λ l. cond (nat_lt n l) (Some n) None) (longer es (k, None)) ∙ ap (λ b. cond b (Some n) None) within
 
--- clones
-
-AllZip-equal : {X : Type 0} (xs ys : List X) → AllZip (λ x y. y ≡ x) xs ys → ys ≡ xs
-AllZip-equal [] [] h = refl
-AllZip-equal [] (y ∷ ys) h = absurd h
-AllZip-equal (x ∷ xs) [] h = absurd h
-AllZip-equal (x ∷ xs) (y ∷ ys) h = cong₂ h.0 (AllZip-equal xs ys h.1)
-  where
-    cong₂ : y ≡ x → ys ≡ xs → y ∷ ys ≡ x ∷ xs
-    cong₂ e f = cc
-
 -- clones of the seats, where a clone of a key has its bytes and R is equality
 module _ (R : Option Member → Option Member → Type 0) (same : (o p : Option Member) → R o p → p ≡ o) where
   abbrev IsCloned : Seat → Seat → Type 0
@@ -418,7 +405,7 @@ module _ (R : Option Member → Option Member → Type 0) (same : (o p : Option 
   AreSeats-clones [] [] h seats = tt
   AreSeats-clones [] (f ∷ fs) h seats = absurd h
   AreSeats-clones (e ∷ es) [] h seats = absurd h
-  AreSeats-clones (e ∷ es) (f ∷ fs) h seats = (by e.1 f.1 (same e.1 f.1 h.0.1) seats.0 (AllZip-equal e.0.items f.0.items h.0.0.0), AreSeats-clones es fs h.1 seats.1)
+  AreSeats-clones (e ∷ es) (f ∷ fs) h seats = (by e.1 f.1 (same e.1 f.1 h.0.1) seats.0 (zip_same (λ x y. y ≡ x) (λ x y same. same) e.0.items f.0.items h.0.0.0), AreSeats-clones es fs h.1 seats.1)
     where
       by : (o p : Option Member) → p ≡ o → IsSeat e.0 o → f.0.items ≡ e.0.items → IsSeat f.0 p
       by o None is seat key = tt

@@ -7,7 +7,8 @@
 //!
 //! Members are looked up by their nicks. A message costs a walk over the names of the held channels, a look-up on the
 //! channels that it names (for QUIT and NICK on every held channel), and a step where the nick is a member, however many
-//! others are; room that is made for later steps is shared among them.
+//! others are. All seats of a channel are gone through only where room for more is made, which is then for as many again,
+//! and by one who joins again while the seat that they left still stands.
 //!
 //! [`events`] says what a message means to those who bind procs: a raw event for every message, and those of what a
 //! person says to the bot or on a channel that it is on. They are told against the state before the message.
