@@ -13,13 +13,12 @@
 //! ```
 #![tactic(auto)]
 
+mod failure;
 mod memory;
+mod seq;
 mod text;
-mod texts;
 
+pub use crate::failure::{Failure, refuse};
 pub use crate::memory::NoMemory;
-pub use crate::text::Text;
-pub use crate::texts::Texts;
-
-#[cfg(test)]
-mod tests;
+pub use crate::seq::{Seq, TryCopy, copies_of};
+pub use crate::text::{Text, Texts};

@@ -2,6 +2,7 @@
 ghost use Rattle.std.specs.Prelude.{◌≡◌, ◌↔◌, [], IsTrue, IfOk, length};
 
 use crate::memory::NoMemory;
+use crate::seq::{Seq, TryCopy};
 use std::alloc::{AllocError, Global};
 use std::marker::Model;
 
@@ -79,14 +80,10 @@ impl Text {
     {
         self.bytes
     }
+}
 
-    /// An equal text of its own.
-    ///
-    /// # Errors
-    /// `NoMemory` where room for the copy is refused.
-    pub fn copy(&self, alloc: Global) -> Result<Text, NoMemory>
-        ensures { IfOk result (λ t. t ≡ self.now) }
-    {
+impl TryCopy for Text {
+    fn copy(&self, alloc: Global) -> Result<Text, NoMemory> {
         Text::from_slice(alloc, self.bytes.as_slice())
     }
 }
@@ -100,3 +97,6 @@ impl Clone for Text {
         })
     }
 }
+
+/// A list of texts.
+pub type Texts = Seq<Text>;
