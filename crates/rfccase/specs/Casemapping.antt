@@ -1,5 +1,6 @@
 -- Which bytes are the lower case of which, and which texts are the same (RFC 2812 section 2.2).
-use Rattle.std.specs.Prelude.{◌≡◌, ℕ, ◌+◌, ◌==◌, ◌&&◌, nat_le, if◌then◌else◌, List, map}
+use Rattle.std.specs.Prelude.{◌≡◌, ℕ, ◌+◌, ◌==◌, ◌&&◌, Bool, nat_le, nat_eq, if◌then◌else◌, List, map}
+use Rattle.std.specs.Cmp.Lexicographic.{pointwise}
 
 -- the lower case of a byte: A to Z and [ \ ] lie 32 below theirs, ~ has ^, and any other byte has itself
 abbrev pub low : ℕ → ℕ
@@ -12,3 +13,7 @@ folded text = map low text
 -- two texts are the same where the lists of their lower cases are equal
 abbrev pub IsSame : List ℕ → List ℕ → Type 0
 IsSame a b = folded a ≡ folded b
+
+-- the same, as a test
+abbrev pub is_same : List ℕ → List ℕ → Bool
+is_same a b = pointwise nat_eq (folded a) (folded b)

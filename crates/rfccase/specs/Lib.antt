@@ -1,2 +1,3 @@
 pub mod Casemapping
 pub mod Table
+pub mod Channels

@@ -9,7 +9,7 @@ ghost use Rattle.std.proofs.Common.{rules};
 ghost use Rattle.rfccase.specs.Casemapping.{folded, IsSame};
 
 use crate::folds::fold_text;
-use bytetext::NoMemory;
+use bytetext::{NoMemory, TryCopy};
 use std::alloc::Global;
 use std::cmp::Ordering;
 use std::hash::{Hash, Hasher};
@@ -50,14 +50,10 @@ impl FoldKey {
     {
         self.lower.as_slice()
     }
+}
 
-    /// An equal key of its own.
-    ///
-    /// # Errors
-    /// `NoMemory` where room for the copy is refused.
-    pub fn copy(&self, alloc: Global) -> Result<FoldKey, NoMemory>
-        ensures { IfOk result (λ key. key ≡ self.now) }
-    {
+impl TryCopy for FoldKey {
+    fn copy(&self, alloc: Global) -> Result<FoldKey, NoMemory> {
         let lower = Vec::from_slice(alloc, self.as_bytes())?;
         Ok(FoldKey { lower })
     }

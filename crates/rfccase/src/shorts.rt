@@ -45,4 +45,14 @@ impl<const N: usize> ShortFold<N> {
     {
         &self.bytes[..self.len]
     }
+
+    /// An equal short text of its own. Takes no memory.
+    pub fn copy(&self) -> ShortFold<N>
+        ensures { result ≡ self.now }
+    {
+        ShortFold {
+            bytes: self.bytes,
+            len: self.len,
+        }
+    }
 }
