@@ -7,7 +7,7 @@ ghost use Rattle.bottimers.specs.Held.{call_of, listed};
 
 use crate::entry::Entry;
 use crate::listed::Listed;
-use bytetext::{NoMemory, Text};
+use bytetext::{NoMemory, Text, TryCopy};
 use std::alloc::Global;
 
 // How many have an occurrence to come after the second `to`.

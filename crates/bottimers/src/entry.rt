@@ -3,7 +3,7 @@ ghost use Rattle.std.specs.Prelude.{◌≡◌, ◌+◌, ◌-◌, ◌/◌, ◌<�
 ghost use Rattle.bottimers.specs.Occurrences.{unit_of, start_of, is_due, is_kept, units_left, repeats_left, used};
 
 use crate::timer::{Timer, TimerKind};
-use bytetext::NoMemory;
+use bytetext::{NoMemory, TryCopy};
 use std::alloc::Global;
 
 // `left` units are left to the next occurrence, and `repeats` occurrences are to come, or 0 for ever.

@@ -46,6 +46,3 @@ pub use crate::listed::Listed;
 pub use crate::timer::{Timer, TimerKind};
 pub use crate::timers::Timers;
 pub use crate::words::{cron_args, time_args, time_text};
-
-#[cfg(test)]
-mod tests;

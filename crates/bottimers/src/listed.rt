@@ -2,7 +2,7 @@
 ghost use Rattle.std.specs.Prelude.{◌≡◌, IfOk};
 
 use crate::timer::TimerKind;
-use bytetext::{NoMemory, Text};
+use bytetext::{NoMemory, Text, TryCopy};
 use std::alloc::Global;
 
 /// How a timer stands: what is left until it is due, and how often it will be.

@@ -1,7 +1,7 @@
 // One timer, as it was made.
 ghost use Rattle.std.specs.Prelude.{◌≡◌, IfOk};
 
-use bytetext::{NoMemory, Text};
+use bytetext::{NoMemory, Text, TryCopy};
 use std::alloc::Global;
 
 /// Whether a timer counts minutes or seconds.

@@ -23,6 +23,3 @@ pub use crate::outcome::{End, Outcome, Outcomes, Report, Transcript};
 pub use crate::sent::Sent;
 pub use crate::step::{Event, Step};
 pub use crate::world::World;
-
-#[cfg(test)]
-mod tests;

@@ -7,7 +7,7 @@ use crate::error::{WorldError, WorldFault};
 use crate::outcome::{End, Outcome, Outcomes, Report, Transcript};
 use crate::sent::Sent;
 use crate::step::{Event, Step};
-use bytetext::NoMemory;
+use bytetext::{NoMemory, TryCopy};
 use sharelink::{Answer, HubLink, LeafLink, LinkError, MAX_LEAVES, Outgoing};
 use std::alloc::Global;
 use std::marker::Model;

@@ -8,7 +8,7 @@ ghost use Rattle.chanstate.specs.Firsts.{first_removed};
 use crate::member::Member;
 use crate::renaming::Renaming;
 use crate::roster::Roster;
-use bytetext::{NoMemory, Text};
+use bytetext::{NoMemory, Text, TryCopy};
 use std::alloc::Global;
 
 /// A channel that the bot is on.

@@ -13,7 +13,7 @@ use crate::channel::Channel;
 use crate::member::{Mark, Member};
 use crate::names::is_alike;
 use crate::renames::rename_all;
-use bytetext::{NoMemory, Text};
+use bytetext::{NoMemory, Text, TryCopy};
 use std::alloc::Global;
 use std::marker::Model;
 

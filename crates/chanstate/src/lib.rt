@@ -55,6 +55,3 @@ pub use crate::member::{Mark, Member};
 pub use crate::members::Members;
 pub use crate::speech::events;
 pub use crate::state::ChanState;
-
-#[cfg(test)]
-mod tests;

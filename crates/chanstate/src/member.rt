@@ -2,7 +2,7 @@
 ghost use Rattle.std.specs.Prelude.{◌≡◌, IfOk};
 ghost use Rattle.chanstate.specs.Members.{unmarked, with_mark, with_marks_of, with_address};
 
-use bytetext::{NoMemory, Text};
+use bytetext::{NoMemory, Text, TryCopy};
 use std::alloc::{AllocError, Global};
 
 /// A mark that a member of a channel may have.

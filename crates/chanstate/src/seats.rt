@@ -12,7 +12,7 @@ ghost use Rattle.chanstate.specs.Members.{is_called, has_member, listed, listed_
 use crate::member::Member;
 use crate::names::is_alike;
 use crate::words::named_member;
-use bytetext::NoMemory;
+use bytetext::{NoMemory, TryCopy};
 use indexmap::IndexMap;
 use rfccase::{ShortFold, fold_text};
 use std::alloc::Global;

@@ -8,7 +8,7 @@ ghost use Rattle.chanstate.specs.Steps.{after};
 use crate::change::{Change, change_of};
 use crate::channels::Channels;
 use crate::members::Members;
-use bytetext::{NoMemory, Text, Texts};
+use bytetext::{NoMemory, Text, Texts, TryCopy};
 use ircline::Message;
 use std::alloc::Global;
 

@@ -3,7 +3,7 @@ ghost use Rattle.std.specs.Prelude.{◌≡◌, IfOk};
 ghost use Rattle.chanstate.specs.Undos.{before_in, undone_by, undone};
 
 use crate::state::ChanState;
-use bytetext::{NoMemory, Text};
+use bytetext::{NoMemory, Text, TryCopy};
 use std::alloc::Global;
 
 /// What is known of a person on a channel before they join it.

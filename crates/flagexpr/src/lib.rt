@@ -19,6 +19,3 @@ mod flags;
 pub use crate::expression::FlagExpr;
 pub use crate::fault::FlagFault;
 pub use crate::flags::Flags;
-
-#[cfg(test)]
-mod tests;

@@ -45,6 +45,3 @@ pub use crate::printer::print;
 pub use crate::read::read_line;
 pub use crate::reader::LineReader;
 pub use crate::sender::Source;
-
-#[cfg(test)]
-mod tests;

@@ -3,7 +3,7 @@ ghost use Rattle.std.specs.Prelude.{◌≡◌, IfOk};
 
 use crate::fault::Fault;
 use crate::message::Message;
-use bytetext::NoMemory;
+use bytetext::{NoMemory, TryCopy};
 use std::alloc::Global;
 
 /// One line of a stream.

@@ -1,7 +1,7 @@
 // One message.
 ghost use Rattle.std.specs.Prelude.{◌≡◌, IfOk};
 
-use bytetext::{NoMemory, Text, Texts};
+use bytetext::{NoMemory, Text, Texts, TryCopy};
 use std::alloc::Global;
 
 /// A message (RFC 2812 section 2.3.1), as it was read or is to be printed.

@@ -22,6 +22,3 @@ mod queues;
 pub use crate::error::{PutError, QueueFault};
 pub use crate::pacing::over_moments;
 pub use crate::queues::{Queue, Queues, Which};
-
-#[cfg(test)]
-mod tests;

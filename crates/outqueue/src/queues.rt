@@ -5,7 +5,7 @@ ghost use Rattle.outqueue.specs.Sending.{Sending, idle, lines_in, without, waiti
 ghost use Rattle.outqueue.specs.Refusals.{is_break, is_bad_line, refusal, Puts};
 
 use crate::error::{PutError, QueueFault};
-use bytetext::{NoMemory, Text, Texts};
+use bytetext::{NoMemory, Text, Texts, TryCopy};
 use std::alloc::Global;
 use std::collections::VecDeque;
 use std::marker::Model;

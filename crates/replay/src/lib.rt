@@ -22,6 +22,3 @@ mod shows;
 
 pub use crate::error::ReplayError;
 pub use crate::replaying::replay;
-
-#[cfg(test)]
-mod tests;

@@ -8,7 +8,7 @@ ghost use Rattle.replay.specs.Playing.{AreDone, CommandTold, IsPlayed, StepTold}
 use crate::outcomes::put_outcome;
 use crate::shows::put_shown;
 use botworld::{Event, Outcome, Step, World};
-use bytetext::NoMemory;
+use bytetext::{NoMemory, TryCopy};
 use script::{Command, Script};
 use std::alloc::Global;
 use std::slice;

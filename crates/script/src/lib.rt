@@ -29,6 +29,3 @@ pub use crate::reading::Script;
 
 /// The most bytes that a script has.
 pub const MAX_SCRIPT: usize = 1_048_576;
-
-#[cfg(test)]
-mod tests;

@@ -6,7 +6,7 @@ use crate::answer::{Answer, Note, Outgoing, Outgoings};
 use crate::error::{LinkError, LinkFault};
 use crate::packet::Packet;
 use crate::{HELLO_CHANGES, MAX_ASKS};
-use bytetext::NoMemory;
+use bytetext::{NoMemory, TryCopy};
 use std::alloc::Global;
 use std::collections::VecDeque;
 use std::marker::Model;

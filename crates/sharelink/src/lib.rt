@@ -32,6 +32,3 @@ pub const MAX_ASKS: usize = 64;
 
 /// The most changes that a hub sends on one hello.
 pub const HELLO_CHANGES: usize = 16;
-
-#[cfg(test)]
-mod tests;

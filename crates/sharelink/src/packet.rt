@@ -1,7 +1,7 @@
 // What goes over the link.
 ghost use Rattle.std.specs.Prelude.{◌≡◌, IfOk};
 
-use bytetext::NoMemory;
+use bytetext::{NoMemory, TryCopy};
 use std::alloc::Global;
 use userfile::Change;
 

@@ -7,7 +7,7 @@ ghost use Rattle.userfile.specs.Keys.{HasGoodMask};
 use crate::ban::Ban;
 use crate::change::Change;
 use crate::edits::hostmask_of;
-use bytetext::NoMemory;
+use bytetext::{NoMemory, TryCopy};
 use std::alloc::Global;
 
 // Whether there is a ban of this channel and mask.

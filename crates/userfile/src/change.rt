@@ -1,7 +1,7 @@
 // One edit of the userfile.
 ghost use Rattle.std.specs.Prelude.{◌≡◌, IfOk};
 
-use bytetext::{NoMemory, Text};
+use bytetext::{NoMemory, Text, TryCopy};
 use flagexpr::Flags;
 use std::alloc::Global;
 

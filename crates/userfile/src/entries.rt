@@ -12,7 +12,7 @@ use crate::edits::edit;
 use crate::shapes::MAX_HANDLE;
 use crate::texts::same_text;
 use crate::user::User;
-use bytetext::{NoMemory, Text};
+use bytetext::{NoMemory, Text, TryCopy};
 use indexmap::IndexMap;
 use rfccase::{ShortFold, fold_text};
 use std::alloc::Global;

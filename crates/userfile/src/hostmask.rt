@@ -3,7 +3,7 @@ ghost use Rattle.std.specs.Prelude.{◌≡◌};
 ghost use Rattle.userfile.specs.Held.{has_mask, masks_without};
 
 use crate::texts::same_text;
-use bytetext::NoMemory;
+use bytetext::{NoMemory, TryCopy};
 use std::alloc::{AllocError, Global};
 use std::marker::Model;
 use wildmask::{Mask, MaskError};

@@ -49,6 +49,3 @@ pub use crate::shapes::{is_ban_channel, is_channel, is_comment, is_handle, is_ho
 pub use crate::together::{are_bans, are_users, is_ban, is_user};
 pub use crate::user::User;
 pub use crate::userfile_core::{MAX_BANS, MAX_USERS, Userfile};
-
-#[cfg(test)]
-mod tests;

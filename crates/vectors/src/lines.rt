@@ -1,6 +1,6 @@
 // Lines of IRC.
 use crate::shown;
-use bytetext::{NoMemory, Text, Texts};
+use bytetext::{NoMemory, Text, Texts, TryCopy};
 use ircline::{Line, Message, PrintError, Source};
 use std::alloc::Global;
 

@@ -32,6 +32,3 @@ mod matching;
 pub use crate::checks::{bind_fault, host_fault};
 pub use crate::faults::{MaskError, MaskFault};
 pub use crate::masks::Mask;
-
-#[cfg(test)]
-mod tests;

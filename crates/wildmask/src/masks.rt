@@ -4,7 +4,7 @@ use crate::checks::fault_of;
 use crate::faults::MaskError;
 use crate::items::{Item, MaskKind, next_item};
 use crate::matching::matches_rest;
-use bytetext::{NoMemory, Text};
+use bytetext::{NoMemory, Text, TryCopy};
 use std::alloc::Global;
 use std::marker::Model;
 
