@@ -6,7 +6,7 @@ use Rattle.std.proofs.lemmas.List.{take_all, length-drop, length-take}
 use Rattle.std.proofs.lemmas.List.Splits.{slice_split_none, slice_split_first}
 use Rattle.std.proofs.lemmas.List.Sums.{fails_before_first, passes_at_first}
 use Rattle.bottimers.specs.declared.span.Span.{Span}
-use Rattle.bottimers.specs.CronText.{has_byte, before, behind, fields_of, is_field, in_field, span_of, in_span, in_span_if_any}
+use Rattle.bottimers.specs.CronText.{has_byte, before, after, fields_of, is_field, in_field, span_of, in_span, in_span_if_any}
 use Rattle.bottimers.proofs.CronFields.{is_rest, in_rest}
 
 abbrev at_byte : ℕ → ℕ → Bool
@@ -30,11 +30,11 @@ module _ (c : ℕ) (xs : List ℕ) where
   pub front_some : (i : ℕ) → position (at_byte c) xs ≡ Some i → take i xs ≡ before c xs
   front_some i e = ap (λ n. take n xs) (sym (place_some i e).0)
 
-  pub back_some : (i : ℕ) → position (at_byte c) xs ≡ Some i → ◌≡◌ {A = Option (List ℕ)} (Some (take (length xs - (i + 1)) (drop (i + 1) xs))) (cond (has_byte c xs) (Some (behind c xs)) None)
+  pub back_some : (i : ℕ) → position (at_byte c) xs ≡ Some i → ◌≡◌ {A = Option (List ℕ)} (Some (take (length xs - (i + 1)) (drop (i + 1) xs))) (cond (has_byte c xs) (Some (after c xs)) None)
   back_some i e =
       let p = place_some i e in
       let whole = take_all (length xs - (i + 1)) (drop (i + 1) xs) (omega (arith, length-drop (i + 1) xs)) in
-      ap Some (whole ∙ ap (λ n. drop (n + 1) xs) (sym p.0)) ∙ sym (cond-true (has_byte c xs) (Some (behind c xs)) None p.1)
+      ap Some (whole ∙ ap (λ n. drop (n + 1) xs) (sym p.0)) ∙ sym (cond-true (has_byte c xs) (Some (after c xs)) None p.1)
 
   before_none : has_byte c xs ≡ false → before c xs ≡ xs
   before_none absent = take_all (position_or_len (at_byte c) xs) xs (ltb-false _ _ absent)
@@ -42,24 +42,24 @@ module _ (c : ℕ) (xs : List ℕ) where
   pub front_none : position (at_byte c) xs ≡ None → xs ≡ before c xs
   front_none e = sym (before_none (place_none e))
 
-  pub back_none : position (at_byte c) xs ≡ None → ◌≡◌ {A = Option (List ℕ)} None (cond (has_byte c xs) (Some (behind c xs)) None)
-  back_none e = sym (cond-false (has_byte c xs) (Some (behind c xs)) None (place_none e))
+  pub back_none : position (at_byte c) xs ≡ None → ◌≡◌ {A = Option (List ℕ)} None (cond (has_byte c xs) (Some (after c xs)) None)
+  back_none e = sym (cond-false (has_byte c xs) (Some (after c xs)) None (place_none e))
 
-  pub split_cut : slice_split (at_byte c) xs ≡ before c xs ∷ cond (has_byte c xs) (slice_split (at_byte c) (behind c xs)) []
+  pub split_cut : slice_split (at_byte c) xs ≡ before c xs ∷ cond (has_byte c xs) (slice_split (at_byte c) (after c xs)) []
   split_cut =
       elim (cases_Bool (has_byte c xs)) [
         | inl found ↦
             slice_split_first (at_byte c) xs 0 (ltb-true _ _ found)
-            ∙ ap (λ ys. before c xs ∷ ys) (sym (cond-true (has_byte c xs) (slice_split (at_byte c) (behind c xs)) [] found))
+            ∙ ap (λ ys. before c xs ∷ ys) (sym (cond-true (has_byte c xs) (slice_split (at_byte c) (after c xs)) [] found))
         | inr absent ↦
             slice_split_none (at_byte c) xs (λ k d l. fails_before_first (at_byte c) xs k d (omega (arith, ltb-false _ _ absent)))
             ∙ ap (λ ys. ys ∷ []) (sym (before_none absent))
-            ∙ ap (λ ys. before c xs ∷ ys) (sym (cond-false (has_byte c xs) (slice_split (at_byte c) (behind c xs)) [] absent))
+            ∙ ap (λ ys. before c xs ∷ ys) (sym (cond-false (has_byte c xs) (slice_split (at_byte c) (after c xs)) [] absent))
       ]
 
 -- the first item of a field, and the rest
 abbrev pub rest_after : ℕ → List ℕ → Option (List ℕ)
-rest_after c xs = cond (has_byte c xs) (Some (behind c xs)) None
+rest_after c xs = cond (has_byte c xs) (Some (after c xs)) None
 
 rest_cond : (low high : ℕ) (b : Bool) (ys : List ℕ) → list_all (λ item. is_some (span_of low high item)) (cond b (slice_split (at_byte 44) ys) []) ≡ is_rest low high (cond b (Some ys) None)
 rest_cond low high true ys = refl
@@ -72,12 +72,12 @@ in_rest_cond low high n false ys = refl
 pub is_field-cut : (low high : ℕ) (xs : List ℕ) → is_field low high xs ≡ (is_some (span_of low high (before 44 xs)) && is_rest low high (rest_after 44 xs))
 is_field-cut low high xs =
     ap (list_all (λ item. is_some (span_of low high item))) (split_cut 44 xs)
-    ∙ ap (λ b. is_some (span_of low high (before 44 xs)) && b) (rest_cond low high (has_byte 44 xs) (behind 44 xs))
+    ∙ ap (λ b. is_some (span_of low high (before 44 xs)) && b) (rest_cond low high (has_byte 44 xs) (after 44 xs))
 
 pub in_field-cut : (low high : ℕ) (xs : List ℕ) (n : ℕ) → in_field low high xs n ≡ (in_span_if_any (span_of low high (before 44 xs)) n || in_rest low high (rest_after 44 xs) n)
 in_field-cut low high xs n =
     ap (list_any (λ item. in_span_if_any (span_of low high item) n)) (split_cut 44 xs)
-    ∙ ap (λ b. in_span_if_any (span_of low high (before 44 xs)) n || b) (in_rest_cond low high n (has_byte 44 xs) (behind 44 xs))
+    ∙ ap (λ b. in_span_if_any (span_of low high (before 44 xs)) n || b) (in_rest_cond low high n (has_byte 44 xs) (after 44 xs))
 
 -- one item of a field, with what it means
 pub field_step : (low high : ℕ) (items item : List ℕ) (more : Option (List ℕ)) (s : Span) → item ≡ before 44 items → more ≡ rest_after 44 items → span_of low high item ≡ Some s → (is_field low high items ≡ is_rest low high more) × ((n : ℕ) → in_field low high items n ≡ (in_span s n || in_rest low high more n))
@@ -129,4 +129,4 @@ module _ (ys : List ℕ) (some : 0 < length ys) (begins : get_or ys 0 0 ≡ 32 �
   fields_of-cut =
       ap (filter filled) (split_cut 32 ys)
       ∙ cond-true (filled (before 32 ys)) _ _ filled_before
-      ∙ ap (λ fs. before 32 ys ∷ fs) (fields_cond (has_byte 32 ys) (behind 32 ys))
+      ∙ ap (λ fs. before 32 ys ∷ fs) (fields_cond (has_byte 32 ys) (after 32 ys))

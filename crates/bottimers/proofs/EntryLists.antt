@@ -1,14 +1,17 @@
 -- Lists of entries, and the lists of their timers.
-use Rattle.std.proofs.Common.{◌≡◌, ℕ, ◌<◌, ◌≤◌, Bool, true, false, cond, ltb, eqb, ◌||◌, List, [], ◌∷◌, map, filter, length, take, drop, ◌++◌, Option, Some, None, unwrap_or, All, arith, ap, ◌∙◌, sym, refl}
+use Rattle.std.proofs.Common.{◌≡◌, ℕ, suc, zero, ◌<◌, ◌≤◌, Bool, true, false, cond, ltb, eqb, ◌||◌, List, [], ◌∷◌, map, filter}
+use Rattle.std.proofs.Common.{length, take, drop, get_or, ◌++◌, Option, Some, None, unwrap_or, All, arith, ap, ◌∙◌, sym, refl, inl, inr}
 use Rattle.std.specs.List.{list_any}
+use Rattle.std.proofs.lemmas.Bool.{cases_Bool}
 use Rattle.std.proofs.lemmas.Bool.Decides.{nat_tests}
 use Rattle.std.proofs.lemmas.List.{length-map, take-append-le, take_all}
-use Rattle.std.proofs.lemmas.List.Elements.{All-filter, filter_passes, All-map}
+use Rattle.std.proofs.lemmas.List.Elements.{All-filter, All-map, filter_agree, filter_passes}
 use Rattle.bottimers.specs.declared.timer.Timer.{Timer}
+use Rattle.bottimers.specs.declared.timer.TimerKind.{TimerKind}
 use Rattle.bottimers.specs.declared.entry.Entry.{Entry}
-use Rattle.bottimers.specs.Occurrences.{is_due, is_kept, repeats_left}
+use Rattle.bottimers.specs.Occurrences.{is_due_of, is_kept, repeats_left}
 use Rattle.bottimers.specs.Held.{call_of, IsAbove, IsNotBelow}
-use Rattle.bottimers.specs.Countdown.{IsRunning, IsRunningAt, counted}
+use Rattle.bottimers.specs.Countdown.{IsRunning, IsRunningAt, counted, due_calls}
 
 map-cond : {A B : Type 0} (f : A → B) (b : Bool) (xs ys : List A) → map f (cond b xs ys) ≡ cond b (map f xs) (map f ys)
 map-cond f true xs ys = refl
@@ -28,11 +31,6 @@ pub map-map : {A B C : Type 0} (g : B → C) (f : A → B) (xs : List A) → map
 map-map g f [] = refl
 map-map g f (x ∷ xs) = ap (λ ys. g (f x) ∷ ys) (map-map g f xs)
 
-filter_same_test : {A : Type 0} (p q : A → Bool) → ((x : A) → p x ≡ q x) → (xs : List A) → filter p xs ≡ filter q xs
-filter_same_test p q same [] = refl
-filter_same_test p q same (x ∷ xs) =
-    ap (λ b. cond b (x ∷ filter p xs) (filter p xs)) (same x) ∙ ap (λ ys. cond (q x) (x ∷ ys) ys) (filter_same_test p q same xs)
-
 -- what has counted down to its last occurrence has none to come
 kept_same : (t : ℕ) (m : Timer) → (eqb m.count 0 || ltb 0 (repeats_left m t)) ≡ is_kept t m
 kept_same t m = grind (arith, nat_tests)
@@ -40,7 +38,7 @@ kept_same t m = grind (arith, nat_tests)
 pub kept_counted : (t : ℕ) (xs : List Entry) → filter (λ e. eqb e.timer.count 0 || ltb 0 e.repeats) (map (counted t) xs) ≡ map (counted t) (filter (λ e. is_kept t e.timer) xs)
 kept_counted t xs =
     filter-map (λ e. eqb e.timer.count 0 || ltb 0 e.repeats) (counted t) xs
-    ∙ ap (map (counted t)) (filter_same_test (λ e. eqb e.timer.count 0 || ltb 0 (repeats_left e.timer t)) (λ e. is_kept t e.timer) (λ e. kept_same t e.timer) xs)
+    ∙ ap (map (counted t)) (filter_agree (λ e. eqb e.timer.count 0 || ltb 0 (repeats_left e.timer t)) (λ e. is_kept t e.timer) (λ e. kept_same t e.timer) xs)
 
 -- the timers that are left
 pub timers_kept : (t : ℕ) (xs : List Entry) → map (λ e. e.timer) (map (counted t) (filter (λ e. is_kept t e.timer) xs)) ≡ filter (is_kept t) (map (λ e. e.timer) xs)
@@ -87,10 +85,32 @@ running_to last t xs above all = λ k d l.
     let r = running_above last t xs above all k d l in
     (r.0, omega (arith, r.1))
 
-pub calls_of : (t : ℕ) (xs : List Entry) → map (λ e. call_of e.timer) (filter (λ e. is_due t e.timer) xs) ≡ map call_of (filter (is_due t) (map (λ e. e.timer) xs))
-calls_of t xs =
-    sym (map-map call_of (λ e. e.timer) (filter (λ e. is_due t e.timer) xs))
-    ∙ ap (map call_of) (sym (filter-map (is_due t) (λ (e : Entry). e.timer) xs))
+-- the calls of one kind that are due, seen from outside
+pub due_calls-is : (kind : TimerKind) (t : ℕ) (xs : List Entry)
+    → due_calls kind t xs ≡ map call_of (filter (is_due_of kind t) (map (λ e. e.timer) xs))
+due_calls-is kind t xs =
+    sym (map-map call_of (λ e. e.timer) (filter (λ e. is_due_of kind t e.timer) xs))
+    ∙ ap (map call_of) (sym (filter-map (is_due_of kind t) (λ (e : Entry). e.timer) xs))
+
+-- two lists that are nothing together
+pub nothing_in_both : {A : Type 0} (xs ys : List A) → xs ++ ys ≡ [] → (xs ≡ []) × (ys ≡ [])
+nothing_in_both [] ys none = (refl, none)
+nothing_in_both (x ∷ xs) ys none = cc
+
+-- what passes the test is among what is kept
+pub some_kept : {A B : Type 0} (p : A → Bool) (f : A → B) (xs : List A) (i : ℕ) (d : A)
+    → i < length xs → p (get_or xs i d) ≡ true → map f (filter p xs) ≡ [] → ⊥
+some_kept p f [] i d within passes none = omega arith
+some_kept p f (x ∷ xs) zero d within passes none =
+    let first = ap (λ b. map f (cond b (x ∷ filter p xs) (filter p xs))) (sym passes) ∙ none in
+    cc
+some_kept p f (x ∷ xs) (suc i) d within passes none =
+    elim (cases_Bool (p x)) [
+      | inl passes_first ↦ let first = ap (λ b. map f (cond b (x ∷ filter p xs) (filter p xs))) (sym passes_first) ∙ none in cc
+      | inr fails_first ↦
+          some_kept p f xs i d (omega arith) passes
+          (ap (λ b. map f (cond b (x ∷ filter p xs) (filter p xs))) (sym fails_first) ∙ none)
+    ]
 
 pub length-kept : (t : ℕ) (xs : List Entry) → length (filter (λ e. is_kept t e.timer) xs) ≡ length (filter (is_kept t) (map (λ e. e.timer) xs))
 length-kept t xs =

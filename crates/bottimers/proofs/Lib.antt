@@ -1,3 +1,4 @@
+pub mod Seconds
 pub mod Jumps
 pub mod Laws
 pub mod EntryLists

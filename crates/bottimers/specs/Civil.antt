@@ -1,13 +1,15 @@
 -- The minute that a calendar and a clock show, and how it is written.
-use Rattle.std.specs.Prelude.{◌≡◌, ℕ, ◌+◌, ◌-◌, ◌*◌, ◌/◌, ◌%◌, ◌<◌, ℤ, pos, neg_ℤ, ◌+ℤ◌, ◌*ℤ◌, unsigned_abs, List, [], ◌∷◌, ◌++◌}
+use Rattle.std.specs.Prelude.{◌≡◌, ℕ, ◌+◌, ◌-◌, ◌*◌, ◌/◌, ◌%◌, ◌<◌, ℤ, pos, neg_ℤ, ◌+ℤ◌, ◌*ℤ◌, unsigned_abs}
+use Rattle.std.specs.Prelude.{List, [], ◌∷◌, ◌++◌}
 use Rattle.std.specs.List.{join_with_byte}
 use Rattle.jiff.specs.Types.{Date}
 use Rattle.jiff.specs.Words.{IsBetween, IsYmd, epoch_day, weekday_of}
+use Rattle.bottimers.specs.declared.limits.TheConstants.{MAX_OFFSET}
 use Rattle.bottimers.specs.declared.calendar.CivilMinute.{CivilMinute}
 
 -- whole minutes ahead of UTC, less than a day either way
 abbrev pub IsOffset : ℤ → Type 0
-IsOffset = IsBetween (neg_ℤ (pos 1439)) (pos 1439)
+IsOffset = IsBetween (neg_ℤ MAX_OFFSET) MAX_OFFSET
 
 -- The minute shows a date of the calendar, a time of the clock, and the weekday of that date from 0 for Sunday. From
 -- the start of 1 January 1970 it is so many minutes away, where a day has 1,440 minutes.

@@ -1,5 +1,8 @@
--- The grammar of a cron mask, and the numbers that its fields mean.
-use Rattle.std.specs.Prelude.{ℕ, ◌+◌, ◌-◌, ◌*◌, ◌%◌, Bool, true, false, ◌&&◌, ◌==◌, nat_lt, nat_le, if◌then◌else◌, Option, Some, None, is_some, option_and_then, List, [], ◌∷◌, length, filter, fold, codes, slice_index}
+-- The grammar of a cron mask, and the numbers that its fields mean (crontab(5), without names; that `n/s` runs from n to the
+-- maximum, and that last fields may be left out, is our own choice).
+use Rattle.std.specs.Prelude.{ℕ, ◌+◌, ◌-◌, ◌*◌, ◌%◌, Bool, true, false, ◌&&◌, ◌==◌, nat_lt, nat_le, if◌then◌else◌}
+use Rattle.std.specs.Prelude.{Option, Some, None, is_some, option_and_then}
+use Rattle.std.specs.Prelude.{List, [], ◌∷◌, length, filter, fold, codes, slice_index}
 use Rattle.std.specs.List.{list_any, list_all, slice_split, before_first, after_first, position_or_len}
 use Rattle.std.specs.Option.{option_map}
 use Rattle.bottimers.specs.declared.span.Span.{Span}
@@ -10,12 +13,12 @@ use Rattle.bottimers.specs.declared.span.Span.{Span}
 abbrev pub has_byte : ℕ → List ℕ → Bool
 has_byte c text = nat_lt (position_or_len (λ b. b == c) text) (length text)
 
--- what stands before its first place, or the whole text, and what stands behind that place
+-- what stands before its first place, or the whole text, and what stands after that place
 abbrev pub before : ℕ → List ℕ → List ℕ
 before c text = before_first (λ b. b == c) text
 
-abbrev pub behind : ℕ → List ℕ → List ℕ
-behind c text = after_first (λ b. b == c) text
+abbrev pub after : ℕ → List ℕ → List ℕ
+after c text = after_first (λ b. b == c) text
 
 -- ---- numbers
 
@@ -43,20 +46,22 @@ is_star text = (length text == 1) && (slice_index text 0 == 42)
 -- `a-b`, where a is at most b
 abbrev pub range_in : ℕ → ℕ → List ℕ → List ℕ → Option (ℕ × ℕ)
 range_in low high a b =
-    option_and_then (λ first. option_and_then (λ last. if nat_le first last then Some (first, last) else None) (number_in low high b)) (number_in low high a)
+    option_and_then (λ first. option_and_then (λ last. if nat_le first last then Some (first, last) else None) (number_in low high b))
+    (number_in low high a)
 
 -- where an item begins and ends: `*` from low to high, `a-b` from a to b, `n` at n or with a step from n to high
 abbrev pub ends_in : ℕ → ℕ → Bool → List ℕ → Option (ℕ × ℕ)
 ends_in low high stepped base =
     if is_star base then Some (low, high)
-    else (if has_byte 45 base then range_in low high (before 45 base) (behind 45 base)
+    else (if has_byte 45 base then range_in low high (before 45 base) (after 45 base)
     else option_map (λ n. (n, if stepped then high else n)) (number_in low high base))
 
--- with the step: 1, or what stands behind `/`, from 1 to high
+-- with the step: 1, or what stands after `/`, from 1 to high
 abbrev pub span_of : ℕ → ℕ → List ℕ → Option Span
 span_of low high item =
     if has_byte 47 item
-    then option_and_then (λ step. option_map (λ e. record { first = e.0; last = e.1; step = step }) (ends_in low high true (before 47 item))) (number_in 1 high (behind 47 item))
+    then option_and_then (λ step. option_map (λ e. record { first = e.0; last = e.1; step = step }) (ends_in low high true (before 47 item)))
+    (number_in 1 high (after 47 item))
     else option_map (λ e. record { first = e.0; last = e.1; step = 1 }) (ends_in low high false item)
 
 -- the numbers first, first + step and so on, up to last
@@ -84,7 +89,7 @@ in_field low high field n = list_any (λ item. in_span_if_any (span_of low high 
 abbrev pub fields_of : List ℕ → List (List ℕ)
 fields_of mask = filter (λ field. nat_lt 0 (length field)) (slice_split (λ b. b == 32) mask)
 
--- the first of the fields, and those behind it; a field that is left out is `*`
+-- the first of the fields, and those after it; a field that is left out is `*`
 abbrev pub first_field : List (List ℕ) → List ℕ
 first_field [] = codes "*"
 first_field (field ∷ fields) = field

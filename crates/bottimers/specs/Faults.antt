@@ -1,9 +1,9 @@
 -- The letters of a fault, and what a call was refused for.
 use Rattle.std.specs.Prelude.{◌≡◌, ℕ, List, codes, Option, Some, None, Result, Ok, Err}
+use Rattle.bytetext.specs.declared.failure.Failure.{Failure}
+use Rattle.bytetext.specs.declared.failure.Failure.TheVariants.{Refused, NoMemory}
 use Rattle.bottimers.specs.declared.fault.ClockFault.{ClockFault}
 use Rattle.bottimers.specs.declared.fault.ClockFault.TheVariants.{BadMoment, BadInterval, Full, NoSuchTimer}
-use Rattle.bottimers.specs.declared.fault.ClockError.{ClockError}
-use Rattle.bottimers.specs.declared.fault.ClockError.TheVariants.{Refused, NoMemory}
 
 abbrev pub letters_of : ClockFault → List ℕ
 letters_of BadMoment = codes "C4"
@@ -11,8 +11,13 @@ letters_of BadInterval = codes "C1"
 letters_of Full = codes "C3"
 letters_of NoSuchTimer = codes "C2"
 
--- the call was refused for this fault and no other, and where there is none, only for want of memory
-abbrev pub RefusedFor : {T : Type 0} → Option ClockFault → Result T ClockError → Type 0
+-- the call was refused for this fault and no other, and where there is none, only out of memory
+abbrev pub RefusedFor : {T : Type 0} → Option ClockFault → Result T (Failure ClockFault) → Type 0
 RefusedFor fault (Ok v) = fault ≡ None
 RefusedFor fault (Err (Refused f)) = fault ≡ Some f
 RefusedFor fault (Err NoMemory) = fault ≡ None
+
+-- the same of a call that takes no memory
+abbrev pub RefusedBy : {T : Type 0} → Option ClockFault → Result T ClockFault → Type 0
+RefusedBy fault (Ok v) = fault ≡ None
+RefusedBy fault (Err f) = fault ≡ Some f

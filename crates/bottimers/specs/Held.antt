@@ -1,17 +1,23 @@
 -- What contracts see of the timers of one bot, and what each call leaves.
-use Rattle.std.specs.Prelude.{ℕ, ◌<◌, ◌≤◌, Bool, not, ◌||◌, ◌==◌, nat_lt, nat_le, if◌then◌else◌, Option, Some, None, unwrap_or, List, [], ◌∷◌, ◌++◌, length, map, filter}
+use Rattle.std.specs.Prelude.{ℕ, ◌-◌, ◌<◌, ◌≤◌, Bool, not, ◌||◌, ◌==◌, nat_lt, nat_le, if◌then◌else◌}
+use Rattle.std.specs.Prelude.{Option, Some, None, unwrap_or, List, [], ◌∷◌, ◌++◌, length, map, filter}
 use Rattle.std.specs.List.{list_any}
+use Rattle.bottimers.specs.declared.limits.TheConstants.{MAX_INTERVAL, MAX_TIMERS, MAX_ID}
 use Rattle.bottimers.specs.declared.fault.ClockFault.{ClockFault}
 use Rattle.bottimers.specs.declared.fault.ClockFault.TheVariants.{BadMoment, BadInterval, Full}
 use Rattle.bottimers.specs.declared.timer.Timer.{Timer}
-use Rattle.bottimers.specs.declared.listed.Listed.{Listed}
-use Rattle.bottimers.specs.Occurrences.{is_due, is_kept, units_left, repeats_left}
+use Rattle.bottimers.specs.declared.timer.TimerKind.{TimerKind}
+use Rattle.bottimers.specs.declared.timer.TimerKind.TheVariants.{Minutes, Seconds}
+use Rattle.bottimers.specs.declared.status.TimerStatus.{TimerStatus}
+use Rattle.bottimers.specs.Occurrences.{is_due_of, is_kept, units_left, repeats_left}
 
--- the timers with an occurrence to come, in the order of making; the last second given; the last id given
+-- The timers with an occurrence to come, in the order of making; the last second given; the last id given; and how many
+-- timers more there is room for.
 pub record Held : Type 0 where
   pub timers : List Timer
   pub last : Option ℕ
   pub spent : ℕ
+  pub room : ℕ
 
 -- a second that may be given next: above the last one
 abbrev pub IsAbove : Option ℕ → ℕ → Type 0
@@ -32,12 +38,12 @@ timers_at t h = filter (is_kept t) h.timers
 abbrev pub add_fault : Held → ℕ → Option ℕ → Option ClockFault
 add_fault h interval None = Some BadMoment
 add_fault h interval (Some t) =
-    if interval == 0 || nat_lt 1_000_000 interval then Some BadInterval
-    else (if nat_le 200 (length (timers_at t h)) || (h.spent == 4_294_967_295) then Some Full else None)
+    if interval == 0 || nat_lt MAX_INTERVAL interval then Some BadInterval
+    else (if nat_le MAX_TIMERS (length (timers_at t h)) || (h.spent == MAX_ID) then Some Full else None)
 
--- a new timer stands last; those whose last occurrence was skipped are gone
+-- a new timer stands last; those whose last occurrence was skipped are gone; it takes one place of the room, if any
 abbrev pub with_timer : Held → Timer → Held
-with_timer h m = record { timers = timers_at m.made h ++ m ∷ []; last = Some m.made; spent = m.id }
+with_timer h m = record { timers = timers_at m.made h ++ m ∷ []; last = Some m.made; spent = m.id; room = h.room - 1 }
 
 -- whether a timer has this id
 abbrev pub holds : Held → ℕ → Bool
@@ -51,18 +57,22 @@ without h id = record h { timers = filter (λ m. not (m.id == id)) h.timers }
 abbrev pub call_of : Timer → ℕ × List ℕ
 call_of m = (m.id, m.proc)
 
--- the calls of the timers that are due at a second, in the order of making
+-- the calls of the timers of one kind that are due at a second, in the order of making
+abbrev pub calls_of_kind : TimerKind → ℕ → Held → List (ℕ × List ℕ)
+calls_of_kind kind t h = map call_of (filter (is_due_of kind t) h.timers)
+
+-- all calls of a second: the utimers come before the timers (our own choice; Eggdrop's main loop has the same order)
 abbrev pub calls_at : ℕ → Held → List (ℕ × List ℕ)
-calls_at t h = map call_of (filter (is_due t) h.timers)
+calls_at t h = calls_of_kind Seconds t h ++ calls_of_kind Minutes t h
 
 -- after a second, run or skipped
 abbrev pub passed : ℕ → Held → Held
 passed t h = record h { timers = timers_at t h; last = Some t }
 
 -- how a timer stands at a second
-abbrev pub listed : ℕ → Timer → Listed
-listed t m = record { kind = m.kind; left = units_left m t; proc = m.proc; id = m.id; repeats = repeats_left m t }
+abbrev pub status_of : ℕ → Timer → TimerStatus
+status_of t m = record { kind = m.kind; left = units_left m t; proc = m.proc; id = m.id; repeats = repeats_left m t }
 
 -- how each stands at the last second given
-abbrev pub listing : Held → List Listed
-listing h = map (listed (unwrap_or h.last 0)) h.timers
+abbrev pub statuses : Held → List TimerStatus
+statuses h = map (status_of (unwrap_or h.last 0)) h.timers

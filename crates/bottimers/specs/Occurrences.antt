@@ -1,5 +1,7 @@
--- When a timer is due, by where and how it was made. Nothing here counts down.
-use Rattle.std.specs.Prelude.{◌≡◌, ℕ, ◌+◌, ◌-◌, ◌*◌, ◌/◌, ◌<◌, ◌≤◌, ◌⊎◌, Bool, ◌&&◌, ◌||◌, ◌==◌, nat_lt, nat_le}
+-- When a timer is due, by where and how it was made (Eggdrop's Tcl commands, at `timer` and `utimer`). Nothing here counts
+-- down.
+use Rattle.std.specs.Prelude.{◌≡◌, ℕ, ◌+◌, ◌-◌, ◌*◌, ◌/◌, ◌<◌, ◌≤◌, ◌⊎◌}
+use Rattle.std.specs.Prelude.{Bool, true, false, ◌&&◌, ◌||◌, ◌==◌, nat_lt, nat_le}
 use Rattle.bottimers.specs.declared.timer.TimerKind.{TimerKind}
 use Rattle.bottimers.specs.declared.timer.TimerKind.TheVariants.{Minutes, Seconds}
 use Rattle.bottimers.specs.declared.timer.Timer.{Timer}
@@ -37,6 +39,17 @@ used m t = age m t / m.interval
 -- the latest of those is at the second itself, and the count reaches to it
 abbrev pub is_due : ℕ → Timer → Bool
 is_due t m = nat_lt 0 (used m t) && (occurrence m (used m t) == t) && (m.count == 0 || nat_le (used m t) m.count)
+
+-- both count the same
+abbrev pub is_same_kind : TimerKind → TimerKind → Bool
+is_same_kind Minutes Minutes = true
+is_same_kind Minutes Seconds = false
+is_same_kind Seconds Minutes = false
+is_same_kind Seconds Seconds = true
+
+-- due, and of this kind
+abbrev pub is_due_of : TimerKind → ℕ → Timer → Bool
+is_due_of kind t m = is_same_kind m.kind kind && is_due t m
 
 -- some occurrence is still to come
 abbrev pub is_kept : ℕ → Timer → Bool

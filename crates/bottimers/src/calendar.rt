@@ -3,10 +3,12 @@ ghost use Rattle.std.specs.Prelude.{◌≡◌, ◌↔◌, ◌/◌, pos, ◌+ℤ�
 ghost use Rattle.bottimers.specs.Seconds.{IsMoment};
 ghost use Rattle.bottimers.specs.Civil.{IsOffset, IsCalendarMinute};
 
-use crate::clock::MOMENTS_END;
 use crate::fault::ClockFault;
+use crate::limits::MOMENTS_END;
+use bytetext::{NoMemory, TryCopy};
 use jiff::Timestamp;
 use jiff::tz::Offset;
+use std::alloc::Global;
 
 /// A minute of the calendar. [`civil`] gives the ranges that stand beside the fields.
 #[derive(Clone, Copy, Debug, PartialEq, Eq)]
@@ -25,12 +27,13 @@ pub struct CivilMinute {
     pub weekday: u8,
 }
 
-impl CivilMinute {
-    /// An equal minute.
-    pub fn copy(&self) -> CivilMinute
-        ensures { result ≡ self.now }
+impl TryCopy for CivilMinute {
+    // Takes no memory.
+    fn copy(&self, _alloc: Global) -> Result<CivilMinute, NoMemory>
+        ensures equal { IfOk result (λ twin. twin ≡ self.now) }
+        ensures needs_none { IsOk result }
     {
-        *self
+        Ok(*self)
     }
 }
 

@@ -1,22 +1,25 @@
 // The last second that a bot has seen.
-ghost use Rattle.std.specs.Prelude.{◌≡◌, ◌≢◌, ◌+◌, ◌-◌, ◌<◌, ◌≤◌, Some, None, IfOk, OnOk, OnErr, Err, [], length};
-ghost use Rattle.std.specs.List.{range_with_len};
+ghost use Rattle.std.specs.Prelude.{◌≡◌, ◌≢◌, ◌+◌, ◌-◌, ◌<◌, ◌≤◌, Some, None, IsOk, IfOk, OnOk, OnErr, Err, []};
 ghost use Rattle.bottimers.specs.Faults.{RefusedFor};
 ghost use Rattle.bottimers.specs.Seconds.{reading_fault, seconds_run, seconds_between, last_after};
 
 use crate::fault::{ClockError, ClockFault};
-use std::alloc::{AllocError, Global};
+use crate::limits::{MAX_SECONDS, MOMENTS_END};
+use bytetext::{Failure, NoMemory, TryCopy};
+use std::alloc::Global;
 use std::marker::Model;
-
-// The first moment behind the year 2999.
-pub(crate) const MOMENTS_END: u64 = 32_503_680_000;
-
-// How many of the seconds before the last one a reading runs at most.
-const LOOK_BACK: u64 = 599;
 
 /// The clock of one bot: the last second that it has seen, if it has seen one. Contracts see that `Option`.
 ///
 /// Moments are whole seconds since 1970-01-01 00:00 UTC, from 0 to 32,503,679,999, the last second of the year 2999.
+///
+/// ```text
+/// let mut clock = Clock::new();
+/// clock.advance(alloc, 1_000)?    // no second: the first reading
+/// clock.advance(alloc, 1_003)?    // 1001, 1002, 1003
+/// clock.advance(alloc, 1_002)?    // no second, and the last one stays 1003
+/// clock.last()                    // Some(1003)
+/// ```
 #[derive(Debug, Drop)]
 pub struct Clock {
     last: Option<u64>,
@@ -49,17 +52,17 @@ impl Clock {
     /// below the last second, which changes nothing. Of a longer gap only the last 600 seconds run.
     ///
     /// # Errors
-    /// `Refused(BadMoment)` where the reading is no moment, then `NoMemory` where some second runs and the list's growth
+    /// `Refused(BadMoment)` where the reading is no moment, then `NoMemory` where some second runs and room for the list
     /// is refused. The clock is as before.
     pub fn advance(&mut self, alloc: Global, now: u64) -> Result<Vec<u64>, ClockError>
         ensures refused { RefusedFor (reading_fault now) result }
         ensures seconds { IfOk result (λ seconds. seconds.items ≡ seconds_run self.old now) }
         ensures moved { OnOk result (self.new ≡ Some (last_after self.old now)) }
         ensures unchanged { OnErr result (self.new ≡ self.old) }
-        ensures no_want { seconds_run self.old now ≡ [] → result ≢ Err ClockError.NoMemory }
+        ensures needs_none { seconds_run self.old now ≡ [] → result ≢ Err Failure.NoMemory }
     {
         if now >= MOMENTS_END {
-            return Err(ClockError::Refused(ClockFault::BadMoment));
+            return Err(Failure::Refused(ClockFault::BadMoment));
         }
         let Some(last) = self.last else {
             self.last = Some(now);
@@ -68,24 +71,31 @@ impl Clock {
         if now <= last {
             return Ok(Vec::new(alloc));
         }
-        let first = now.saturating_sub(LOOK_BACK).max(last + 1);
+        let first = now.saturating_sub(MAX_SECONDS - 1).max(last + 1);
         let seconds = seconds_from(alloc, first, now)?;
         self.last = Some(now);
         Ok(seconds)
     }
+}
 
-    /// A clock with the same last second.
-    pub fn copy(&self) -> Clock
-        ensures { result ≡ self.now }
+impl TryCopy for Clock {
+    // Takes no memory.
+    fn copy(&self, _alloc: Global) -> Result<Clock, NoMemory>
+        ensures equal { IfOk result (λ twin. twin ≡ self.now) }
+        ensures needs_none { IsOk result }
     {
-        Clock { last: self.last }
+        Ok(Clock { last: self.last })
     }
 }
 
 // The seconds from the first to the last.
-fn seconds_from(alloc: Global, first: u64, last: u64) -> Result<Vec<u64>, AllocError>
-    requires { (first ≤ last) × (last < MOMENTS_END) }
+fn seconds_from(alloc: Global, first: u64, last: u64) -> Result<Vec<u64>, NoMemory>
+    requires { (first ≤ last) × (last < MOMENTS_END) × (last < first + MAX_SECONDS) }
     ensures { IfOk result (λ seconds. seconds.items ≡ seconds_between first last) }
 {
-    (first..last + 1).collect(alloc)
+    let mut seconds = Vec::with_capacity(alloc, (last + 1 - first) as usize)?;
+    for second in first..last + 1 {
+        seconds.push_reserved(second);
+    }
+    Ok(seconds)
 }

@@ -9,14 +9,21 @@ use crate::calendar::CivilMinute;
 use crate::cron_text::{field, is_star, next_field, take_field};
 use crate::fault::CronFault;
 use crate::span::{contains, union};
+use bytetext::{NoMemory, TryCopy};
+use std::alloc::Global;
 use std::marker::Model;
 
-/// A cron mask, as the sets of numbers that its fields are. It holds no memory.
+/// A cron mask, as the sets of numbers that its fields are (crontab(5); Eggdrop's bind type CRON). It holds no memory.
 ///
 /// A mask has up to five fields separated by spaces: minute 0 to 59, hour 0 to 23, day 1 to 31, month 1 to 12, weekday
 /// 0 to 7, where 0 and 7 are Sunday. Last fields that are left out are `*`. A field is a list by commas of `*`, `n` or
 /// `a-b` with a at most b, each with `/s` at will, where s is from 1 to the field's maximum; `n/s` runs from n to the
 /// maximum. Numbers may have leading zeros.
+///
+/// ```text
+/// let mask = Cron::parse(b"0 0 13 * 5")?;      // midnight on the 13th or any Friday
+/// mask.matches(&civil(moment, offset)?)
+/// ```
 #[derive(Clone, Copy, Debug, PartialEq, Eq)]
 pub struct Cron {
     minutes: u64,
@@ -32,9 +39,23 @@ impl Model for Cron {
 
     ghost Value = { Sets };
 
-    ghost view = { λ c. record { minutes = c.minutes; hours = c.hours; days = c.days; months = c.months; weekdays = c.weekdays; either = c.either } };
+    ghost view = { λ c. record {
+      minutes = c.minutes;
+      hours = c.hours;
+      days = c.days;
+      months = c.months;
+      weekdays = c.weekdays;
+      either = c.either;
+    } };
 
-    ghost inverse = { λ s. record { minutes = s.minutes; hours = s.hours; days = s.days; months = s.months; weekdays = s.weekdays; either = s.either } };
+    ghost inverse = { λ s. record {
+      minutes = s.minutes;
+      hours = s.hours;
+      days = s.days;
+      months = s.months;
+      weekdays = s.weekdays;
+      either = s.either;
+    } };
 }
 
 impl Cron {
@@ -78,12 +99,15 @@ impl Cron {
                 day && weekday
             })
     }
+}
 
-    /// An equal mask.
-    pub fn copy(&self) -> Cron
-        ensures { result ≡ self.now }
+impl TryCopy for Cron {
+    // Takes no memory.
+    fn copy(&self, _alloc: Global) -> Result<Cron, NoMemory>
+        ensures equal { IfOk result (λ twin. twin ≡ self.now) }
+        ensures needs_none { IsOk result }
     {
-        *self
+        Ok(*self)
     }
 }
 

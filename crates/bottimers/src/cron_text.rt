@@ -1,15 +1,17 @@
-// Reads the fields of a cron mask.
-ghost use Rattle.std.specs.Prelude.{◌≡◌, ◌≢◌, ◌+◌, ◌-◌, ◌<◌, ◌≤◌, ◌==◌, ℕ, if◌then◌else◌, Some, None, IfSome, IsSome, is_some, length, drop, [], option_copied, position, MatchOption, ◌∷◌};
+// Reads the fields of a cron mask (crontab(5); Eggdrop's bind type CRON).
+ghost use Rattle.std.specs.Prelude.{◌≡◌, ◌+◌, ◌-◌, ◌*◌, ◌<◌, ◌≤◌, ◌==◌, ℕ, if◌then◌else◌, Some, None, IfSome, is_some, min};
+ghost use Rattle.std.specs.Prelude.{[], ◌∷◌, option_copied, position, MatchOption};
 ghost use Rattle.bottimers.specs.CronSets.{has};
-ghost use Rattle.bottimers.specs.CronText.{has_byte, before, behind, is_star, number_in, ends_in, span_of, is_field, in_field, fields_of, first_field, other_fields};
+ghost use Rattle.bottimers.specs.CronText.{has_byte, before, after, is_star, number_in, ends_in, span_of, is_field, in_field};
+ghost use Rattle.bottimers.specs.CronText.{fields_of, first_field, other_fields};
 
 use crate::span::{Span, union};
 
-// What stands before the first such byte, and what stands behind it if there is one.
+// What stands before the first such byte, and what stands after it if there is one.
 fn cut(text: &[u8], at: u8) -> (&[u8], Option<&[u8]>)
     ensures front { result.0.now ≡ before at text.now }
     ensures back { option_copied result.1
-        ≡ (if has_byte at text.now then Some (behind at text.now) else None) }
+        ≡ (if has_byte at text.now then Some (after at text.now) else None) }
 {
     match place(text, at) {
         Some(i) => (&text[..i], Some(&text[i + 1..])),
@@ -40,13 +42,21 @@ fn number(text: &[u8], low: u8, high: u8) -> Option<u8>
         if *b < b'0' || *b > b'9' {
             return None;
         }
-        value = (value * 10 + (*b - b'0') as u32).min(TOO_LARGE);
+        value = shifted(value, *b);
     }
     if (low as u32) <= value && value <= high as u32 {
         Some(value as u8)
     } else {
         None
     }
+}
+
+// The number with one digit more, as far as it matters.
+fn shifted(value: u32, digit: u8) -> u32
+    requires { (value ≤ TOO_LARGE) × (48 ≤ digit) × (digit ≤ 57) }
+    ensures { result ≡ min TOO_LARGE (value * 10 + (digit - 48)) }
+{
+    (value * 10 + (digit - b'0') as u32).min(TOO_LARGE)
 }
 
 // Whether the text is `*`.
@@ -124,7 +134,7 @@ pub(crate) fn field(text: &[u8], low: u8, high: u8) -> Option<u64>
     Some(set)
 }
 
-// The first field of a mask, and the mask behind it, if there is a field.
+// The first field of a mask, and the mask after it, if there is a field.
 pub(crate) fn take_field(mask: &[u8]) -> Option<(&[u8], &[u8])>
     ensures { MatchOption result (fields_of mask.now ≡ [])
         (λ p. fields_of mask.now ≡ p.0.now ∷ fields_of p.1.now) }

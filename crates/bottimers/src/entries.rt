@@ -1,12 +1,14 @@
 // What the calls on timers do to the list of entries.
-ghost use Rattle.std.specs.Prelude.{◌≡◌, ◌<◌, ◌≤◌, ◌==◌, not, ◌||◌, nat_lt, IfOk, length, map, filter, All, vec_capacity, vec_len, true};
+ghost use Rattle.std.specs.Prelude.{◌≡◌, ◌<◌, ◌≤◌, ◌==◌, not, ◌||◌, nat_lt, IsOk, IfOk, OnOk, [], ◌++◌};
+ghost use Rattle.std.specs.Prelude.{ℕ, length, map, filter, All, vec_capacity, vec_len};
 ghost use Rattle.std.specs.List.{list_any};
-ghost use Rattle.bottimers.specs.Occurrences.{is_due, is_kept};
-ghost use Rattle.bottimers.specs.Countdown.{IsRunning, counted};
-ghost use Rattle.bottimers.specs.Held.{call_of, listed};
+ghost use Rattle.bottimers.specs.Occurrences.{is_kept};
+ghost use Rattle.bottimers.specs.Countdown.{IsRunning, counted, due_calls};
+ghost use Rattle.bottimers.specs.Held.{status_of};
 
 use crate::entry::Entry;
-use crate::listed::Listed;
+use crate::status::TimerStatus;
+use crate::timer::TimerKind;
 use bytetext::{NoMemory, Text, TryCopy};
 use std::alloc::Global;
 
@@ -24,7 +26,7 @@ pub(crate) fn count_kept(entries: &[Entry], from: u64, to: u64) -> usize
     count
 }
 
-// The ids and procs of those with an occurrence at the second `to`.
+// The ids and procs of those with an occurrence at the second `to`, utimers first.
 pub(crate) fn due_of(
     alloc: Global,
     entries: &[Entry],
@@ -32,16 +34,35 @@ pub(crate) fn due_of(
     to: u64,
 ) -> Result<Vec<(u32, Text)>, NoMemory>
     requires { All (λ e. IsRunning from e × (from < to)) entries.now }
-    ensures { IfOk result (λ calls. calls.items
-        ≡ map (λ e. call_of e.timer) (filter (λ e. is_due to e.timer) entries.now)) }
+    ensures calls { IfOk result (λ calls. calls.items
+        ≡ due_calls TimerKind.Seconds to entries.now ++ due_calls TimerKind.Minutes to entries.now) }
+    ensures needs_none { due_calls TimerKind.Seconds to entries.now ≡ [] → due_calls TimerKind.Minutes to entries.now ≡ [] → IsOk result }
 {
     let mut calls = Vec::new(alloc);
+    push_due(alloc, &mut calls, entries, TimerKind::Seconds, from, to)?;
+    push_due(alloc, &mut calls, entries, TimerKind::Minutes, from, to)?;
+    Ok(calls)
+}
+
+// Puts the ids and procs of those of one kind with an occurrence at the second `to` after the calls so far.
+fn push_due(
+    alloc: Global,
+    calls: &mut Vec<(u32, Text)>,
+    entries: &[Entry],
+    kind: TimerKind,
+    from: u64,
+    to: u64,
+) -> Result<(), NoMemory>
+    requires { All (λ e. IsRunning from e × (from < to)) entries.now }
+    ensures calls { OnOk result (calls.new.items ≡ calls.old.items ++ due_calls kind to entries.now) }
+    ensures needs_none { due_calls kind to entries.now ≡ [] → IsOk result }
+{
     for entry in entries {
-        if entry.is_due(from, to) {
+        if entry.is_due_of(kind, from, to) {
             calls.push((entry.timer.id, entry.timer.proc.copy(alloc)?))?;
         }
     }
-    Ok(calls)
+    Ok(())
 }
 
 // Lets the time from the one second to the other pass.
@@ -84,36 +105,39 @@ pub(crate) fn has_id(entries: &[Entry], id: u32) -> bool
 
 // Takes away what has this id.
 pub(crate) fn remove_id(entries: &mut Vec<Entry>, id: u32)
-    ensures { entries.new.items ≡ filter (λ e. not (e.timer.id == id)) entries.old.items }
+    ensures items { entries.new.items ≡ filter (λ e. not (e.timer.id == id)) entries.old.items }
+    ensures room { vec_capacity entries.new ≡ vec_capacity entries.old }
+    ensures fewer { vec_len entries.new ≤ vec_len entries.old }
 {
     entries.retain(|entry| entry.timer.id != id);
 }
 
 // How each stands at a second.
-pub(crate) fn list_of(alloc: Global, entries: &[Entry], at: u64) -> Result<Vec<Listed>, NoMemory>
+pub(crate) fn statuses_of(
+    alloc: Global,
+    entries: &[Entry],
+    at: u64,
+) -> Result<Vec<TimerStatus>, NoMemory>
     requires { All (IsRunning at) entries.now }
-    ensures { IfOk result (λ list. list.items ≡ map (λ e. listed at e.timer) entries.now) }
+    ensures list { IfOk result (λ list. list.items ≡ map (λ e. status_of at e.timer) entries.now) }
+    ensures needs_none { entries.now ≡ [] → IsOk result }
 {
-    let mut list = Vec::new(alloc);
+    let mut list = Vec::with_capacity(alloc, entries.len())?;
     for entry in entries {
-        list.push(Listed {
-            kind: entry.timer.kind,
-            left: entry.left,
-            proc: entry.timer.proc.copy(alloc)?,
-            id: entry.timer.id,
-            repeats: entry.repeats,
-        })?;
+        list.push(status(alloc, entry)?)?;
     }
     Ok(list)
 }
 
-// A copy of each, in order.
-pub(crate) fn copies_of(alloc: Global, entries: &[Entry]) -> Result<Vec<Entry>, NoMemory>
-    ensures { IfOk result (λ copies. copies.items ≡ entries.now) }
+// How one stands at the second to which it has counted down.
+fn status(alloc: Global, entry: &Entry) -> Result<TimerStatus, NoMemory>
+    ensures { (at : ℕ) → IsRunning at entry.now → IfOk result (λ status. status ≡ status_of at entry.now.timer) }
 {
-    let mut copies = Vec::with_capacity(alloc, entries.len())?;
-    for entry in entries {
-        copies.push(entry.copy(alloc)?)?;
-    }
-    Ok(copies)
+    Ok(TimerStatus {
+        kind: entry.timer.kind,
+        left: entry.left,
+        proc: entry.timer.proc.copy(alloc)?,
+        id: entry.timer.id,
+        repeats: entry.repeats,
+    })
 }

@@ -1,13 +1,13 @@
 // A timer with its countdown.
-ghost use Rattle.std.specs.Prelude.{◌≡◌, ◌+◌, ◌-◌, ◌/◌, ◌<◌, ◌≤◌, nat_lt, if◌then◌else◌, true, IfOk, ◌%◌, IsTrue, ◌↔◌};
-ghost use Rattle.bottimers.specs.Occurrences.{unit_of, start_of, is_due, is_kept, units_left, repeats_left, used};
+ghost use Rattle.std.specs.Prelude.{◌≡◌, ◌↔◌, ◌+◌, ◌-◌, ◌/◌, ◌%◌, ◌<◌, ◌≤◌, nat_lt, if◌then◌else◌, true, IsTrue};
+ghost use Rattle.bottimers.specs.Occurrences.{unit_of, start_of, is_due, is_due_of, is_kept, units_left, used};
 
 use crate::timer::{Timer, TimerKind};
 use bytetext::{NoMemory, TryCopy};
 use std::alloc::Global;
 
 // `left` units are left to the next occurrence, and `repeats` occurrences are to come, or 0 for ever.
-#[derive(Debug, Drop)]
+#[derive(Drop)]
 pub(crate) struct Entry {
     pub(crate) timer: Timer,
     pub(crate) left: u32,
@@ -31,7 +31,7 @@ impl Entry {
         }
     }
 
-    // How many occurrences lie behind the one second and not behind the other.
+    // How many occurrences lie after the one second, up to the other.
     fn fallen(&self, from: u64, to: u64) -> u64
         requires { IsRunning from self.now × (from ≤ to) }
         ensures { result + used self.now.timer from ≡ used self.now.timer to }
@@ -45,7 +45,7 @@ impl Entry {
     }
 
     // Whether an occurrence is at the second `to`.
-    pub(crate) fn is_due(&self, from: u64, to: u64) -> bool
+    fn is_due(&self, from: u64, to: u64) -> bool
         requires { IsRunning from self.now × (from < to) }
         ensures { result ≡ is_due to self.now.timer }
     {
@@ -54,6 +54,14 @@ impl Entry {
             && self.left_at(from, to) == self.timer.interval
             && starts_unit(self.timer.kind, to)
             && (self.repeats == 0 || fallen <= self.repeats as u64)
+    }
+
+    // Whether the timer is of this kind, and an occurrence is at the second `to`.
+    pub(crate) fn is_due_of(&self, kind: TimerKind, from: u64, to: u64) -> bool
+        requires { IsRunning from self.now × (from < to) }
+        ensures { result ≡ is_due_of kind to self.now.timer }
+    {
+        self.timer.kind.is_same(kind) && self.is_due(from, to)
     }
 
     // Whether an occurrence is to come after the second `to`.
@@ -87,10 +95,10 @@ impl Entry {
         self.left = left;
         self.repeats = repeats as u32;
     }
+}
 
-    pub(crate) fn copy(&self, alloc: Global) -> Result<Entry, NoMemory>
-        ensures { IfOk result (λ twin. twin ≡ self.now) }
-    {
+impl TryCopy for Entry {
+    fn copy(&self, alloc: Global) -> Result<Entry, NoMemory> {
         Ok(Entry {
             timer: self.timer.copy(alloc)?,
             left: self.left,

@@ -1,14 +1,14 @@
-// What a clock or a timer call can be refused for.
+// What a clock, a timer or a cron mask can be refused for.
 ghost use Rattle.std.specs.Prelude.{◌≡◌, codes};
 ghost use Rattle.bottimers.specs.Faults.{letters_of};
 
-use std::alloc::{AllocError, AllocFailed};
+use bytetext::Failure;
 use thiserror::Error;
 
 /// Why a call was refused, in the order in which the causes are tested.
 #[derive(Clone, Copy, Debug, PartialEq, Eq, Error)]
 pub enum ClockFault {
-    /// No reading was taken yet, or the moment lies behind the year 2999.
+    /// No reading was taken yet, or the moment lies after the year 2999.
     #[error("no such moment: read the clock first, at 0 to 32503679999 seconds")]
     BadMoment,
     /// A timer's interval is not from 1 to 1,000,000.
@@ -36,49 +36,9 @@ impl ClockFault {
     }
 }
 
-/// A refusal, or want of memory, which comes after every other test. Whoever answers either is as before the call.
-#[derive(Clone, Copy, Debug, PartialEq, Eq, Error)]
-pub enum ClockError {
-    /// The call cannot be done as it was asked.
-    #[error(transparent)]
-    Refused(ClockFault),
-    /// A growth was refused.
-    #[error("out of memory: free some and try again")]
-    NoMemory,
-}
-
-impl From<bytetext::NoMemory> for ClockError {
-    ghost use Rattle.std.specs.Prelude.{◌≡◌};
-    ghost use Rattle.bottimers.specs.declared.fault.ClockError.TheVariants.{NoMemory};
-
-    ghost from_gives = { λ _ e. e ≡ NoMemory };
-
-    fn from(_refused: bytetext::NoMemory) -> ClockError {
-        ClockError::NoMemory
-    }
-}
-
-impl From<AllocError> for ClockError {
-    ghost use Rattle.std.specs.Prelude.{◌≡◌};
-    ghost use Rattle.bottimers.specs.declared.fault.ClockError.TheVariants.{NoMemory};
-
-    ghost from_gives = { λ _ e. e ≡ NoMemory };
-
-    fn from(_refused: AllocError) -> ClockError {
-        ClockError::NoMemory
-    }
-}
-
-impl<T: Drop> From<AllocFailed<T>> for ClockError {
-    ghost use Rattle.std.specs.Prelude.{◌≡◌};
-    ghost use Rattle.bottimers.specs.declared.fault.ClockError.TheVariants.{NoMemory};
-
-    ghost from_gives = { λ _ e. e ≡ NoMemory };
-
-    fn from(_refused: AllocFailed<T>) -> ClockError {
-        ClockError::NoMemory
-    }
-}
+/// Why a reading was not taken or a timer not made: a fault, or out of memory where there is none. Whoever answers it is
+/// as before the call.
+pub type ClockError = Failure<ClockFault>;
 
 /// Why a cron mask was refused.
 #[derive(Clone, Copy, Debug, PartialEq, Eq, Error)]

@@ -5,9 +5,9 @@
 //!
 //! - A [`Clock`] turns readings into the seconds that run: none at the first reading, then every second passed, but of a
 //!   long gap only the last 600.
-//! - [`Timers`] says at each of those seconds which timers are due. A timer that was made in the minute or second s with
-//!   the interval i and the count q is due in the minutes or seconds s + i, s + 2i and so on, q times or with 0 for ever;
-//!   what falls into seconds that aren't run is lost and used up.
+//! - [`Timers`] says at each of those seconds which timers are due, utimers before timers. A timer that was made in the
+//!   minute or second s with the interval i and the count q is due in the minutes or seconds s + i, s + 2i and so on, q
+//!   times or with 0 for ever; what falls into seconds that aren't run is lost and used up.
 //! - [`civil`] gives the minute that a calendar and a clock show at a moment, in a fixed offset from UTC. It is the one
 //!   place that knows of the offset. [`time_text`], [`time_args`] and [`cron_args`] write it.
 //! - A [`Cron`] mask is read once and then tried on minutes.
@@ -16,7 +16,7 @@
 //! let mut clock = Clock::new();
 //! let mut timers = Timers::new(alloc);
 //! clock.advance(alloc, 100)?;
-//! timers.add(alloc, TimerKind::Seconds, 10, 1, b"tick", clock.last())?;
+//! timers.add(TimerKind::Seconds, 10, 1, tick, clock.last())?;
 //! for second in clock.advance(alloc, 150)? {
 //!     for (id, proc) in timers.due(alloc, second)? {
 //!         // second 110: id 1, proc tick
@@ -32,8 +32,9 @@ mod cron_text;
 mod entries;
 mod entry;
 mod fault;
-mod listed;
+mod limits;
 mod span;
+mod status;
 mod timer;
 mod timers;
 mod words;
@@ -42,7 +43,8 @@ pub use crate::calendar::{CivilMinute, civil};
 pub use crate::clock::Clock;
 pub use crate::cron::Cron;
 pub use crate::fault::{ClockError, ClockFault, CronFault};
-pub use crate::listed::Listed;
+pub use crate::limits::{MAX_ID, MAX_INTERVAL, MAX_OFFSET, MAX_SECONDS, MAX_TIMERS, MOMENTS_END};
+pub use crate::status::TimerStatus;
 pub use crate::timer::{Timer, TimerKind};
 pub use crate::timers::Timers;
 pub use crate::words::{cron_args, time_args, time_text};

@@ -1,9 +1,9 @@
 // The numbers of one item of a cron field, and sets of numbers as bits.
-ghost use Rattle.std.specs.Prelude.{◌≡◌, ◌+◌, ◌-◌, ◌%◌, ◌<◌, ◌≤◌, ◌==◌, ◌&&◌, ◌||◌, ℕ, nat_lt, bit_or};
+ghost use Rattle.std.specs.Prelude.{◌≡◌, ◌+◌, ◌-◌, ◌%◌, ◌<◌, ◌==◌, ◌&&◌, ◌||◌, ℕ};
 ghost use Rattle.bottimers.specs.CronSets.{has};
 
 // The numbers `first`, `first + step` and so on, up to `last`.
-#[derive(Clone, Copy, Debug)]
+#[derive(Clone, Copy)]
 pub(crate) struct Span {
     pub(crate) first: u8,
     pub(crate) last: u8,

@@ -1,5 +1,6 @@
 // One timer, as it was made.
-ghost use Rattle.std.specs.Prelude.{◌≡◌, IfOk};
+ghost use Rattle.std.specs.Prelude.{◌≡◌};
+ghost use Rattle.bottimers.specs.Occurrences.{is_same_kind};
 
 use bytetext::{NoMemory, Text, TryCopy};
 use std::alloc::Global;
@@ -11,6 +12,18 @@ pub enum TimerKind {
     Minutes,
     /// A utimer: seconds.
     Seconds,
+}
+
+impl TimerKind {
+    // Whether both are the same.
+    pub(crate) fn is_same(self, other: TimerKind) -> bool
+        ensures { result ≡ is_same_kind self other }
+    {
+        match self {
+            TimerKind::Minutes => matches!(other, TimerKind::Minutes),
+            TimerKind::Seconds => matches!(other, TimerKind::Seconds),
+        }
+    }
 }
 
 /// A timer as it was made. It is due `interval` units after `made`, then every `interval` units, `count` times in all.
@@ -30,14 +43,8 @@ pub struct Timer {
     pub proc: Text,
 }
 
-impl Timer {
-    /// An equal timer of its own.
-    ///
-    /// # Errors
-    /// `NoMemory` where room for the proc's name is refused.
-    pub fn copy(&self, alloc: Global) -> Result<Timer, NoMemory>
-        ensures { IfOk result (λ twin. twin ≡ self.now) }
-    {
+impl TryCopy for Timer {
+    fn copy(&self, alloc: Global) -> Result<Timer, NoMemory> {
         Ok(Timer {
             id: self.id,
             kind: self.kind,

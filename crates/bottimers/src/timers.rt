@@ -1,24 +1,44 @@
 // The timers of one bot.
-ghost use Rattle.std.specs.Prelude.{◌≡◌, ◌↔◌, ◌+◌, ◌<◌, IsTrue, None, unwrap_or, IfOk, IfErr, OnOk, OnErr, IsOk, []};
-ghost use Rattle.bottimers.specs.Faults.{RefusedFor};
+ghost use Rattle.std.specs.Prelude.{◌≡◌, ◌≢◌, ◌↔◌, ◌+◌, ◌<◌, ◌≤◌, IsTrue, Some, None, unwrap_or, IfOk, IfErr, IfNone, OnOk, OnErr, IsOk, Err, []};
+ghost use Rattle.bottimers.specs.Faults.{RefusedFor, RefusedBy};
 ghost use Rattle.bottimers.specs.Occurrences.{is_due, FallsDue};
 ghost use Rattle.bottimers.specs.declared.timer.Timer.{Timer};
 
-use crate::entries::{copies_of, count_kept, due_of, has_id, list_of, pass, remove_id};
+use crate::entries::{count_kept, due_of, has_id, pass, remove_id, statuses_of};
 use crate::entry::Entry;
 use crate::fault::{ClockError, ClockFault};
-use crate::listed::Listed;
+use crate::limits::{MAX_ID, MAX_INTERVAL, MAX_TIMERS};
+use crate::status::TimerStatus;
 use crate::timer::{Timer, TimerKind};
-use bytetext::{NoMemory, Text};
+use bytetext::{Failure, NoMemory, Text, TryCopy, copies_of, refuse};
 use std::alloc::Global;
 use std::marker::Model;
 
 /// The timers and utimers of one bot, at most 200 in all.
-#[derive(Debug, Drop)]
+///
+/// ```text
+/// let mut timers = Timers::new(alloc);
+/// timers.add(TimerKind::Minutes, 1, 0, minutely, Some(30))?     // id 1, first due at 60
+/// timers.add(TimerKind::Seconds, 30, 1, once, Some(30))?        // id 2, due at 60 alone
+/// timers.due(alloc, 59)?                                        // nothing
+/// timers.due(alloc, 60)?                                        // id 2, then id 1: utimers come first
+/// timers.list(alloc)?                                           // id 1, with one minute left
+/// timers.kill(1)?
+/// ```
+///
+/// Who must not fail half-way asks for room first:
+///
+/// ```text
+/// timers.reserve(2)?;                                           // all that may want memory
+/// timers.add_reserved(TimerKind::Minutes, 1, 0, first, last)    // takes none
+/// timers.add_reserved(TimerKind::Minutes, 1, 0, second, last)   // takes none
+/// ```
+#[derive(Drop)]
 pub struct Timers {
     entries: Vec<Entry>,
     last: Option<u64>,
     spent: u32,
+    room: usize,
 }
 
 impl Model for Timers {
@@ -26,31 +46,43 @@ impl Model for Timers {
 
     ghost Value = { Held };
 
-    ghost use Rattle.bottimers.specs.Countdown.{held, AllRunning};
+    ghost use Rattle.bottimers.specs.Countdown.{held, IsSound};
 
     ghost view = { held };
 
-    ghost invariant = { AllRunning };
+    ghost invariant = { IsSound };
 }
 
-// The most timers that there may be at once.
-const MOST: usize = 200;
-
-// The longest interval.
-const LONGEST: u32 = 1_000_000;
-
 impl Timers {
-    ghost use Rattle.bottimers.specs.Held.{Held, IsAbove, IsNotBelow, add_fault, with_timer, holds, without, calls_at, passed, listing};
+    ghost use Rattle.bottimers.specs.Held.{Held, IsAbove, IsNotBelow, add_fault, with_timer, holds, without};
+    ghost use Rattle.bottimers.specs.Held.{calls_at, passed, statuses};
 
-    /// No timer. Takes no memory.
+    /// No timer, and room for none. Takes no memory.
     pub fn new(alloc: Global) -> Timers
-        ensures { result ≡ record { timers = []; last = None; spent = 0 } }
+        ensures { result ≡ record { timers = []; last = None; spent = 0; room = 0 } }
     {
         Timers {
             entries: Vec::new(alloc),
             last: None,
             spent: 0,
+            room: 0,
         }
+    }
+
+    /// Makes room for just `count` timers, so that as many calls of [`add`](Timers::add) or
+    /// [`add_reserved`](Timers::add_reserved) take no memory. Nothing else that is seen changes. `reserve(0)` gives the
+    /// room up.
+    ///
+    /// # Errors
+    /// `NoMemory` where room is refused, never where there was as much. The timers are as before.
+    pub fn reserve(&mut self, count: usize) -> Result<(), NoMemory>
+        ensures ready { OnOk result (self.new ≡ record self.old { room = count }) }
+        ensures unchanged { OnErr result (self.new ≡ self.old) }
+        ensures needs_none { count ≤ self.old.room → IsOk result }
+    {
+        self.entries.reserve(count)?;
+        self.room = count;
+        Ok(())
     }
 
     /// Makes a timer that calls `proc` every `interval` minutes or seconds, counted from the minute or second `last`,
@@ -60,14 +92,13 @@ impl Timers {
     /// # Errors
     /// `Refused(BadMoment)` where there was no reading yet, then `Refused(BadInterval)` where the interval is not from 1
     /// to 1,000,000, then `Refused(Full)` where 200 timers have an occurrence to come or 4,294,967,295 ids were given,
-    /// then `NoMemory`. The timers are as before.
+    /// then `NoMemory`, never where there was room. The timers are as before.
     pub fn add(
         &mut self,
-        alloc: Global,
         kind: TimerKind,
         interval: u32,
         count: u32,
-        proc: &[u8],
+        proc: Text,
         last: Option<u64>,
     ) -> Result<u32, ClockError>
         requires { IsNotBelow self.old.last last }
@@ -80,37 +111,104 @@ impl Timers {
               made = unwrap_or last 0;
               interval = interval;
               count = count;
-              proc = proc.now;
+              proc = proc;
+            })) }
+        ensures unchanged { OnErr result (self.new ≡ self.old) }
+        ensures needs_none { 0 < self.old.room → result ≢ Err Failure.NoMemory }
+    {
+        let Some(now) = last else {
+            return Err(Failure::Refused(ClockFault::BadMoment));
+        };
+        refuse(self.refusal_of(interval, now))?;
+        self.reserve(self.room.max(1))?;
+        Ok(self.push(kind, interval, count, proc, now))
+    }
+
+    /// The same where there is room: it takes no memory.
+    ///
+    /// # Errors
+    /// `BadMoment`, `BadInterval` and `Full`, as at [`add`](Timers::add). The timers and the room are as before.
+    pub fn add_reserved(
+        &mut self,
+        kind: TimerKind,
+        interval: u32,
+        count: u32,
+        proc: Text,
+        last: Option<u64>,
+    ) -> Result<u32, ClockFault>
+        requires reading { IsNotBelow self.old.last last }
+        requires room { 0 < self.old.room }
+        ensures refused { RefusedBy (add_fault self.old interval last) result }
+        ensures id { IfOk result (λ id. id ≡ self.old.spent + 1) }
+        ensures added { OnOk result (self.new ≡ with_timer self.old
+            (record {
+              id = self.old.spent + 1;
+              kind = kind;
+              made = unwrap_or last 0;
+              interval = interval;
+              count = count;
+              proc = proc;
             })) }
         ensures unchanged { OnErr result (self.new ≡ self.old) }
     {
         let Some(now) = last else {
-            return Err(ClockError::Refused(ClockFault::BadMoment));
+            return Err(ClockFault::BadMoment);
         };
-        if interval == 0 || interval > LONGEST {
-            return Err(ClockError::Refused(ClockFault::BadInterval));
+        match self.refusal_of(interval, now) {
+            Some(fault) => Err(fault),
+            None => Ok(self.push(kind, interval, count, proc, now)),
         }
-        let since = self.last.unwrap_or(0);
-        if count_kept(self.entries.as_slice(), since, now) >= MOST || self.spent == u32::MAX {
-            return Err(ClockError::Refused(ClockFault::Full));
+    }
+
+    // Why no timer of this interval can be made at this second.
+    fn refusal_of(&self, interval: u32, now: u64) -> Option<ClockFault>
+        requires { IsNotBelow self.now.last (Some now) }
+        ensures refusal { result ≡ add_fault self.now interval (Some now) }
+        ensures free { IfNone result ((0 < interval) × (self.now.spent < MAX_ID)) }
+    {
+        if interval == 0 || interval > MAX_INTERVAL {
+            return Some(ClockFault::BadInterval);
         }
-        let proc = Text::from_slice(alloc, proc)?;
-        self.entries.reserve(1)?;
-        pass(&mut self.entries, since, now);
+        let kept = count_kept(self.entries.as_slice(), self.last.unwrap_or(0), now);
+        if kept >= MAX_TIMERS || self.spent == MAX_ID {
+            return Some(ClockFault::Full);
+        }
+        None
+    }
+
+    // Puts a timer that isn't refused into the room, and answers its id.
+    fn push(&mut self, kind: TimerKind, interval: u32, count: u32, proc: Text, now: u64) -> u32
+        requires reading { IsNotBelow self.old.last (Some now) }
+        requires room { 0 < self.old.room }
+        requires free { (0 < interval) × (self.old.spent < MAX_ID) }
+        ensures id { result ≡ self.old.spent + 1 }
+        ensures added { self.new ≡ with_timer self.old
+            (record {
+              id = self.old.spent + 1;
+              kind = kind;
+              made = now;
+              interval = interval;
+              count = count;
+              proc = proc;
+            }) }
+    {
+        let id = self.spent + 1;
+        pass(&mut self.entries, self.last.unwrap_or(0), now);
         self.last = Some(now);
-        self.spent += 1;
+        self.spent = id;
+        self.room -= 1;
         self.entries.push_reserved(Entry::new(Timer {
-            id: self.spent,
+            id,
             kind,
             made: now,
             interval,
             count,
             proc,
         }));
-        Ok(self.spent)
+        id
     }
 
-    /// Takes the timer with this id away.
+    /// Takes the timer with this id away. Takes no memory.
     ///
     /// # Errors
     /// `NoSuchTimer` where none has it; the timers are as before.
@@ -130,24 +228,28 @@ impl Timers {
     /// How each timer stands at the last second given, in the order of making.
     ///
     /// # Errors
-    /// `NoMemory` where room for the list is refused.
-    pub fn list(&self, alloc: Global) -> Result<Vec<Listed>, NoMemory>
-        ensures { IfOk result (λ list. list.items ≡ listing self.now) }
+    /// `NoMemory` where there are timers and room for the list is refused.
+    pub fn list(&self, alloc: Global) -> Result<Vec<TimerStatus>, NoMemory>
+        ensures list { IfOk result (λ list. list.items ≡ statuses self.now) }
+        ensures needs_none { self.now.timers ≡ [] → IsOk result }
     {
-        list_of(alloc, self.entries.as_slice(), self.last.unwrap_or(0))
+        statuses_of(alloc, self.entries.as_slice(), self.last.unwrap_or(0))
     }
 
-    /// The ids and procs of the timers that are due at this second, in the order of making. What is due then and what
-    /// was due at seconds that were skipped is used up; a timer with no occurrence to come is gone.
+    /// The ids and procs of the timers that are due at this second: the utimers in the order of making, and then, at the
+    /// first second of a minute, the timers in the order of making. What is due then and what was due at seconds that
+    /// were skipped is used up; a timer with no occurrence to come is gone.
     ///
     /// # Errors
-    /// `NoMemory` where room for the list is refused. The timers are as before, and the second may be given again.
+    /// `NoMemory` where some timer is due and room for the list is refused. The timers are as before, and the second may
+    /// be given again.
     pub fn due(&mut self, alloc: Global, second: u64) -> Result<Vec<(u32, Text)>, NoMemory>
         requires { IsAbove self.old.last second }
         ensures calls { IfOk result (λ calls. calls.items ≡ calls_at second self.old) }
         ensures passed { OnOk result (self.new ≡ passed second self.old) }
         ensures unchanged { OnErr result (self.new ≡ self.old) }
         ensures occurrences { (m : Timer) → 0 < m.interval → IsTrue (is_due second m) ↔ FallsDue m second }
+        ensures needs_none { calls_at second self.old ≡ [] → IsOk result }
     {
         let since = self.last.unwrap_or(0);
         let calls = due_of(alloc, self.entries.as_slice(), since, second)?;
@@ -155,18 +257,17 @@ impl Timers {
         self.last = Some(second);
         Ok(calls)
     }
+}
 
-    /// The same timers, of their own.
-    ///
-    /// # Errors
-    /// `NoMemory` where room for the copy is refused.
-    pub fn copy(&self, alloc: Global) -> Result<Timers, NoMemory>
-        ensures { IfOk result (λ twin. twin ≡ self.now) }
-    {
+impl TryCopy for Timers {
+    fn copy(&self, alloc: Global) -> Result<Timers, NoMemory> {
+        let mut entries = copies_of(alloc, self.entries.as_slice())?;
+        entries.reserve(self.room)?;
         Ok(Timers {
-            entries: copies_of(alloc, self.entries.as_slice())?,
+            entries,
             last: self.last,
             spent: self.spent,
+            room: self.room,
         })
     }
 }

@@ -56,14 +56,20 @@ pub fn cron_args(alloc: Global, at: &CivilMinute) -> Result<Texts, NoMemory>
 fn two(n: u8) -> [u8; 2]
     ensures { result ≡ two_digits n }
 {
-    [b'0' + n / 10 % 10, b'0' + n % 10]
+    let n = n as u16;
+    [digit(n / 10), digit(n)]
 }
 
 // The last four.
 fn four(n: u16) -> [u8; 4]
     ensures { result ≡ four_digits n }
 {
-    let [y, z] = two((n / 100 % 100) as u8);
-    let [a, b] = two((n % 100) as u8);
-    [y, z, a, b]
+    [digit(n / 100 / 10), digit(n / 100), digit(n / 10), digit(n)]
+}
+
+// The last one.
+fn digit(n: u16) -> u8
+    ensures { result ≡ 48 + n % 10 }
+{
+    b'0' + (n % 10) as u8
 }

@@ -8,7 +8,7 @@ use Rattle.userfile.specs.Apply.{changed}
 use Rattle.userfile.specs.Versions.{after_changes, records_at}
 use Rattle.userfile.specs.declared.change.Change.{Change}
 use Rattle.sharelink.specs.LeafRules.{Leaf}
-use Rattle.sharelink.specs.declared.hub.Entry.{Entry}
+use Rattle.sharelink.specs.declared.accepted.AcceptedChange.{AcceptedChange}
 use Rattle.botworld.specs.Network.{changes_of, records_of, leaves_at, NoneBack, Extends}
 use Rattle.botworld.specs.Standing.{AllAtMost}
 
@@ -20,7 +20,7 @@ slice_get-front [] ys i x e = cc
 slice_get-front (z ∷ xs) ys zero x e = e
 slice_get-front (z ∷ xs) ys (suc i) x e = slice_get-front xs ys i x e
 
--- the element behind the front
+-- the element after the front
 pub slice_get-behind : {X : Type 0} (xs ys : List X) (x : X) → slice_get (xs ++ x ∷ ys) (length xs) ≡ Some x
 slice_get-behind [] ys x = refl
 slice_get-behind (z ∷ xs) ys x = slice_get-behind xs ys x
@@ -88,16 +88,16 @@ AllAtMost-at n (x ∷ vs) (suc i) v a e = AllAtMost-at n vs i v a.1 e
 
 -- records -------------------------------------------------------------------------------------------------------------
 
-pub changes_of-append : (xs ys : List Entry) → changes_of (xs ++ ys) ≡ changes_of xs ++ changes_of ys
+pub changes_of-append : (xs ys : List AcceptedChange) → changes_of (xs ++ ys) ≡ changes_of xs ++ changes_of ys
 changes_of-append [] ys = refl
 changes_of-append (x ∷ xs) ys = ap (λ cs. x.change ∷ cs) (changes_of-append xs ys)
 
-pub length-changes_of : (xs : List Entry) → length (changes_of xs) ≡ length xs
+pub length-changes_of : (xs : List AcceptedChange) → length (changes_of xs) ≡ length xs
 length-changes_of [] = refl
 length-changes_of (x ∷ xs) = ap suc (length-changes_of xs)
 
 -- more accepted changes leave the records at the versions that were there
-pub records_of-extended : (xs ys : List Entry) (v : ℕ) → v ≤ length xs → records_of (xs ++ ys) v ≡ records_of xs v
+pub records_of-extended : (xs ys : List AcceptedChange) (v : ℕ) → v ≤ length xs → records_of (xs ++ ys) v ≡ records_of xs v
 records_of-extended xs ys v h =
     let within : v ≤ length (changes_of xs) = omega (arith, h, length-changes_of xs) in
     ap (λ cs. after_changes no_records (take v cs)) (changes_of-append xs ys) ∙ ap (after_changes no_records) (take-append-le v (changes_of xs) (changes_of ys) within)
@@ -106,13 +106,13 @@ after_changes-last : (old : Records) (cs : List Change) (c : Change) → after_c
 after_changes-last old [] c = refl
 after_changes-last old (x ∷ cs) c = after_changes-last (changed old x) cs c
 
-changes_of-at : (xs : List Entry) (v : ℕ) (e : Entry) → slice_get xs v ≡ Some e → slice_get (changes_of xs) v ≡ Some e.change
+changes_of-at : (xs : List AcceptedChange) (v : ℕ) (e : AcceptedChange) → slice_get xs v ≡ Some e → slice_get (changes_of xs) v ≡ Some e.change
 changes_of-at [] v e h = cc
-changes_of-at (x ∷ xs) zero e h = ap (option_map (λ (e : Entry). e.change)) h
+changes_of-at (x ∷ xs) zero e h = ap (option_map (λ (e : AcceptedChange). e.change)) h
 changes_of-at (x ∷ xs) (suc v) e h = changes_of-at xs v e h
 
 -- the records one version on are those after the change of that number
-pub records_of-next : (xs : List Entry) (v : ℕ) (e : Entry) → slice_get xs v ≡ Some e → records_of xs (v + 1) ≡ changed (records_of xs v) e.change
+pub records_of-next : (xs : List AcceptedChange) (v : ℕ) (e : AcceptedChange) → slice_get xs v ≡ Some e → records_of xs (v + 1) ≡ changed (records_of xs v) e.change
 records_of-next xs v e h =
     let at = changes_of-at xs v e h in
     let within = slice_get_within (changes_of xs) v e.change at in
@@ -122,21 +122,21 @@ records_of-next xs v e h =
 -- leaves --------------------------------------------------------------------------------------------------------------
 
 -- more accepted changes leave the leaves
-pub leaves_at-extended : (xs ys : List Entry) (first : ℕ) (vs : List ℕ) → AllAtMost (length xs) vs → leaves_at (xs ++ ys) first vs ≡ leaves_at xs first vs
+pub leaves_at-extended : (xs ys : List AcceptedChange) (first : ℕ) (vs : List ℕ) → AllAtMost (length xs) vs → leaves_at (xs ++ ys) first vs ≡ leaves_at xs first vs
 leaves_at-extended xs ys first [] a = refl
 leaves_at-extended xs ys first (v ∷ vs) a = rw (records_of-extended xs ys v a.0, leaves_at-extended xs ys (first + 1) vs a.1) refl
 
 -- the leaf at a version, by its place
-abbrev pub leaf_of : List Entry → ℕ → ℕ → Leaf
+abbrev pub leaf_of : List AcceptedChange → ℕ → ℕ → Leaf
 leaf_of accepted number v = record { number = number; version = v; records = records_of accepted v }
 
-pub leaves_at-get : (xs : List Entry) (first : ℕ) (vs : List ℕ) (i : ℕ) → slice_get (leaves_at xs first vs) i ≡ option_map (λ v. leaf_of xs (first + i) v) (slice_get vs i)
+pub leaves_at-get : (xs : List AcceptedChange) (first : ℕ) (vs : List ℕ) (i : ℕ) → slice_get (leaves_at xs first vs) i ≡ option_map (λ v. leaf_of xs (first + i) v) (slice_get vs i)
 leaves_at-get xs first [] i = refl
 leaves_at-get xs first (v ∷ vs) zero = let same : first + 0 ≡ first = omega arith in rw same refl
 leaves_at-get xs first (v ∷ vs) (suc i) = let same : first + suc i ≡ first + 1 + i = omega arith in rw same (leaves_at-get xs (first + 1) vs i)
 
 -- one leaf at another version
-pub leaves_at-set : (xs : List Entry) (first : ℕ) (vs : List ℕ) (i v : ℕ) → slice_set (leaves_at xs first vs) i (leaf_of xs (first + i) v) ≡ leaves_at xs first (slice_set vs i v)
+pub leaves_at-set : (xs : List AcceptedChange) (first : ℕ) (vs : List ℕ) (i v : ℕ) → slice_set (leaves_at xs first vs) i (leaf_of xs (first + i) v) ≡ leaves_at xs first (slice_set vs i v)
 leaves_at-set xs first [] i v = refl
 leaves_at-set xs first (x ∷ vs) zero v = let same : first + 0 ≡ first = omega arith in rw same refl
 leaves_at-set xs first (x ∷ vs) (suc i) v =

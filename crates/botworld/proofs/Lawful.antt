@@ -8,7 +8,7 @@ use Rattle.userfile.specs.declared.error.ChangeFault.{ChangeFault}
 use Rattle.sharelink.specs.Meets.{Row, noted, refused}
 use Rattle.sharelink.specs.HubRules.{Hub, own, acceptance, ask_served, hub_pumped_at, hub_pumped}
 use Rattle.sharelink.specs.LeafRules.{Leaf, with_next, next_applied, leaf_received}
-use Rattle.sharelink.specs.declared.hub.Entry.{Entry}
+use Rattle.sharelink.specs.declared.accepted.AcceptedChange.{AcceptedChange}
 use Rattle.sharelink.specs.declared.packet.Packet.TheVariants.{Change as change_packet}
 use Rattle.sharelink.specs.declared.answer.Note.TheVariants.{Accepted, Applied}
 use Rattle.sharelink.specs.declared.error.LinkFault.TheVariants.{NumbersSpent, Diverged}
@@ -22,7 +22,7 @@ use Rattle.botworld.specs.declared.outcome.Report.{Report}
 use Rattle.botworld.specs.declared.outcome.Outcome.{Outcome}
 use Rattle.botworld.specs.declared.outcome.Outcome.TheVariants.{Report as reported, NoSuchBot, NoSuchPacket}
 use Rattle.botworld.specs.Net.{Net, Stepped, IsNote, Reports, ComesOf, hub_stepped, leaf_stepped, leaf_met, at_bot, packet_at, delivered, stepped}
-use Rattle.botworld.specs.Network.{State, net_of, records_of, leaves_at, IsDone, HasEnd, AppliesNext, AcceptsNext, NeverDiverged, LawfulStep, NetworkStep, Follows}
+use Rattle.botworld.specs.Network.{State, net_of, records_of, leaves_at, IsDone, HasEnd, AppliesNext, AcceptsNext, NeverDiverged, GrowsByEnd, GrowsAtAccepted, IsMadeEnd, IsMade, LawfulStep, NetworkStep, Follows}
 use Rattle.botworld.specs.Standing.{IsSound, Stands, IsTrueChange, IsNumbered}
 use Rattle.botworld.proofs.History.{leaves_at-get, leaf_of}
 use Rattle.botworld.proofs.Truth.{AllTrue-at}
@@ -38,6 +38,17 @@ done_gives old given (reported report) new c done = by report.end c done refl
     by ended_no_memory c done e = absurd done
 done_gives old given NoSuchBot new c done = absurd done
 done_gives old given NoSuchPacket new c done = absurd done
+
+-- so they are where the step did not end for want of memory
+pub made_gives : (old : Net) (given : Stepped) (o : Outcome) (new : Net) → ComesOf old given o new → IsMade o → (given.outcome ≡ o) × (new ≡ given.after)
+made_gives old given (reported report) new c made = by report.end c made
+  where
+    by : (end : End) → Reports end report old given new → IsMadeEnd end → (given.outcome ≡ reported report) × (new ≡ given.after)
+    by (ended note) c made = c
+    by (ended_refused fault) c made = c
+    by ended_no_memory c made = absurd made
+made_gives old given NoSuchBot new c made = c
+made_gives old given NoSuchPacket new c made = c
 
 -- an outcome that tells of records that differ is the one that the step gives
 pub diverged_gives : (old : Net) (given : Stepped) (o : Outcome) (new : Net) → ComesOf old given o new → HasEnd o (ended_refused Diverged) → HasEnd given.outcome (ended_refused Diverged)
@@ -71,7 +82,7 @@ true_at s sound (suc n) sent e = AllTrue-at s.accepted s.packets n sent sound.ch
 next_given : (s : State) → IsSound s → (leaf v origin request from packet : ℕ) (change : Change) → packet_at s.packets packet ≡ Some (record { from = from; to = suc leaf; packet = change_packet (v + 1) origin request change }) → slice_get s.versions leaf ≡ Some v
     → delivered (net_of s) (packet_at s.packets packet) ≡ leaf_stepped (net_of s) leaf (noted (Applied (v + 1)) (with_next (leaf_of s.accepted (1 + leaf) v) change))
 next_given s sound leaf v origin request from packet change at here =
-    let entry : Entry = record { origin = origin; request = request; change = change } in
+    let entry : AcceptedChange = record { origin = origin; request = request; change = change } in
     let next : v + 1 ≡ suc v = omega arith in
     let accepted : slice_get s.accepted v ≡ Some entry = subst (λ n. IsNumbered s.accepted n entry) next (true_at s sound packet _ at) in
     let takes : refusal (records_of s.accepted v) change ≡ None = sound.taken v entry accepted in
@@ -93,14 +104,14 @@ applies_next old step o new sound by_rule packet leaf v origin request from chan
 
 -- the ask that a done pump takes, and the records take, is accepted
 pub accepts_next : (old : State) (step : Step) (o : Outcome) (new : State) → NetworkStep old step o new → AcceptsNext old step o new
-accepts_next old step o new by_rule change behind is waits takes done =
+accepts_next old step o new by_rule change rest is waits takes done =
     let rule : ComesOf (net_of old) (hub_stepped (net_of old) (hub_pumped_at (net_of old).hub old.waiting)) o (net_of new) = subst (λ (e : Step). ComesOf (net_of old) (stepped (net_of old) e) o (net_of new)) is by_rule in
     let gives = done_gives (net_of old) _ o (net_of new) rule done in
-    let row : hub_pumped_at (net_of old).hub old.waiting ≡ ask_served (net_of old).hub change behind None = rw (waits, takes) refl in
+    let row : hub_pumped_at (net_of old).hub old.waiting ≡ ask_served (net_of old).hub change rest None = rw (waits, takes) refl in
     by (nat_lt (length old.accepted) 4294967295) (sym (ap (λ (r : Row Hub). (hub_stepped (net_of old) r).outcome) row) ∙ gives.0) (gives.1 ∙ ap (λ (r : Row Hub). (hub_stepped (net_of old) r).after) row)
   where
     Served : Bool → Stepped
-    Served b = hub_stepped (net_of old) (if b then acceptance (net_of old).hub change behind else refused NumbersSpent (net_of old).hub)
+    Served b = hub_stepped (net_of old) (if b then acceptance (net_of old).hub change rest else refused NumbersSpent (net_of old).hub)
 
     by : (b : Bool) → (Served b).outcome ≡ o → net_of new ≡ (Served b).after → HasEnd o (ended (Accepted (length old.accepted + 1))) × (new.accepted ≡ old.accepted ++ own change ∷ [])
     by true e f = (subst (λ (o : Outcome). HasEnd o (ended (Accepted (length old.accepted + 1)))) e refl, ap (λ (w : Net). w.hub.accepted) f)
@@ -118,27 +129,34 @@ goes s step o w sound c = by o c
     never : (o : Outcome) (w : Net) → ComesOf (net_of s) (stepped (net_of s) step) o w → NeverDiverged o
     never o w c h = (simulate s sound step).undiverged (diverged_gives (net_of s) _ o w c h)
 
-    to : (o : Outcome) (w : Net) (after : State) → ComesOf (net_of s) (stepped (net_of s) step) o w → w ≡ net_of after → IsSound after → Follows s after → Goes s step o w
-    to o w after c is sound' follows =
+    to : (o : Outcome) (w : Net) (after : State) → ComesOf (net_of s) (stepped (net_of s) step) o w → w ≡ net_of after → IsSound after → Follows s after → GrowsAtAccepted s o after → Goes s step o w
+    to o w after c is sound' follows grows =
         let rule : NetworkStep s step o after = subst (ComesOf (net_of s) (stepped (net_of s) step) o) is c in
         record {
           after = after;
-          lawful = record { by_rule = rule; follows = follows; applies_next = applies_next s step o after sound rule; accepts_next = accepts_next s step o after rule; never_diverged = never o w c };
+          lawful = record {
+            by_rule = rule;
+            follows = follows;
+            grows = grows;
+            applies_next = applies_next s step o after sound rule;
+            accepts_next = accepts_next s step o after rule;
+            never_diverged = never o w c;
+          };
           stands = record { parts = is; sound = sound' };
         }
 
-    moved : (o : Outcome) → ComesOf (net_of s) (stepped (net_of s) step) o w → w ≡ (stepped (net_of s) step).after → Goes s step o w
-    moved o c is = let sim = simulate s sound step in to o w sim.after c (is ∙ sim.parts) sim.sound sim.follows
-
-    unmoved : (o : Outcome) → ComesOf (net_of s) (stepped (net_of s) step) o w → w ≡ net_of s → Goes s step o w
-    unmoved o c is = to o w s c is sound (Follows-refl s)
+    moved : (o : Outcome) → ComesOf (net_of s) (stepped (net_of s) step) o w → (stepped (net_of s) step).outcome ≡ o → w ≡ (stepped (net_of s) step).after → Goes s step o w
+    moved o c same is =
+        let sim = simulate s sound step in
+        to o w sim.after c (is ∙ sim.parts) sim.sound sim.follows (subst (λ (p : Outcome). GrowsAtAccepted s p sim.after) same sim.grows)
 
     ending : (report : Report) (end : End) → report.end ≡ end → ComesOf (net_of s) (stepped (net_of s) step) (reported report) w → Reports end report (net_of s) (stepped (net_of s) step) w → Goes s step (reported report) w
-    ending report (ended note) e c h = moved (reported report) c h.1
-    ending report (ended_refused fault) e c h = moved (reported report) c h.1
-    ending report ended_no_memory e c h = unmoved (reported report) c h.2
+    ending report (ended note) e c h = moved (reported report) c h.0 h.1
+    ending report (ended_refused fault) e c h = moved (reported report) c h.0 h.1
+    ending report ended_no_memory e c h =
+        to (reported report) w s c h.2 sound (Follows-refl s) (subst (λ (end : End). GrowsByEnd report.bot end s.accepted s.accepted) (sym e) refl)
 
     by : (o : Outcome) → ComesOf (net_of s) (stepped (net_of s) step) o w → Goes s step o w
     by (reported report) c = ending report report.end refl c c
-    by NoSuchBot c = moved NoSuchBot c c.1
-    by NoSuchPacket c = moved NoSuchPacket c c.1
+    by NoSuchBot c = moved NoSuchBot c c.0 c.1
+    by NoSuchPacket c = moved NoSuchPacket c c.0 c.1

@@ -6,4 +6,5 @@ pub mod Shown
 pub mod Simulate
 pub mod Lawful
 pub mod Runs
+pub mod Made
 pub mod Start

@@ -1,7 +1,7 @@
 -- A run goes on by one step.
 use Rattle.std.proofs.Common.{◌≡◌, ℕ, zero, suc, ◌+◌, ◌≤◌, List, [], ◌∷◌, ◌++◌, length, take, Option, None, Some, refl, ap, sym, subst, ◌∙◌, arith, length-append}
 use Rattle.userfile.specs.Records.{Records}
-use Rattle.sharelink.specs.declared.hub.Entry.{Entry}
+use Rattle.sharelink.specs.declared.accepted.AcceptedChange.{AcceptedChange}
 use Rattle.botworld.specs.declared.step.Step.{Step}
 use Rattle.botworld.specs.declared.outcome.Outcome.{Outcome}
 use Rattle.botworld.specs.Net.{Net, NetStep, ComesOf, stepped}
@@ -59,7 +59,7 @@ pub same_later : (s : State) (steps : List Step) (outcomes : List Outcome) (old 
 same_later s steps outcomes old new stands led i j v before after =
     let within = shown_within old s i v stands before in
     let more = led.follows.accepted in
-    let grown : records_of led.after.accepted v ≡ records_of s.accepted v = ap (λ (l : List Entry). records_of l v) more.1 ∙ records_of-extended s.accepted more.0 v within in
+    let grown : records_of led.after.accepted v ≡ records_of s.accepted v = ap (λ (l : List AcceptedChange). records_of l v) more.1 ∙ records_of-extended s.accepted more.0 v within in
     shown_with old s i v stands before ∙ ap Some (sym grown) ∙ sym (shown_with new led.after j v led.stands after)
 
 -- same version, same records, at one moment

@@ -11,8 +11,9 @@ use Rattle.userfile.specs.declared.change.Change.{Change}
 use Rattle.userfile.specs.declared.error.ChangeFault.{ChangeFault}
 use Rattle.sharelink.specs.Meets.{Row, noted, refused}
 use Rattle.sharelink.specs.HubRules.{Hub, own, packet_of, to_leaves, served, acceptance, hello_served, ask_taken, hub_asked, ask_served, hub_pumped_at, hub_pumped, hub_received, is_no_leaf, version_of}
+use Rattle.sharelink.specs.declared.TheConstants.{MAX_ASKS}
 use Rattle.sharelink.specs.LeafRules.{Leaf, ask_fault, leaf_asked, leaf_pumped, with_next, next_applied, leaf_received}
-use Rattle.sharelink.specs.declared.hub.Entry.{Entry}
+use Rattle.sharelink.specs.declared.accepted.AcceptedChange.{AcceptedChange}
 use Rattle.sharelink.specs.declared.packet.Packet.{Packet}
 use Rattle.sharelink.specs.declared.packet.Packet.TheVariants.{Hello, Change as change_packet}
 use Rattle.sharelink.specs.declared.answer.Note.{Note}
@@ -24,7 +25,7 @@ use Rattle.botworld.specs.declared.step.Step.{Step}
 use Rattle.botworld.specs.declared.step.Step.TheVariants.{At, Deliver}
 use Rattle.botworld.specs.declared.step.Event.TheVariants.{Ask, Pump}
 use Rattle.botworld.specs.Net.{Net, Stepped, unmoved, answered, hub_stepped, leaf_stepped, leaf_met, at_bot, packet_at, delivered, stepped, posted}
-use Rattle.botworld.specs.Network.{State, net_of, records_of, leaves_at, NoneBack, Extends, Follows, NeverDiverged}
+use Rattle.botworld.specs.Network.{State, net_of, records_of, leaves_at, NoneBack, Extends, Follows, NeverDiverged, GrowsByNote, GrowsAtAccepted}
 use Rattle.botworld.specs.Standing.{IsSound, IsTrueChange, IsNumbered, AllTrue}
 use Rattle.botworld.proofs.History.{slice_get-behind, Extends-refl, NoneBack-refl, NoneBack-set, AllAtMost-weaker, AllAtMost-set, records_of-extended, records_of-next, leaves_at-extended, leaves_at-get, leaves_at-set, leaf_of}
 use Rattle.botworld.proofs.Truth.{AllTrue-extended, AllTrue-append, AllTrue-at, AllTrue-to_each, last_is_true, served_are_true, AllTaken-last}
@@ -36,13 +37,14 @@ pub record Sim (s : State) (given : Stepped) : Type 0 where
   pub sound : IsSound after
   pub follows : Follows s after
   pub undiverged : NeverDiverged given.outcome
+  pub grows : GrowsAtAccepted s given.outcome after
 
 pub Follows-refl : (s : State) → Follows s s
 Follows-refl s = record { accepted = Extends-refl s.accepted; packets = Extends-refl s.packets; versions = NoneBack-refl s.versions }
 
 -- nothing moves
-stay : (s : State) (given : Stepped) → IsSound s → given.after ≡ net_of s → NeverDiverged given.outcome → Sim s given
-stay s given sound same never = record { after = s; parts = same; sound = sound; follows = Follows-refl s; undiverged = never }
+stay : (s : State) (given : Stepped) → IsSound s → given.after ≡ net_of s → NeverDiverged given.outcome → GrowsAtAccepted s given.outcome s → Sim s given
+stay s given sound same never grows = record { after = s; parts = same; sound = sound; follows = Follows-refl s; undiverged = never; grows = grows }
 
 -- no packets are posted
 none_posted : (s : State) (hub : Hub) (leaves : List Leaf) → (let w : Net = record { hub = hub; leaves = leaves; packets = s.packets ++ [] } in w) ≡ record { hub = hub; leaves = leaves; packets = s.packets }
@@ -51,22 +53,23 @@ none_posted s hub leaves = ap (λ ps. let w : Net = record { hub = hub; leaves =
 -- the hub -------------------------------------------------------------------------------------------------------------
 
 -- it tells a note, with these asks waiting
-hub_notes : (s : State) → IsSound s → (note : Note) (waiting : List Change) → Sim s (hub_stepped (net_of s) (noted note (record (net_of s).hub { waiting = waiting })))
-hub_notes s sound note waiting = record {
+hub_notes : (s : State) → IsSound s → (note : Note) (waiting : List Change) → GrowsByNote 0 note s.accepted s.accepted → Sim s (hub_stepped (net_of s) (noted note (record (net_of s).hub { waiting = waiting })))
+hub_notes s sound note waiting grows = record {
   after = record { accepted = s.accepted; waiting = waiting; versions = s.versions; packets = s.packets };
   parts = none_posted s _ _;
   sound = record { changes = sound.changes; versions = sound.versions; taken = sound.taken };
   follows = record { accepted = Extends-refl s.accepted; packets = Extends-refl s.packets; versions = NoneBack-refl s.versions };
   undiverged = λ e. cc;
+  grows = grows;
 }
 
 hub_refuses : (s : State) → IsSound s → (fault : LinkFault) → fault ≢ Diverged → Sim s (hub_stepped (net_of s) (refused fault (net_of s).hub))
-hub_refuses s sound fault other = stay s _ sound refl (λ e. other (let same : fault ≡ Diverged = cc in same))
+hub_refuses s sound fault other = stay s _ sound refl (λ e. other (let same : fault ≡ Diverged = cc in same)) refl
 
 -- it accepts a change
-hub_accepts : (s : State) → IsSound s → (c : Change) (behind : List Change) → refusal (records_of s.accepted (length s.accepted)) c ≡ None → Sim s (hub_stepped (net_of s) (acceptance (net_of s).hub c behind))
-hub_accepts s sound c behind takes =
-    let more : List Entry = s.accepted ++ own c ∷ [] in
+hub_accepts : (s : State) → IsSound s → (c : Change) (rest : List Change) → refusal (records_of s.accepted (length s.accepted)) c ≡ None → Sim s (hub_stepped (net_of s) (acceptance (net_of s).hub c rest))
+hub_accepts s sound c rest takes =
+    let more : List AcceptedChange = s.accepted ++ own c ∷ [] in
     let count : length more ≡ length s.accepted + 1 = length-append s.accepted (own c ∷ []) in
     let within : length s.accepted ≤ length s.accepted = omega arith in
     let records : records_of more (length more) ≡ changed (records_of s.accepted (length s.accepted)) c =
@@ -76,7 +79,7 @@ hub_accepts s sound c behind takes =
     let rises : length s.accepted ≤ length more = omega (arith, count) in
     let sent = posted 0 (to_leaves (length s.versions) (packet_of (length s.accepted + 1) (own c))) in
     record {
-      after = record { accepted = more; waiting = behind; versions = s.versions; packets = s.packets ++ sent };
+      after = record { accepted = more; waiting = rest; versions = s.versions; packets = s.packets ++ sent };
       parts = rw (records, leaves) refl;
       sound = record {
         changes = AllTrue-append more s.packets sent (AllTrue-extended s.accepted (own c ∷ []) s.packets sound.changes) (AllTrue-to_each more 0 1 (length s.versions) _ (last_is_true s.accepted (own c)));
@@ -85,6 +88,7 @@ hub_accepts s sound c behind takes =
       };
       follows = record { accepted = (own c ∷ [], refl); packets = (sent, refl); versions = NoneBack-refl s.versions };
       undiverged = λ e. cc;
+      grows = (refl, sym count, (own c, refl));
     }
 
 -- it serves a hello
@@ -95,38 +99,39 @@ hub_serves s sound leaf v has = record {
   sound = record { changes = AllTrue-append s.accepted s.packets _ sound.changes (served_are_true s.accepted leaf v has); versions = sound.versions; taken = sound.taken };
   follows = record { accepted = Extends-refl s.accepted; packets = (posted 0 (served (net_of s).hub leaf v), refl); versions = NoneBack-refl s.versions };
   undiverged = λ e. cc;
+  grows = refl;
 }
 
 hub_asks : (s : State) → IsSound s → (c : Change) (shape : Option ChangeFault) → Sim s (hub_stepped (net_of s) (ask_taken (net_of s).hub c shape))
 hub_asks s sound c (Some fault) = hub_refuses s sound (BadChange fault) (λ e. cc)
-hub_asks s sound c None = by (nat_lt (length s.waiting) 64)
+hub_asks s sound c None = by (nat_lt (length s.waiting) MAX_ASKS)
   where
     by : (b : Bool) → Sim s (hub_stepped (net_of s) (if b then noted Queued (record (net_of s).hub { waiting = s.waiting ++ c ∷ [] }) else refused AsksFull (net_of s).hub))
-    by true = hub_notes s sound Queued (s.waiting ++ c ∷ [])
+    by true = hub_notes s sound Queued (s.waiting ++ c ∷ []) refl
     by false = hub_refuses s sound AsksFull (λ e. cc)
 
-hub_takes : (s : State) → IsSound s → (c : Change) (behind : List Change) (r : Option ChangeFault) → refusal (records_of s.accepted (length s.accepted)) c ≡ r → Sim s (hub_stepped (net_of s) (ask_served (net_of s).hub c behind r))
-hub_takes s sound c behind (Some fault) e = hub_notes s sound (Refused fault) behind
-hub_takes s sound c behind None e = by (nat_lt (length s.accepted) 4294967295)
+hub_takes : (s : State) → IsSound s → (c : Change) (rest : List Change) (r : Option ChangeFault) → refusal (records_of s.accepted (length s.accepted)) c ≡ r → Sim s (hub_stepped (net_of s) (ask_served (net_of s).hub c rest r))
+hub_takes s sound c rest (Some fault) e = hub_notes s sound (Refused fault) rest refl
+hub_takes s sound c rest None e = by (nat_lt (length s.accepted) 4294967295)
   where
-    by : (b : Bool) → Sim s (hub_stepped (net_of s) (if b then acceptance (net_of s).hub c behind else refused NumbersSpent (net_of s).hub))
-    by true = hub_accepts s sound c behind e
+    by : (b : Bool) → Sim s (hub_stepped (net_of s) (if b then acceptance (net_of s).hub c rest else refused NumbersSpent (net_of s).hub))
+    by true = hub_accepts s sound c rest e
     by false = hub_refuses s sound NumbersSpent (λ e. cc)
 
 hub_pumps : (s : State) → IsSound s → (waiting : List Change) → Sim s (hub_stepped (net_of s) (hub_pumped_at (net_of s).hub waiting))
-hub_pumps s sound [] = hub_notes s sound Idle s.waiting
-hub_pumps s sound (c ∷ behind) = hub_takes s sound c behind _ refl
+hub_pumps s sound [] = hub_notes s sound Idle s.waiting refl
+hub_pumps s sound (c ∷ rest) = hub_takes s sound c rest _ refl
 
 or_right : (a b : Bool) → (a || b) ≡ false → b ≡ false
 or_right true b e = cc
 or_right false b e = e
 
 hub_receives : (s : State) → IsSound s → (p : Packet) → Sim s (hub_stepped (net_of s) (hub_received (net_of s).hub p))
-hub_receives s sound (change_packet number origin request change) = hub_notes s sound Stray s.waiting
+hub_receives s sound (change_packet number origin request change) = hub_notes s sound Stray s.waiting refl
 hub_receives s sound (Hello leaf v) = by (is_no_leaf (length s.versions) leaf || nat_lt (length s.accepted) v) refl
   where
     by : (b : Bool) → (is_no_leaf (length s.versions) leaf || nat_lt (length s.accepted) v) ≡ b → Sim s (hub_stepped (net_of s) (if b then noted Stray (net_of s).hub else hello_served (net_of s).hub leaf v))
-    by true e = hub_notes s sound Stray s.waiting
+    by true e = hub_notes s sound Stray s.waiting refl
     by false e = hub_serves s sound leaf v (ltb-false (length s.accepted) v (or_right (is_no_leaf (length s.versions) leaf) (nat_lt (length s.accepted) v) e))
 
 -- a leaf ----------------------------------------------------------------------------------------------------------------
@@ -141,13 +146,14 @@ put_back : (s : State) (place v : ℕ) → slice_get s.versions place ≡ Some v
 put_back s place v e = leaves_at-set s.accepted 1 s.versions place v ∙ ap (leaves_at s.accepted 1) (set_same s.versions place v e)
 
 -- it tells a note
-leaf_notes : (s : State) → IsSound s → (place v : ℕ) (note : Note) → slice_get s.versions place ≡ Some v → Sim s (leaf_stepped (net_of s) place (noted note (leaf_of s.accepted (1 + place) v)))
-leaf_notes s sound place v note e = record {
+leaf_notes : (s : State) → IsSound s → (place v : ℕ) (note : Note) → slice_get s.versions place ≡ Some v → GrowsByNote (place + 1) note s.accepted s.accepted → Sim s (leaf_stepped (net_of s) place (noted note (leaf_of s.accepted (1 + place) v)))
+leaf_notes s sound place v note e grows = record {
   after = s;
   parts = rw (put_back s place v e) (none_posted s (net_of s).hub (leaves_at s.accepted 1 s.versions));
   sound = sound;
   follows = Follows-refl s;
   undiverged = λ e. cc;
+  grows = grows;
 }
 
 -- it says hello
@@ -160,15 +166,16 @@ leaf_greets s sound place v e =
       sound = record { changes = AllTrue-append s.accepted s.packets hello sound.changes (tt, tt); versions = sound.versions; taken = sound.taken };
       follows = record { accepted = Extends-refl s.accepted; packets = (hello, refl); versions = NoneBack-refl s.versions };
       undiverged = λ e. cc;
+      grows = refl;
     }
 
 leaf_refuses : (s : State) → IsSound s → (place v : ℕ) (fault : LinkFault) → fault ≢ Diverged → Sim s (leaf_stepped (net_of s) place (refused fault (leaf_of s.accepted (1 + place) v)))
-leaf_refuses s sound place v fault other = stay s _ sound refl (λ e. other (let same : fault ≡ Diverged = cc in same))
+leaf_refuses s sound place v fault other = stay s _ sound refl (λ e. other (let same : fault ≡ Diverged = cc in same)) refl
 
 -- it applies its next change
-leaf_applies : (s : State) → IsSound s → (place v : ℕ) (entry : Entry) (note : Note) → slice_get s.versions place ≡ Some v → slice_get s.accepted v ≡ Some entry
-    → Sim s (leaf_stepped (net_of s) place (noted note (with_next (leaf_of s.accepted (1 + place) v) entry.change)))
-leaf_applies s sound place v entry note e at =
+leaf_applies : (s : State) → IsSound s → (place v number : ℕ) (entry : AcceptedChange) → slice_get s.versions place ≡ Some v → slice_get s.accepted v ≡ Some entry
+    → Sim s (leaf_stepped (net_of s) place (noted (Applied number) (with_next (leaf_of s.accepted (1 + place) v) entry.change)))
+leaf_applies s sound place v number entry e at =
     let rising : List ℕ = slice_set s.versions place (v + 1) in
     let records = records_of-next s.accepted v entry at in
     let within = slice_get_within s.accepted v entry at in
@@ -182,30 +189,31 @@ leaf_applies s sound place v entry note e at =
       sound = record { changes = sound.changes; versions = AllAtMost-set (length s.accepted) s.versions place (v + 1) below sound.versions; taken = sound.taken };
       follows = record { accepted = Extends-refl s.accepted; packets = Extends-refl s.packets; versions = NoneBack-set s.versions place v (v + 1) e (omega arith) };
       undiverged = λ e. cc;
+      grows = refl;
     }
 
-IsNumbered-next : (xs : List Entry) (n v : ℕ) (entry : Entry) → IsNumbered xs n entry → n ≡ v + 1 → slice_get xs v ≡ Some entry
+IsNumbered-next : (xs : List AcceptedChange) (n v : ℕ) (entry : AcceptedChange) → IsNumbered xs n entry → n ≡ v + 1 → slice_get xs v ≡ Some entry
 IsNumbered-next xs zero v entry h e = absurd h
 IsNumbered-next xs (suc place) v entry h e = let same : place ≡ v = omega (arith, e) in subst (λ i. slice_get xs i ≡ Some entry) same h
 
-leaf_nexts : (s : State) → IsSound s → (place v : ℕ) (entry : Entry) (r : Option ChangeFault) → slice_get s.versions place ≡ Some v → slice_get s.accepted v ≡ Some entry → refusal (records_of s.accepted v) entry.change ≡ r
+leaf_nexts : (s : State) → IsSound s → (place v : ℕ) (entry : AcceptedChange) (r : Option ChangeFault) → slice_get s.versions place ≡ Some v → slice_get s.accepted v ≡ Some entry → refusal (records_of s.accepted v) entry.change ≡ r
     → Sim s (leaf_stepped (net_of s) place (next_applied (leaf_of s.accepted (1 + place) v) entry.change r))
 leaf_nexts s sound place v entry (Some fault) e at h = let none = sym (sound.taken v entry at) ∙ h in cc
-leaf_nexts s sound place v entry None e at h = leaf_applies s sound place v entry (Applied (v + 1)) e at
+leaf_nexts s sound place v entry None e at h = leaf_applies s sound place v (v + 1) entry e at
 
 leaf_receives : (s : State) → IsSound s → (place v : ℕ) (p : Packet) → slice_get s.versions place ≡ Some v → IsTrueChange s.accepted p
     → Sim s (leaf_stepped (net_of s) place (leaf_received (leaf_of s.accepted (1 + place) v) p))
-leaf_receives s sound place v (Hello leaf version) e h = leaf_notes s sound place v Stray e
+leaf_receives s sound place v (Hello leaf version) e h = leaf_notes s sound place v Stray e refl
 leaf_receives s sound place v (change_packet number origin request change) e h = by (nat_le number v)
   where
     next : (b : Bool) → (number == (v + 1)) ≡ b → Sim s (leaf_stepped (net_of s) place (if b then next_applied (leaf_of s.accepted (1 + place) v) change (refusal (records_of s.accepted v) change) else noted Early (leaf_of s.accepted (1 + place) v)))
     next true same =
-        let entry : Entry = record { origin = origin; request = request; change = change } in
+        let entry : AcceptedChange = record { origin = origin; request = request; change = change } in
         leaf_nexts s sound place v entry (refusal (records_of s.accepted v) change) e (IsNumbered-next s.accepted number v entry h (eqb-true number (v + 1) same)) refl
-    next false other = leaf_notes s sound place v Early e
+    next false other = leaf_notes s sound place v Early e refl
 
     by : (b : Bool) → Sim s (leaf_stepped (net_of s) place (if b then noted Old (leaf_of s.accepted (1 + place) v) else if number == (v + 1) then next_applied (leaf_of s.accepted (1 + place) v) change (refusal (records_of s.accepted v) change) else noted Early (leaf_of s.accepted (1 + place) v)))
-    by true = leaf_notes s sound place v Old e
+    by true = leaf_notes s sound place v Old e refl
     by false = next (number == (v + 1)) refl
 
 ask_fault-other : (shape : Option ChangeFault) → ask_fault shape ≢ Diverged
@@ -216,7 +224,7 @@ ask_fault-other None e = cc
 
 met : (s : State) → IsSound s → (place : ℕ) (leaf_row : Leaf → Row Leaf) → ((v : ℕ) → slice_get s.versions place ≡ Some v → Sim s (leaf_stepped (net_of s) place (leaf_row (leaf_of s.accepted (1 + place) v))))
     → (r : Option ℕ) → slice_get s.versions place ≡ r → Sim s (leaf_met (net_of s) place leaf_row (option_map (λ v. leaf_of s.accepted (1 + place) v) r))
-met s sound place leaf_row sim None e = stay s _ sound refl (λ h. h)
+met s sound place leaf_row sim None e = stay s _ sound refl (λ h. h) refl
 met s sound place leaf_row sim (Some v) e = sim v e
 
 at_some_bot : (s : State) → IsSound s → (bot : ℕ) (hub_row : Hub → Row Hub) (leaf_row : Leaf → Row Leaf) → Sim s (hub_stepped (net_of s) (hub_row (net_of s).hub))
@@ -227,7 +235,7 @@ at_some_bot s sound (suc place) hub_row leaf_row hub leaf =
     subst (λ (r : Option Leaf). Sim s (leaf_met (net_of s) place leaf_row r)) (sym (leaves_at-get s.accepted 1 s.versions place)) (met s sound place leaf_row (leaf place) (slice_get s.versions place) refl)
 
 deliveries : (s : State) → IsSound s → (n : ℕ) (r : Option Sent) → packet_at s.packets n ≡ r → Sim s (delivered (net_of s) r)
-deliveries s sound n None e = stay s _ sound refl (λ h. h)
+deliveries s sound n None e = stay s _ sound refl (λ h. h) refl
 deliveries s sound zero (Some sent) e = cc
 deliveries s sound (suc n) (Some sent) e =
     let truth = AllTrue-at s.accepted s.packets n sent sound.changes e in

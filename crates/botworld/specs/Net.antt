@@ -1,7 +1,7 @@
 -- What a world is to a contract, and what one step makes of it.
-use Rattle.std.specs.Prelude.{◌≡◌, ℕ, zero, suc, ◌+◌, List, [], ◌∷◌, ◌++◌, length, map, slice_get, slice_set, Option, None, Some, Result, Ok, Err, ⊤}
+use Rattle.std.specs.Prelude.{◌≡◌, ℕ, zero, suc, ◌+◌, nat_le, if◌then◌else◌, List, [], ◌∷◌, ◌++◌, length, slice_get, slice_set, Option, None, Some, Result, Ok, Err}
 use Rattle.userfile.specs.declared.change.Change.{Change}
-use Rattle.sharelink.specs.Meets.{Row}
+use Rattle.sharelink.specs.Meets.{Row, TakesMemory}
 use Rattle.sharelink.specs.HubRules.{Hub, new_hub, hub_asked, hub_pumped, hub_received}
 use Rattle.sharelink.specs.LeafRules.{Leaf, new_leaf, leaf_asked, leaf_pumped, leaf_received}
 use Rattle.sharelink.specs.declared.answer.Answer.{Answer}
@@ -53,7 +53,8 @@ answered bot old hub leaves (Ok answer) = record {
   outcome = reported (record { bot = bot; end = ended answer.note; first = length old.packets + 1; count = length answer.packets });
   after = record { hub = hub; leaves = leaves; packets = old.packets ++ posted bot answer.packets };
 }
-answered bot old hub leaves (Err fault) = unmoved old (reported (record { bot = bot; end = ended_refused fault; first = length old.packets + 1; count = 0 }))
+answered bot old hub leaves (Err fault) =
+    unmoved old (reported (record { bot = bot; end = ended_refused fault; first = length old.packets + 1; count = 0 }))
 
 -- the hub's part in a step, by its row
 abbrev pub hub_stepped : Net → Row Hub → Stepped
@@ -87,21 +88,49 @@ stepped old (At bot (Ask change)) = at_bot old bot (λ hub. hub_asked hub change
 stepped old (At bot Pump) = at_bot old bot hub_pumped leaf_pumped
 stepped old (Deliver packet) = delivered old (packet_at old.packets packet)
 
+-- the outcomes of steps one after another, where memory holds out
+abbrev pub outcomes_from : Net → List Step → List Outcome
+outcomes_from w [] = []
+outcomes_from w (step ∷ steps) = (stepped w step).outcome ∷ outcomes_from (stepped w step).after steps
+
+-- the outcome of a step in which no bot takes part; none where one does
+abbrev pub missing_bot : Net → ℕ → Option Outcome
+missing_bot w bot = if nat_le bot (length w.leaves) then None else Some NoSuchBot
+
+abbrev pub missing_at : Net → Option Sent → Option Outcome
+missing_at w None = Some NoSuchPacket
+missing_at w (Some sent) = missing_bot w sent.to
+
+abbrev pub missing : Net → Step → Option Outcome
+missing w (At bot event) = missing_bot w bot
+missing w (Deliver packet) = missing_at w (packet_at w.packets packet)
+
+-- a bot takes part in the step at this place
+abbrev pub TakesPartAt : Net → List Step → ℕ → Type 0
+TakesPartAt w steps place = (step : Step) × (slice_get steps place ≡ Some step) × (missing w step ≡ None)
+
 -- a part that is done
 abbrev pub IsNote : End → Type 0
 IsNote (ended note) = Unit {0}
 IsNote (ended_refused fault) = ⊥
 IsNote ended_no_memory = ⊥
 
--- the step is done, by this bot
-abbrev pub IsDoneBy : ℕ → Outcome → Type 0
-IsDoneBy bot (reported report) = (report.bot ≡ bot) × IsNote report.end
-IsDoneBy bot NoSuchBot = ⊥
-IsDoneBy bot NoSuchPacket = ⊥
+-- a part that is done, and that takes memory: so many packets are sent
+abbrev pub EndTakesMemory : End → ℕ → Type 0
+EndTakesMemory (ended note) sent = TakesMemory note sent
+EndTakesMemory (ended_refused fault) sent = ⊥
+EndTakesMemory ended_no_memory sent = ⊥
 
--- a report stands to what the step gives: want of memory comes only in place of a done step, and changes nothing
+-- the step is done by this bot, and takes memory
+abbrev pub TakesMemoryOf : ℕ → Outcome → Type 0
+TakesMemoryOf bot (reported report) = (report.bot ≡ bot) × EndTakesMemory report.end report.count
+TakesMemoryOf bot NoSuchBot = ⊥
+TakesMemoryOf bot NoSuchPacket = ⊥
+
+-- a report stands to what the step gives: it tells that memory ran out only in place of a done step that takes memory,
+-- and then nothing changes
 abbrev pub Reports : End → Report → Net → Stepped → Net → Type 0
-Reports ended_no_memory report old given new = IsDoneBy report.bot given.outcome × (report.count ≡ 0) × (new ≡ old)
+Reports ended_no_memory report old given new = TakesMemoryOf report.bot given.outcome × (report.count ≡ 0) × (new ≡ old)
 Reports (ended note) report old given new = (given.outcome ≡ reported report) × (new ≡ given.after)
 Reports (ended_refused fault) report old given new = (given.outcome ≡ reported report) × (new ≡ given.after)
 

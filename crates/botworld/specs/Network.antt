@@ -7,8 +7,9 @@ use Rattle.userfile.specs.Versions.{records_at}
 use Rattle.userfile.specs.declared.change.Change.{Change}
 use Rattle.sharelink.specs.HubRules.{Hub, own}
 use Rattle.sharelink.specs.LeafRules.{Leaf}
-use Rattle.sharelink.specs.declared.hub.Entry.{Entry}
-use Rattle.sharelink.specs.declared.answer.Note.TheVariants.{Accepted}
+use Rattle.sharelink.specs.declared.accepted.AcceptedChange.{AcceptedChange}
+use Rattle.sharelink.specs.declared.answer.Note.{Note}
+use Rattle.sharelink.specs.declared.answer.Note.TheVariants.{Queued, Idle, Accepted, Refused, Served, Old, Early, Applied, Stray}
 use Rattle.sharelink.specs.declared.packet.Packet.{Packet}
 use Rattle.sharelink.specs.declared.packet.Packet.TheVariants.{Hello, Change as change_packet}
 use Rattle.sharelink.specs.declared.error.LinkFault.TheVariants.{Diverged}
@@ -19,34 +20,39 @@ use Rattle.botworld.specs.declared.step.Event.TheVariants.{Pump}
 use Rattle.botworld.specs.declared.outcome.Outcome.{Outcome}
 use Rattle.botworld.specs.declared.outcome.Outcome.TheVariants.{Report as reported, NoSuchBot, NoSuchPacket}
 use Rattle.botworld.specs.declared.outcome.End.{End}
-use Rattle.botworld.specs.declared.outcome.End.TheVariants.{Note as ended, Refused as ended_refused}
+use Rattle.botworld.specs.declared.outcome.End.TheVariants.{Note as ended, Refused as ended_refused, NoMemory as ended_no_memory}
 use Rattle.botworld.specs.Net.{Net, NetStep, IsNote, packet_at}
 
 -- a moment of the network
 pub record State : Type 0 where
-  pub accepted : List Entry
+  pub accepted : List AcceptedChange
   pub waiting : List Change
   pub versions : List ℕ
   pub packets : List Sent
 
 -- the accepted changes themselves
-abbrev pub changes_of : List Entry → List Change
+abbrev pub changes_of : List AcceptedChange → List Change
 changes_of [] = []
 changes_of (entry ∷ entries) = entry.change ∷ changes_of entries
 
 -- the records after the first v accepted changes
-abbrev pub records_of : List Entry → ℕ → Records
+abbrev pub records_of : List AcceptedChange → ℕ → Records
 records_of accepted v = records_at (changes_of accepted) v
 
 -- the leaves at these versions, numbered on from the first
-abbrev pub leaves_at : List Entry → ℕ → List ℕ → List Leaf
+abbrev pub leaves_at : List AcceptedChange → ℕ → List ℕ → List Leaf
 leaves_at accepted first [] = []
 leaves_at accepted first (v ∷ vs) = record { number = first; version = v; records = records_of accepted v } ∷ leaves_at accepted (first + 1) vs
 
 -- the net that a moment of the network stands for
 abbrev pub net_of : State → Net
 net_of s = record {
-  hub = record { leaves = length s.versions; records = records_of s.accepted (length s.accepted); accepted = s.accepted; waiting = s.waiting };
+  hub = record {
+    leaves = length s.versions;
+    records = records_of s.accepted (length s.accepted);
+    accepted = s.accepted;
+    waiting = s.waiting;
+  };
   leaves = leaves_at s.accepted 1 s.versions;
   packets = s.packets;
 }
@@ -92,6 +98,21 @@ IsDone (reported report) = IsNote report.end
 IsDone NoSuchBot = ⊥
 IsDone NoSuchPacket = ⊥
 
+-- the step was made: it did not end for want of memory
+abbrev pub IsMadeEnd : End → Type 0
+IsMadeEnd (ended note) = Unit {0}
+IsMadeEnd (ended_refused fault) = Unit {0}
+IsMadeEnd ended_no_memory = ⊥
+
+abbrev pub IsMade : Outcome → Type 0
+IsMade (reported report) = IsMadeEnd report.end
+IsMade NoSuchBot = Unit {0}
+IsMade NoSuchPacket = Unit {0}
+
+abbrev pub AllMade : List Outcome → Type 0
+AllMade [] = Unit {0}
+AllMade (outcome ∷ outcomes) = IsMade outcome × AllMade outcomes
+
 -- a bot took part, and its part ended so
 abbrev pub HasEnd : Outcome → End → Type 0
 HasEnd (reported report) end = report.end ≡ end
@@ -106,7 +127,7 @@ AppliesNext old step outcome new = (packet leaf v origin request from : ℕ) (ch
 
 -- an ask that the records take, and that a done pump of the hub takes, is accepted under the next number
 abbrev pub AcceptsNext : State → Step → Outcome → State → Type 0
-AcceptsNext old step outcome new = (change : Change) (behind : List Change) → step ≡ At 0 Pump → old.waiting ≡ change ∷ behind
+AcceptsNext old step outcome new = (change : Change) (rest : List Change) → step ≡ At 0 Pump → old.waiting ≡ change ∷ rest
     → refusal (records_of old.accepted (length old.accepted)) change ≡ None → IsDone outcome
     → HasEnd outcome (ended (Accepted (length old.accepted + 1))) × (new.accepted ≡ old.accepted ++ own change ∷ [])
 
@@ -114,10 +135,33 @@ AcceptsNext old step outcome new = (change : Change) (behind : List Change) → 
 abbrev pub NeverDiverged : Outcome → Type 0
 NeverDiverged outcome = HasEnd outcome (ended_refused Diverged) → ⊥
 
+-- the accepted changes grow by one where the hub accepts a change, whose number is then their count, and nowhere else
+abbrev pub GrowsByNote : ℕ → Note → List AcceptedChange → List AcceptedChange → Type 0
+GrowsByNote bot (Accepted number) old new = (bot ≡ 0) × (number ≡ length new) × ((last : AcceptedChange) × (new ≡ old ++ last ∷ []))
+GrowsByNote bot Queued old new = new ≡ old
+GrowsByNote bot Idle old new = new ≡ old
+GrowsByNote bot (Refused fault) old new = new ≡ old
+GrowsByNote bot (Served count) old new = new ≡ old
+GrowsByNote bot Old old new = new ≡ old
+GrowsByNote bot Early old new = new ≡ old
+GrowsByNote bot (Applied number) old new = new ≡ old
+GrowsByNote bot Stray old new = new ≡ old
+
+abbrev pub GrowsByEnd : ℕ → End → List AcceptedChange → List AcceptedChange → Type 0
+GrowsByEnd bot (ended note) old new = GrowsByNote bot note old new
+GrowsByEnd bot (ended_refused fault) old new = new ≡ old
+GrowsByEnd bot ended_no_memory old new = new ≡ old
+
+abbrev pub GrowsAtAccepted : State → Outcome → State → Type 0
+GrowsAtAccepted old (reported report) new = GrowsByEnd report.bot report.end old.accepted new.accepted
+GrowsAtAccepted old NoSuchBot new = new.accepted ≡ old.accepted
+GrowsAtAccepted old NoSuchPacket new = new.accepted ≡ old.accepted
+
 -- a step, and what holds of each one
 pub record LawfulStep (old : State) (step : Step) (outcome : Outcome) (new : State) : Type 0 where
   pub by_rule : NetworkStep old step outcome new
   pub follows : Follows old new
+  pub grows : GrowsAtAccepted old outcome new
   pub applies_next : AppliesNext old step outcome new
   pub accepts_next : AcceptsNext old step outcome new
   pub never_diverged : NeverDiverged outcome

@@ -4,7 +4,7 @@ use Rattle.std.specs.Option.{option_map}
 use Rattle.userfile.specs.Records.{Records}
 use Rattle.userfile.specs.Apply.{refusal}
 use Rattle.sharelink.specs.LeafRules.{Leaf}
-use Rattle.sharelink.specs.declared.hub.Entry.{Entry}
+use Rattle.sharelink.specs.declared.accepted.AcceptedChange.{AcceptedChange}
 use Rattle.sharelink.specs.declared.packet.Packet.{Packet}
 use Rattle.sharelink.specs.declared.packet.Packet.TheVariants.{Hello, Change as change_packet}
 use Rattle.botworld.specs.declared.sent.Sent.{Sent}
@@ -14,17 +14,17 @@ use Rattle.botworld.specs.Net.{Net}
 use Rattle.botworld.specs.Network.{State, net_of, records_of, Run, Follows}
 
 -- the accepted change of this number, from 1
-abbrev pub IsNumbered : List Entry → ℕ → Entry → Type 0
+abbrev pub IsNumbered : List AcceptedChange → ℕ → AcceptedChange → Type 0
 IsNumbered accepted zero entry = ⊥
 IsNumbered accepted (suc place) entry = slice_get accepted place ≡ Some entry
 
 -- a change that was sent is the accepted change of its number
-abbrev pub IsTrueChange : List Entry → Packet → Type 0
+abbrev pub IsTrueChange : List AcceptedChange → Packet → Type 0
 IsTrueChange accepted (Hello leaf version) = Unit {0}
 IsTrueChange accepted (change_packet number origin request change) = IsNumbered accepted number (record { origin = origin; request = request; change = change })
 
 -- each packet ever sent tells the truth
-abbrev pub AllTrue : List Entry → List Sent → Type 0
+abbrev pub AllTrue : List AcceptedChange → List Sent → Type 0
 AllTrue accepted [] = Unit {0}
 AllTrue accepted (sent ∷ packets) = IsTrueChange accepted sent.packet × AllTrue accepted packets
 
@@ -34,8 +34,8 @@ AllAtMost most [] = Unit {0}
 AllAtMost most (v ∷ vs) = (v ≤ most) × AllAtMost most vs
 
 -- each change was taken by the records that it met
-abbrev pub AllTaken : List Entry → Type 0
-AllTaken accepted = (place : ℕ) (entry : Entry) → slice_get accepted place ≡ Some entry → refusal (records_of accepted place) entry.change ≡ None
+abbrev pub AllTaken : List AcceptedChange → Type 0
+AllTaken accepted = (place : ℕ) (entry : AcceptedChange) → slice_get accepted place ≡ Some entry → refusal (records_of accepted place) entry.change ≡ None
 
 -- what holds at each moment
 pub record IsSound (s : State) : Type 0 where
@@ -63,3 +63,11 @@ shown_version w (suc place) = option_map (λ (leaf : Leaf). leaf.version) (slice
 abbrev pub shown_records : Net → ℕ → Option Records
 shown_records w zero = Some w.hub.records
 shown_records w (suc place) = option_map (λ (leaf : Leaf). leaf.records) (slice_get w.leaves place)
+
+-- two bots that show one version, each in its net, hold the same records
+abbrev pub SameRecords : Net → Net → Type 0
+SameRecords old new = (i j v : ℕ) → shown_version old i ≡ Some v → shown_version new j ≡ Some v → shown_records old i ≡ shown_records new j
+
+-- no bot shows a lower version than before
+abbrev pub NeverBack : Net → Net → Type 0
+NeverBack old new = (i u : ℕ) → shown_version old i ≡ Some u → (v : ℕ) × (shown_version new i ≡ Some v) × (u ≤ v)

@@ -1,10 +1,8 @@
 // Why a world is not made.
 ghost use Rattle.std.specs.Prelude.{◌≡◌};
 ghost use Rattle.botworld.specs.Codes.{fault_code};
-ghost use Rattle.botworld.specs.declared.error.WorldError.TheVariants.{NoMemory as no_memory};
 
-use bytetext::NoMemory;
-use std::alloc::{AllocError, AllocFailed};
+use bytetext::Failure;
 use thiserror::Error;
 
 /// A refusal to make a world.
@@ -26,37 +24,5 @@ impl WorldFault {
     }
 }
 
-/// Why a world is not made.
-#[derive(Clone, Copy, Debug, PartialEq, Eq, Error)]
-pub enum WorldError {
-    /// A rule stands against it.
-    #[error("{0}")]
-    Refused(WorldFault),
-    /// A growth was refused, and no rule stands against it.
-    #[error("out of memory: free some and try again")]
-    NoMemory,
-}
-
-impl From<NoMemory> for WorldError {
-    ghost from_gives = { λ _ e. e ≡ no_memory };
-
-    fn from(_refused: NoMemory) -> WorldError {
-        WorldError::NoMemory
-    }
-}
-
-impl From<AllocError> for WorldError {
-    ghost from_gives = { λ _ e. e ≡ no_memory };
-
-    fn from(_refused: AllocError) -> WorldError {
-        WorldError::NoMemory
-    }
-}
-
-impl<T: Drop> From<AllocFailed<T>> for WorldError {
-    ghost from_gives = { λ _ e. e ≡ no_memory };
-
-    fn from(_refused: AllocFailed<T>) -> WorldError {
-        WorldError::NoMemory
-    }
-}
+/// Why a world is not made: too many leaves, or else a growth was refused.
+pub type WorldError = Failure<WorldFault>;

@@ -7,6 +7,8 @@
 //!
 //! ```text
 //! let mut world = World::new(alloc, 1)?;
+//! let ask = Step::At { bot: 0, event: Event::Ask(change) };
+//! let pump = Step::At { bot: 0, event: Event::Pump };
 //! let transcript = world.run(alloc, &[ask, pump, Step::Deliver { packet: 1 }]);
 //! assert!(world.version(1) == world.version(0));
 //! ```

@@ -1,10 +1,11 @@
 // What came of steps.
-ghost use Rattle.std.specs.Prelude.{◌≡◌, length};
+ghost use Rattle.std.specs.Prelude.{◌≡◌};
 ghost use Rattle.std.specs.Option.{option_copied};
 ghost use Rattle.botworld.specs.Codes.{outcome_code};
 
+use bytetext::{NoMemory, Seq, TryCopy};
 use sharelink::{LinkFault, Note};
-use std::marker::Model;
+use std::alloc::Global;
 
 /// How a bot's part in a step ended.
 #[derive(Clone, Copy, Debug, PartialEq, Eq)]
@@ -54,49 +55,29 @@ impl Outcome {
     }
 }
 
-/// Outcomes in the order of their steps. Contracts see the list of them.
-#[derive(Debug, Drop)]
-pub struct Outcomes {
-    items: Vec<Outcome>,
-}
-
-impl Model for Outcomes {
-    ghost use Rattle.std.specs.Prelude.{List};
-    ghost use Rattle.botworld.specs.declared.outcome.Outcome.{Outcome};
-
-    ghost Value = { List Outcome };
-
-    ghost view = { λ o. o.items.items };
-}
-
-impl Outcomes {
-    /// These outcomes. Takes no memory.
-    pub fn new(items: Vec<Outcome>) -> Outcomes
-        ensures { result ≡ items.items }
-    {
-        Outcomes { items }
-    }
-
-    /// The outcomes, in order.
-    pub fn as_slice(&self) -> &[Outcome]
-        ensures { result.now ≡ self.now }
-    {
-        self.items.as_slice()
-    }
-
-    /// How many there are.
-    pub fn len(&self) -> usize
-        ensures { result ≡ length self.now }
-    {
-        self.items.len()
+impl TryCopy for Outcome {
+    fn copy(&self, _alloc: Global) -> Result<Outcome, NoMemory> {
+        Ok(*self)
     }
 }
+
+/// Outcomes in the order of their steps.
+pub type Outcomes = Seq<Outcome>;
 
 /// What came of a list of steps.
-#[derive(Debug, Drop)]
+#[derive(Drop)]
 pub struct Transcript {
     /// An outcome for each step that was made.
     pub outcomes: Outcomes,
     /// Whether the run stopped early, since room for the next step was refused. The steps before it stand.
     pub cut: bool,
+}
+
+impl TryCopy for Transcript {
+    fn copy(&self, alloc: Global) -> Result<Transcript, NoMemory> {
+        Ok(Transcript {
+            outcomes: self.outcomes.copy(alloc)?,
+            cut: self.cut,
+        })
+    }
 }

@@ -1,13 +1,14 @@
 // The world.
-ghost use Rattle.std.specs.Prelude.{◌≡◌, ◌+◌, ◌≤◌, ◌++◌, true, IfOk, length, vec_len, vec_capacity};
+ghost use Rattle.std.specs.Prelude.{◌≡◌, ◌+◌, ◌≤◌, ◌++◌, IfOk, length, vec_len, vec_capacity};
 ghost use Rattle.botworld.specs.Net.{new_leaves, posted};
+ghost use Rattle.sharelink.specs.declared.TheConstants.{MAX_LEAVES};
 ghost use Rattle.botworld.specs.Posting.{Finishes};
 
 use crate::error::{WorldError, WorldFault};
-use crate::outcome::{End, Outcome, Outcomes, Report, Transcript};
+use crate::outcome::{End, Outcome, Report, Transcript};
 use crate::sent::Sent;
 use crate::step::{Event, Step};
-use bytetext::{NoMemory, TryCopy};
+use bytetext::{Failure, NoMemory, Seq, TryCopy, copies_of};
 use sharelink::{Answer, HubLink, LeafLink, LinkError, MAX_LEAVES, Outgoing};
 use std::alloc::Global;
 use std::marker::Model;
@@ -33,14 +34,15 @@ impl Model for World {
 }
 
 impl World {
-    ghost use Rattle.std.specs.Prelude.{◌≡◌, ◌<◌, ◌≤◌, ◌↔◌, ℕ, Some, false, length, take, IfOk, IfSome, IsErrOf, MatchResult};
+    ghost use Rattle.std.specs.Prelude.{◌≡◌, ◌<◌, ◌≤◌, ◌↔◌, ◌⊎◌, ℕ, Some, None, nat_lt, true, length, take, IfOk, IfSome, IsErrOf, MatchResult};
     ghost use Rattle.std.specs.Option.{option_copied, option_map};
     ghost use Rattle.userfile.specs.Versions.{records_at};
     ghost use Rattle.sharelink.specs.HubRules.{hub_asked, hub_pumped};
     ghost use Rattle.sharelink.specs.LeafRules.{leaf_asked, leaf_pumped};
-    ghost use Rattle.botworld.specs.Net.{new_net, packet_at, at_bot, delivered, ComesOf, NetStep};
+    ghost use Rattle.sharelink.specs.declared.TheConstants.{MAX_LEAVES};
+    ghost use Rattle.botworld.specs.Net.{new_net, packet_at, at_bot, delivered, ComesOf, NetStep, missing, missing_bot, TakesPartAt};
     ghost use Rattle.botworld.specs.Network.{State, start, records_of};
-    ghost use Rattle.botworld.specs.Standing.{Stands, LeadsTo, IsTrueChange, shown_version, shown_records};
+    ghost use Rattle.botworld.specs.Standing.{Stands, LeadsTo, IsTrueChange, SameRecords, NeverBack, shown_version, shown_records};
 
     /// A hub and this many leaves, none of which has a change.
     ///
@@ -49,30 +51,16 @@ impl World {
     pub fn new(alloc: Global, leaves: u16) -> Result<World, WorldError>
         ensures made { IfOk result (λ w. w ≡ new_net leaves) }
         ensures stands { IfOk result (λ w. Stands w (start leaves)) }
-        ensures bad_world { IsErrOf result (WorldError.Refused WorldFault.BadWorld) ↔ (1000 < leaves) }
+        ensures bad_world { IsErrOf result (Failure.Refused WorldFault.BadWorld) ↔ (MAX_LEAVES < leaves) }
     {
         if leaves > MAX_LEAVES {
-            return Err(WorldError::Refused(WorldFault::BadWorld));
+            return Err(Failure::Refused(WorldFault::BadWorld));
         }
         let links = leaf_links(alloc, leaves)?;
         Ok(World {
             hub: HubLink::new(alloc, leaves),
             leaves: links,
             packets: Vec::new(alloc),
-        })
-    }
-
-    /// An equal world of its own.
-    ///
-    /// # Errors
-    /// `NoMemory` where room for the copy is refused.
-    pub fn copy(&self, alloc: Global) -> Result<World, NoMemory>
-        ensures { IfOk result (λ w. w ≡ self.now) }
-    {
-        Ok(World {
-            hub: self.hub.copy(alloc)?,
-            leaves: leaf_copies(alloc, self.leaves.as_slice())?,
-            packets: packet_copies(alloc, self.packets.as_slice())?,
         })
     }
 
@@ -104,17 +92,22 @@ impl World {
     }
 
     /// Makes steps in order, and tells the outcome of each. Where room for the next step is refused, it is not made,
-    /// the run is `cut` there, and the steps before it stand.
+    /// the run is `cut` there, and the steps before it stand. Room for all outcomes is made before the first step; a step
+    /// in which no bot takes part needs no more.
     pub fn run(&mut self, alloc: Global, steps: &[Step]) -> Transcript
         // The steps and outcomes are a run of the network.
         ensures leads { (s : State) → Stands self.old s → LeadsTo s (take (length result.outcomes) steps.now) result.outcomes self.new }
-        ensures whole { result.cut ≡ false → length result.outcomes ≡ length steps.now }
-        // Two bots that show version v, the one before the run and the other after it, hold the same records.
-        ensures same_records { (s : State) → Stands self.old s → (i j v : ℕ) → shown_version self.old i ≡ Some v → shown_version self.new j ≡ Some v → shown_records self.old i ≡ shown_records self.new j }
-        // Two bots that show version v after the run hold the same records.
-        ensures same_now { (s : State) → Stands self.old s → (i j v : ℕ) → shown_version self.new i ≡ Some v → shown_version self.new j ≡ Some v → shown_records self.new i ≡ shown_records self.new j }
+        // It is cut exactly where outcomes are fewer than steps, and they are never more.
+        ensures whole { result.cut ≡ nat_lt (length result.outcomes) (length steps.now) }
+        ensures at_most { length result.outcomes ≤ length steps.now }
+        // It is cut before the first step, or at a step in which a bot takes part.
+        ensures cut_at { result.cut ≡ true → (length result.outcomes ≡ 0) ⊎ TakesPartAt self.new steps.now (length result.outcomes) }
+        // Two bots that show one version, the one before the run and the other after it, hold the same records.
+        ensures same_records { (s : State) → Stands self.old s → SameRecords self.old self.new }
+        // So do two bots that show one version after the run.
+        ensures same_now { (s : State) → Stands self.old s → SameRecords self.new self.new }
         // No version goes back.
-        ensures never_back { (s : State) → Stands self.old s → (i u : ℕ) → shown_version self.old i ≡ Some u → (v : ℕ) × (shown_version self.new i ≡ Some v) × (u ≤ v) }
+        ensures never_back { (s : State) → Stands self.old s → NeverBack self.old self.new }
     {
         self.run_all(alloc, steps)
     }
@@ -143,22 +136,81 @@ impl World {
     // As `run`: the steps and outcomes are a run of the network.
     fn run_all(&mut self, alloc: Global, steps: &[Step]) -> Transcript
         ensures leads { (s : State) → Stands self.old s → LeadsTo s (take (length result.outcomes) steps.now) result.outcomes self.new }
-        ensures whole { result.cut ≡ false → length result.outcomes ≡ length steps.now }
+        ensures whole { result.cut ≡ nat_lt (length result.outcomes) (length steps.now) }
+        ensures at_most { length result.outcomes ≤ length steps.now }
+        ensures cut_at { result.cut ≡ true → (length result.outcomes ≡ 0) ⊎ TakesPartAt self.new steps.now (length result.outcomes) }
     {
-        let mut outcomes = Vec::new(alloc);
+        let Ok(mut outcomes) = Vec::with_capacity(alloc, steps.len()) else {
+            return Transcript {
+                outcomes: Seq::empty(alloc),
+                cut: true,
+            };
+        };
         for step in steps {
-            match outcomes.reserve(1) {
-                Ok(()) => {}
-                Err(_) => return stopped(outcomes),
-            }
             match self.make(alloc, step) {
                 Ok(outcome) => outcomes.push(outcome).unwrap(),
-                Err(_) => return stopped(outcomes),
+                Err(NoMemory) => {
+                    return Transcript {
+                        outcomes: Seq::new(outcomes),
+                        cut: true,
+                    };
+                }
             }
         }
         Transcript {
-            outcomes: Outcomes::new(outcomes),
+            outcomes: Seq::new(outcomes),
             cut: false,
+        }
+    }
+
+    // Makes a step, or nothing where room for it is refused. A step in which no bot takes part needs none.
+    fn make(&mut self, alloc: Global, step: &Step) -> Result<Outcome, NoMemory>
+        ensures { MatchResult result (λ o. NetStep self.old step.now o self.new) (λ _. (missing self.old step.now ≡ None) × (self.new ≡ self.old)) }
+    {
+        match self.missing(step) {
+            Some(outcome) => Ok(outcome),
+            None => self.take_part(alloc, step),
+        }
+    }
+
+    // The outcome of a step in which no bot takes part; none where one does.
+    fn missing(&self, step: &Step) -> Option<Outcome>
+        ensures { result ≡ missing self.now step.now }
+    {
+        match step {
+            Step::At { bot, .. } => self.missing_bot(*bot),
+            Step::Deliver { packet } => match self.lent(*packet) {
+                Some(sent) => self.missing_bot(sent.to),
+                None => Some(Outcome::NoSuchPacket),
+            },
+        }
+    }
+
+    // The outcome of a step at this bot, where there is no such bot.
+    fn missing_bot(&self, bot: u16) -> Option<Outcome>
+        ensures { result ≡ missing_bot self.now bot }
+    {
+        if bot as usize <= self.leaves.len() {
+            None
+        } else {
+            Some(Outcome::NoSuchBot)
+        }
+    }
+
+    // A bot's part in a step.
+    fn take_part(&mut self, alloc: Global, step: &Step) -> Result<Outcome, NoMemory>
+        ensures { MatchResult result (λ o. NetStep self.old step.now o self.new) (λ _. self.new ≡ self.old) }
+    {
+        match step {
+            Step::At {
+                bot,
+                event: Event::Ask(change),
+            } => self.ask(alloc, *bot, change),
+            Step::At {
+                bot,
+                event: Event::Pump,
+            } => self.pump(alloc, *bot),
+            Step::Deliver { packet } => self.deliver(alloc, *packet),
         }
     }
 
@@ -218,72 +270,34 @@ impl World {
         let answer = self.leaves[place].receive(alloc, &sent.packet);
         Ok(post(&mut self.packets, bot, answer))
     }
-
-    // Makes a step, or nothing where room for it is refused.
-    fn make(&mut self, alloc: Global, step: &Step) -> Result<Outcome, NoMemory>
-        ensures { MatchResult result (λ o. NetStep self.old step.now o self.new) (λ _. self.new ≡ self.old) }
-    {
-        match step {
-            Step::At {
-                bot,
-                event: Event::Ask(change),
-            } => self.ask(alloc, *bot, change),
-            Step::At {
-                bot,
-                event: Event::Pump,
-            } => self.pump(alloc, *bot),
-            Step::Deliver { packet } => self.deliver(alloc, *packet),
-        }
-    }
 }
 
-// A copy of each leaf, in order.
-fn leaf_copies(alloc: Global, leaves: &[LeafLink]) -> Result<Vec<LeafLink>, NoMemory>
-    ensures { IfOk result (λ copies. copies.items ≡ leaves.now) }
-{
-    let mut copies = Vec::with_capacity(alloc, leaves.len())?;
-    for leaf in leaves {
-        copies.push(leaf.copy()?)?;
-    }
-    Ok(copies)
-}
-
-// A copy of each packet, in order.
-fn packet_copies(alloc: Global, packets: &[Sent]) -> Result<Vec<Sent>, NoMemory>
-    ensures { IfOk result (λ copies. copies.items ≡ packets.now) }
-{
-    let mut copies = Vec::with_capacity(alloc, packets.len())?;
-    for sent in packets {
-        copies.push(sent.copy(alloc)?)?;
-    }
-    Ok(copies)
-}
-
-// What a run tells that stopped for want of room.
-fn stopped(outcomes: Vec<Outcome>) -> Transcript
-    ensures { result ≡ record { outcomes = outcomes.items; cut = true } }
-{
-    Transcript {
-        outcomes: Outcomes::new(outcomes),
-        cut: true,
+impl TryCopy for World {
+    fn copy(&self, alloc: Global) -> Result<World, NoMemory> {
+        Ok(World {
+            hub: self.hub.copy(alloc)?,
+            leaves: copies_of(alloc, self.leaves.as_slice())?,
+            packets: copies_of(alloc, self.packets.as_slice())?,
+        })
     }
 }
 
 // The leaves, numbered from 1.
 fn leaf_links(alloc: Global, leaves: u16) -> Result<Vec<LeafLink>, NoMemory>
+    requires { leaves ≤ MAX_LEAVES }
     ensures { IfOk result (λ links. links.items ≡ new_leaves 1 leaves) }
 {
     let mut links = Vec::with_capacity(alloc, leaves as usize)?;
     for place in 0..leaves {
-        links.push(LeafLink::new(alloc, place + 1))?;
+        links.push(LeafLink::new(alloc, place + 1, leaves))?;
     }
     Ok(links)
 }
 
 // Puts the packets of an answer on the network, in the room that was made, and reports how the bot's part ended.
 fn post(packets: &mut Vec<Sent>, bot: u16, answer: Result<Answer, LinkError>) -> Outcome
-    requires room { vec_len packets.old + 1000 ≤ vec_capacity packets.old }
-    requires few { IfOk answer (λ a. length a.packets ≤ 1000) }
+    requires room { vec_len packets.old + MOST_SENT ≤ vec_capacity packets.old }
+    requires few { IfOk answer (λ a. length a.packets ≤ MOST_SENT) }
     ensures { Finishes packets.old.items bot answer result packets.new.items }
 {
     let first = packets.len() as u64 + 1;

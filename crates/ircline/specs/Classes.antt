@@ -2,7 +2,7 @@
 -- The bytes: 0 is NUL, 10 LF, 13 CR, 32 a space, 58 ':'; 48 to 57 are digits, 65 to 90 and 97 to 122 letters.
 use Rattle.std.specs.Prelude.{ℕ, ◌-◌, Bool, false, List, [], ◌∷◌, ◌&&◌, ◌||◌, ◌==◌, nat_le, nat_lt, not, length, if◌then◌else◌}
 use Rattle.std.specs.List.{list_all}
-use Rattle.ircline.specs.Source.{nick_of}
+use Rattle.ircline.specs.Sources.{nick_of}
 
 -- a byte that ends a line
 abbrev pub is_end : ℕ → Bool

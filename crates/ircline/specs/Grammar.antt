@@ -6,12 +6,12 @@
 --            =/ 14( SPACE middle ) [ SPACE [ ":" ] trailing ]
 --
 -- Two things are wider than in the RFC: SPACE is one or more spaces, and there may be spaces before the first word and
--- behind the last one, which mean nothing. A command is kept in upper case.
+-- after the last one, which mean nothing. A command is kept in upper case.
 use Rattle.std.specs.Prelude.{◌≡◌, ℕ, zero, suc, List, [], ◌∷◌, ◌++◌, ◌⊎◌, ◌==◌, true, false, map, IsTrue}
 use Rattle.std.specs.List.{list_all}
 use Rattle.ircline.specs.declared.message.Message.{Message}
 use Rattle.ircline.specs.Words.{holds}
-use Rattle.ircline.specs.Source.{nick_of}
+use Rattle.ircline.specs.Sources.{nick_of}
 use Rattle.ircline.specs.Classes.{middle, trailing, command, names, upper}
 
 -- spaces alone, or nothing
@@ -39,7 +39,7 @@ abbrev pub IsTrailing : List ℕ → List ℕ → Type 0
 IsTrailing text param =
     (more : List ℕ) × (text ≡ 32 ∷ (more ++ 58 ∷ param)) × IsSpaces more × IsTrue (trailing param)
 
--- SPACE trailing, behind fourteen middle parameters
+-- SPACE trailing, after fourteen middle parameters
 abbrev pub IsFifteenth : List ℕ → List ℕ → Type 0
 IsFifteenth text param =
     (more : List ℕ) × (text ≡ 32 ∷ (more ++ param)) × IsSpaces more × IsBare param × IsTrue (trailing param)
@@ -56,7 +56,7 @@ IsParams zero text (param ∷ params) = (params ≡ []) × (IsTrailing text para
 IsParams (suc n) text (param ∷ params) =
     ((params ≡ []) × IsTrailing text param) ⊎ ((tail : List ℕ) × IsMiddle text param tail × IsParams n tail params)
 
--- a line that begins with a colon, behind which no nick and no server's name stands
+-- a line that begins with a colon, after which no nick and no server's name stands
 pub record IsNameless (line : List ℕ) : Type 0 where
   pub lead : List ℕ
   pub prefix : List ℕ

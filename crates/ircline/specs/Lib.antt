@@ -1,5 +1,5 @@
 pub mod Words
-pub mod Source
+pub mod Sources
 pub mod View
 pub mod Classes
 pub mod Grammar
@@ -7,5 +7,5 @@ pub mod Reading
 pub mod Stream
 pub mod Printing
 pub mod Codes
-pub mod Failing
+pub mod Refusals
 pub mod Carrying

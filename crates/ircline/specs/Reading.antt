@@ -5,18 +5,18 @@ use Rattle.ircline.specs.declared.line.Line.{Line}
 use Rattle.ircline.specs.declared.line.Line.TheVariants as line
 use Rattle.ircline.specs.declared.fault.Fault.TheVariants as fault
 use Rattle.ircline.specs.Words.{from_first, holds, before}
-use Rattle.ircline.specs.Source.{nick_of}
+use Rattle.ircline.specs.Sources.{nick_of}
 use Rattle.ircline.specs.Classes.{filled, command, upper}
 
 -- the text without the spaces at its front
 abbrev pub flush : List ℕ → List ℕ
 flush text = from_first (λ b. not (b == 32)) text
 
--- what stands behind the first word
+-- what stands after the first word
 abbrev pub tail_of : List ℕ → List ℕ
 tail_of text = from_first (λ b. b == 32) text
 
--- the prefix, and what stands behind it; the text is flush
+-- the prefix, and what stands after it; the text is flush
 abbrev pub prefix_at : List ℕ → List ℕ
 prefix_at [] = []
 prefix_at (b ∷ bs) = if b == 58 then before 32 bs else []
@@ -46,7 +46,7 @@ params_at zero text = last_param text
 params_at (suc n) text =
     if is_last text then last_param text else before 32 text ∷ params_at n (flush (tail_of text))
 
--- the parameters behind a command: behind fourteen that end at a space the rest is the fifteenth
+-- the parameters after a command: after fourteen that end at a space the rest is the fifteenth
 abbrev pub params_of : List ℕ → List (List ℕ)
 params_of tail = params_at 14 (flush tail)
 

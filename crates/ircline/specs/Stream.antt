@@ -15,7 +15,7 @@ abbrev pub runs_from : List ℕ → List ℕ → List (List ℕ)
 runs_from run [] = []
 runs_from run (b ∷ bs) = if is_end b then with_run run (runs_from [] bs) else runs_from (run ++ b ∷ []) bs
 
--- the run behind the last end
+-- the run after the last end
 abbrev pub rest_from : List ℕ → List ℕ → List ℕ
 rest_from run [] = run
 rest_from run (b ∷ bs) = if is_end b then rest_from [] bs else rest_from (run ++ b ∷ []) bs

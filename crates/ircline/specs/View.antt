@@ -1,10 +1,10 @@
 -- What contracts see of a borrowed source.
-use Rattle.ircline.specs.declared.sender.Source.{Source}
-use Rattle.ircline.specs.declared.sender.Source.TheVariants as variant
-use Rattle.ircline.specs.Source.{Origin, Nobody, Server, Person}
+use Rattle.ircline.specs.declared.sources.Source.{Source as BorrowedSource}
+use Rattle.ircline.specs.declared.sources.Source.TheVariants as variant
+use Rattle.ircline.specs.Sources.{Source, Nobody, Server, Person}
 
 -- a source without where its parts lie in memory
-abbrev pub seen : Source → Origin
+abbrev pub seen : BorrowedSource → Source
 seen variant.None = Nobody
 seen (variant.Server name) = Server name.now
-seen (variant.Person nick user host) = Person nick.now user.now host.now
+seen (variant.Person person) = Person person.nick.now person.user.now person.host.now

@@ -20,6 +20,6 @@ holds byte text = list_any (λ b. b == byte) text
 abbrev pub before : ℕ → List ℕ → List ℕ
 before byte text = up_to (λ b. b == byte) text
 
--- the bytes behind the first such byte, none where there is none
+-- the bytes after the first such byte, none where there is none
 abbrev pub behind : ℕ → List ℕ → List ℕ
 behind byte text = drop 1 (from_first (λ b. b == byte) text)

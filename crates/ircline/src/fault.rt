@@ -2,6 +2,7 @@
 ghost use Rattle.std.specs.Prelude.{◌≡◌, codes};
 ghost use Rattle.ircline.specs.Codes.{code_of};
 
+use bytetext::Failure;
 use thiserror::Error;
 
 /// Why a line is no message, in the order in which it is tested.
@@ -14,7 +15,7 @@ pub enum Fault {
     #[error("the line holds a NUL byte: leave it out")]
     NulByte,
     /// The line begins with a colon, and no name follows it.
-    #[error("the prefix names nobody: put a nick or a server's name behind the colon")]
+    #[error("the prefix names nobody: put a nick or a server's name after the colon")]
     BadPrefix,
     /// The line has no command, or one that is neither letters nor three digits.
     #[error("the line has no command: send letters alone or three digits")]
@@ -50,3 +51,7 @@ impl NotPrintable {
         "L5"
     }
 }
+
+/// Why a message was not printed: [`Failure::Refused`] where its line would not read back, and [`Failure::NoMemory`] where
+/// it would, and room for it is refused.
+pub type PrintError = Failure<NotPrintable>;

@@ -1,6 +1,4 @@
 // What one line reads as.
-ghost use Rattle.std.specs.Prelude.{◌≡◌, IfOk};
-
 use crate::fault::Fault;
 use crate::message::Message;
 use bytetext::{NoMemory, TryCopy};
@@ -15,14 +13,8 @@ pub enum Line {
     Bad(Fault),
 }
 
-impl Line {
-    /// An equal line of its own.
-    ///
-    /// # Errors
-    /// `NoMemory` where room for the copy is refused.
-    pub fn copy(&self, alloc: Global) -> Result<Line, NoMemory>
-        ensures { IfOk result (λ l. l ≡ self.now) }
-    {
+impl TryCopy for Line {
+    fn copy(&self, alloc: Global) -> Result<Line, NoMemory> {
         match self {
             Line::Message(message) => Ok(Line::Message(message.copy(alloc)?)),
             Line::Bad(fault) => Ok(Line::Bad(*fault)),

@@ -1,6 +1,4 @@
 // One message.
-ghost use Rattle.std.specs.Prelude.{◌≡◌, IfOk};
-
 use bytetext::{NoMemory, Text, Texts, TryCopy};
 use std::alloc::Global;
 
@@ -14,18 +12,12 @@ pub struct Message {
     pub command: Text,
     /// At most 15 of them, without the colon before the last one.
     pub params: Texts,
-    /// The line behind the command and the spaces after it, as written.
+    /// The line after the command and the spaces that follow it, as written.
     pub rest: Text,
 }
 
-impl Message {
-    /// An equal message of its own.
-    ///
-    /// # Errors
-    /// `NoMemory` where room for the copy is refused.
-    pub fn copy(&self, alloc: Global) -> Result<Message, NoMemory>
-        ensures { IfOk result (λ m. m ≡ self.now) }
-    {
+impl TryCopy for Message {
+    fn copy(&self, alloc: Global) -> Result<Message, NoMemory> {
         Ok(Message {
             prefix: self.prefix.copy(alloc)?,
             command: self.command.copy(alloc)?,

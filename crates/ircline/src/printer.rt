@@ -2,14 +2,13 @@
 ghost use Rattle.std.specs.Prelude.{◌≡◌, ◌∷◌, [], ◌++◌, length, nat_le, IfOk, IfErr, OnOk};
 ghost use Rattle.ircline.specs.Printing.{wants_colon, params_text, prefix_text, canonical, ReadsBack};
 ghost use Rattle.ircline.specs.Carrying.{carries_prefix, carries_params, carries};
-ghost use Rattle.ircline.specs.Failing.{Fails};
+ghost use Rattle.ircline.specs.Refusals.{Fails};
 
 use crate::classes::{is_kept_command, is_middle, is_prefix, is_trailing};
-use crate::fault::NotPrintable;
+use crate::fault::{NotPrintable, PrintError};
 use crate::message::Message;
-use crate::print_error::PrintError;
 use crate::read::LIMIT;
-use bytetext::{NoMemory, Text};
+use bytetext::{Failure, NoMemory, Text};
 use std::alloc::Global;
 
 // How many parameters a message may have.
@@ -19,15 +18,15 @@ const PARAMS: usize = 15;
 /// only where it is empty, begins with a colon or holds a space. `rest` isn't looked at.
 ///
 /// # Errors
-/// [`PrintError::Refused`] where that line would not read back to the same prefix, command and parameters.
-/// [`PrintError::NoMemory`] where it would, and room for the line is refused.
+/// [`Failure::Refused`] where that line would not read back to the same prefix, command and parameters.
+/// [`Failure::NoMemory`] where it would, and room for a line, 512 bytes at once, is refused: no other memory is taken.
 pub fn print(alloc: Global, message: &Message) -> Result<Vec<u8>, PrintError>
     ensures line { IfOk result (λ bytes. bytes.items ≡ canonical message.now ++ 13 ∷ 10 ∷ []) }
     ensures back { OnOk result (ReadsBack (canonical message.now) message.now) }
     ensures refused { IfErr result (λ error. Fails message.now error) }
 {
     if !is_printable(message) {
-        return Err(PrintError::Refused(NotPrintable));
+        return Err(Failure::Refused(NotPrintable));
     }
     Ok(line_of(alloc, message)?)
 }

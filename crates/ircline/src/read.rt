@@ -18,7 +18,7 @@ use std::alloc::Global;
 /// The most bytes that a line may have before its end.
 pub const LIMIT: usize = 510;
 
-// How many parameters end at a space: what stands behind them is the fifteenth.
+// How many parameters end at a space: what follows them is the fifteenth.
 const MIDDLES: usize = 14;
 
 /// What one line reads as: the bytes before the first CR or LF, or without these all of them. An empty line is
@@ -87,7 +87,7 @@ fn without_spaces(text: &[u8]) -> &[u8]
     rest
 }
 
-// The prefix, empty where there is none, and the words behind it; `None` where it names nobody.
+// The prefix, empty where there is none, and the words after it; `None` where it names nobody.
 fn prefix_of(text: &[u8]) -> Option<(&[u8], &[u8])>
     ensures { MatchOption result (is_nameless text.now ≡ true) (λ parts. (is_nameless text.now ≡ false)
         × (parts.0.now ≡ prefix_at text.now) × (parts.1.now ≡ after_prefix text.now)) }
@@ -116,7 +116,7 @@ fn upper_case(alloc: Global, command: &[u8]) -> Result<Text, NoMemory>
     Ok(Text::new(bytes))
 }
 
-// The parameters behind a command.
+// The parameters after a command.
 fn params_of(alloc: Global, tail: &[u8]) -> Result<Texts, NoMemory>
     ensures { IfOk result (λ params. params ≡ params_of tail.now) }
 {

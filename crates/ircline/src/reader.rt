@@ -6,7 +6,7 @@ ghost use Rattle.ircline.specs.Stream.{with_run, runs_from, rest_from, lines_of,
 use crate::line::Line;
 use crate::read::{LIMIT, first_end, read_run};
 use crate::words::parted;
-use bytetext::NoMemory;
+use bytetext::{NoMemory, TryCopy};
 use std::alloc::Global;
 use std::marker::Model;
 
@@ -84,14 +84,10 @@ impl LineReader {
         self.held.clear();
         Ok(line)
     }
+}
 
-    /// An equal reader of its own.
-    ///
-    /// # Errors
-    /// `NoMemory` where room for the copy is refused.
-    pub fn copy(&self, alloc: Global) -> Result<LineReader, NoMemory>
-        ensures { IfOk result (λ r. r ≡ self.now) }
-    {
+impl TryCopy for LineReader {
+    fn copy(&self, alloc: Global) -> Result<LineReader, NoMemory> {
         let held = Vec::from_slice(alloc, self.held.as_slice())?;
         Ok(LineReader { held })
     }
@@ -130,7 +126,7 @@ fn last_line(alloc: Global, run: &[u8]) -> Result<Option<Line>, NoMemory>
     Ok(Some(read_run(alloc, run)?))
 }
 
-// Puts what the run reads as behind the lines, if it isn't empty.
+// Puts what the run reads as after the lines, if it isn't empty.
 fn push_line(alloc: Global, lines: &mut Vec<Line>, run: &[u8]) -> Result<(), NoMemory>
     ensures { IfOk result (λ _. lines.new.items ≡ lines.old.items ++ map line_of (with_run run.now [])) }
 {
@@ -140,7 +136,7 @@ fn push_line(alloc: Global, lines: &mut Vec<Line>, run: &[u8]) -> Result<(), NoM
     Ok(())
 }
 
-// Puts the lines of the text behind the others, and gives the run behind its last end. The text is empty, or begins
+// Puts the lines of the text after the others, and gives the run after its last end. The text is empty, or begins
 // with an end.
 fn push_lines<'a>(
     alloc: Global,

@@ -18,7 +18,7 @@ pub fn parted(text: &[u8], first: Option<usize>) -> (&[u8], &[u8])
     }
 }
 
-/// What stands before and behind the first such byte, or `None` where there is none.
+/// What stands before and after the first such byte, or `None` where there is none.
 pub fn halves(text: &[u8], byte: u8) -> Option<(&[u8], &[u8])>
     ensures { MatchOption result
         ((holds byte text.now ≡ false) × (before byte text.now ≡ text.now) × (behind byte text.now ≡ []))

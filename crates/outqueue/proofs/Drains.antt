@@ -1,8 +1,13 @@
 -- Sending line by line comes to the closed form, and what many moments come to.
-use Rattle.std.proofs.Common.{◌≡◌, ℕ, zero, suc, ◌+◌, ◌-◌, ◌*◌, ◌/◌, ◌<◌, ◌≤◌, ◌⊎◌, inl, inr, ⊎_elim, min, max, cond, List, [], ◌∷◌, ◌++◌, length, take, drop, Option, Some, None, is_some, refl, sym, ap, ◌∙◌, subst, arith, append_assoc, length-append, length-drop}
+use Rattle.std.proofs.Common.{◌≡◌, ℕ, zero, suc, ◌+◌, ◌-◌, ◌*◌, ◌/◌, ◌<◌, ◌≤◌, ◌⊎◌, inl, inr, ⊎_elim, min, max, cond}
+use Rattle.std.proofs.Common.{List, [], ◌∷◌, ◌++◌, length, take, drop, Option, Some, None, is_some, refl, sym, ap, ◌∙◌, subst, arith}
+use Rattle.std.proofs.Common.{append_assoc, length-append, length-drop}
 use Rattle.std.proofs.lemmas.Bool.{cases_lt, lt-ltb, le-ltb}
 use Rattle.std.proofs.lemmas.List.{length-take, drop-drop, take-append-drop}
-use Rattle.outqueue.specs.Sending.{Sending, waiting, gone, count_at, sent, after, IsGreatest, first_of, next_line, after_line, sent_over, after_over, AllUpTo}
+use Rattle.outqueue.specs.declared.limits.TheConstants.{AHEAD, COST}
+use Rattle.outqueue.specs.Lanes.{first_of}
+use Rattle.outqueue.specs.Sending.{Sending, Room, waiting, gone, count_at, sent, after, IsGreatest, next_line, after_line}
+use Rattle.outqueue.specs.Sending.{sent_over, after_over, AllUpTo}
 
 -- ---- the first n lines of three queues
 
@@ -36,8 +41,9 @@ pub record Drained (old : Sending) (now : ℕ) (lines : List (List ℕ)) (q : Se
   pub mode : q.mode ≡ drop (length lines) old.mode
   pub server : q.server ≡ drop (length lines - length old.mode) old.server
   pub help : q.help ≡ drop (length lines - (length old.mode + length old.server)) old.help
-  pub timer : max q.timer now ≡ max old.timer now + 2 * length lines
-  pub in_time : (k : ℕ) → k < length lines → max old.timer now + 2 * k < now + 10
+  pub room : q.room ≡ old.room
+  pub timer : max q.timer now ≡ max old.timer now + COST * length lines
+  pub in_time : (k : ℕ) → k < length lines → max old.timer now + COST * k < now + AHEAD
 
 pub Drained-none : (old : Sending) (now : ℕ) → Drained old now [] old
 Drained-none old now =
@@ -48,6 +54,7 @@ Drained-none old now =
       mode = refl;
       server = sym (drop_zero _ old.server none);
       help = sym (drop_zero _ old.help neither);
+      room = refl;
       timer = omega arith;
       in_time = λ k h. absurd (omega arith);
     }
@@ -85,61 +92,75 @@ front_none (suc n) [] e = omega arith
 front_none (suc n) (x ∷ xs) e = let h : length xs ≤ n = front_none n xs e in omega arith
 
 -- a line goes only in time, and it is the first that waits
-next_line-Some : (q : Sending) (now : ℕ) (line : List ℕ) → next_line q now ≡ Some line → (max q.timer now < now + 10) × (first_of (waiting q) ≡ Some line)
+next_line-Some : (q : Sending) (now : ℕ) (line : List ℕ) → next_line q now ≡ Some line → (max q.timer now < now + AHEAD) × (first_of (waiting q) ≡ Some line)
 unfolding next_line
 next_line-Some q now line e =
     ⊎_elim
     (λ soon. (soon, sym (ap (λ b. cond b (first_of (waiting q)) None) (lt-ltb _ _ soon)) ∙ e))
     (λ late. let no : None ≡ Some line = sym (ap (λ b. cond b (first_of (waiting q)) None) (le-ltb _ _ late)) ∙ e in let never : ⊥ = cc in absurd never)
-    (cases_lt (max q.timer now) (now + 10))
+    (cases_lt (max q.timer now) (now + AHEAD))
 
-next_line-None : (q : Sending) (now : ℕ) → next_line q now ≡ None → (now + 10 ≤ max q.timer now) ⊎ (first_of (waiting q) ≡ None)
+next_line-None : (q : Sending) (now : ℕ) → next_line q now ≡ None → (now + AHEAD ≤ max q.timer now) ⊎ (first_of (waiting q) ≡ None)
 unfolding next_line
 next_line-None q now e =
     ⊎_elim
     (λ soon. inr (sym (ap (λ b. cond b (first_of (waiting q)) None) (lt-ltb _ _ soon)) ∙ e))
     (λ late. inl late)
-    (cases_lt (max q.timer now) (now + 10))
+    (cases_lt (max q.timer now) (now + AHEAD))
 
-after_line-Some : (q : Sending) (now : ℕ) (line : List ℕ) → next_line q now ≡ Some line → after_line q now ≡ gone 1 q (max q.timer now + 2)
+after_line-Some : (q : Sending) (now : ℕ) (line : List ℕ) → next_line q now ≡ Some line → after_line q now ≡ gone 1 q (max q.timer now + COST)
 unfolding after_line
-after_line-Some q now line e = ap (λ (o : Option (List ℕ)). cond (is_some o) (gone 1 q (max q.timer now + 2)) (record q { timer = max q.timer now })) e
+after_line-Some q now line e = ap (λ (o : Option (List ℕ)). cond (is_some o) (gone 1 q (max q.timer now + COST)) (record q { timer = max q.timer now })) e
 
 after_line-None : (q : Sending) (now : ℕ) → next_line q now ≡ None → after_line q now ≡ record q { timer = max q.timer now }
 unfolding after_line
-after_line-None q now e = ap (λ (o : Option (List ℕ)). cond (is_some o) (gone 1 q (max q.timer now + 2)) (record q { timer = max q.timer now })) e
+after_line-None q now e = ap (λ (o : Option (List ℕ)). cond (is_some o) (gone 1 q (max q.timer now + COST)) (record q { timer = max q.timer now })) e
 
 -- one line more
-more_gone : (old : Sending) (now : ℕ) (lines : List (List ℕ)) (line : List ℕ) (q : Sending) → Drained old now lines q → max q.timer now < now + 10 → first_of (waiting q) ≡ Some line → Drained old now (lines ++ line ∷ []) (gone 1 q (max q.timer now + 2))
+more_gone : (old : Sending) (now : ℕ) (lines : List (List ℕ)) (line : List ℕ) (q : Sending) → Drained old now lines q
+    → max q.timer now < now + AHEAD → first_of (waiting q) ≡ Some line → Drained old now (lines ++ line ∷ []) (gone 1 q (max q.timer now + COST))
 more_gone old now lines line q d soon is_first =
     let n : ℕ = length lines in
     let front : first_of (drop (length lines) (waiting old)) ≡ Some line = ap first_of (sym (waiting-Drained old now lines q d)) ∙ is_first in
     let len : length (lines ++ line ∷ []) ≡ suc (length lines) = length-append lines (line ∷ []) ∙ omega arith in
     let mode_len : length q.mode ≡ length old.mode - length lines = ap length d.mode ∙ length-drop (length lines) old.mode in
-    let server_len : length q.server ≡ length old.server - (length lines - length old.mode) = ap length d.server ∙ length-drop (length lines - length old.mode) old.server in
+    let server_len : length q.server ≡ length old.server - (length lines - length old.mode) =
+    ap length d.server ∙ length-drop (length lines - length old.mode) old.server in
     let one : length lines + 1 ≡ length (lines ++ line ∷ []) = omega arith in
     let in_server : (length lines - length old.mode) + (1 - length q.mode) ≡ length (lines ++ line ∷ []) - length old.mode = omega arith in
-    let in_help : (length lines - (length old.mode + length old.server)) + (1 - (length q.mode + length q.server)) ≡ length (lines ++ line ∷ []) - (length old.mode + length old.server) = omega arith in
+    let higher : ℕ = length old.mode + length old.server in
+    let in_help : (length lines - higher) + (1 - (length q.mode + length q.server)) ≡ length (lines ++ line ∷ []) - higher = omega arith in
     record {
       lines_are = ap (λ xs. xs ++ line ∷ []) d.lines_are ∙ sym (front_next (length lines) (waiting old) line front) ∙ ap (λ k. take k (waiting old)) (sym len);
       mode = ap (λ xs. drop 1 xs) d.mode ∙ drop-drop 1 (length lines) old.mode ∙ ap (λ k. drop k old.mode) one;
-      server = ap (λ xs. drop (1 - length q.mode) xs) d.server ∙ drop-drop (1 - length q.mode) (length lines - length old.mode) old.server ∙ ap (λ k. drop k old.server) in_server;
-      help = ap (λ xs. drop (1 - (length q.mode + length q.server)) xs) d.help ∙ drop-drop (1 - (length q.mode + length q.server)) (length lines - (length old.mode + length old.server)) old.help ∙ ap (λ k. drop k old.help) in_help;
-      timer = let before : max q.timer now ≡ max old.timer now + 2 * length lines = d.timer in omega arith;
-      in_time = λ k h. ⊎_elim (λ early. d.in_time k early) (λ late. let before : max q.timer now ≡ max old.timer now + 2 * length lines = d.timer in omega arith) (cases_lt k (length lines));
+      server =
+          ap (λ xs. drop (1 - length q.mode) xs) d.server
+          ∙ drop-drop (1 - length q.mode) (length lines - length old.mode) old.server
+          ∙ ap (λ k. drop k old.server) in_server;
+      help =
+          ap (λ xs. drop (1 - (length q.mode + length q.server)) xs) d.help
+          ∙ drop-drop (1 - (length q.mode + length q.server)) (length lines - higher) old.help
+          ∙ ap (λ k. drop k old.help) in_help;
+      room = d.room;
+      timer = let before : max q.timer now ≡ max old.timer now + COST * length lines = d.timer in omega arith;
+      in_time = λ k h.
+          ⊎_elim (λ early. d.in_time k early)
+          (λ late. let before : max q.timer now ≡ max old.timer now + COST * length lines = d.timer in omega arith) (cases_lt k (length lines));
     }
 
-pub Drained_more : (old : Sending) (now : ℕ) (lines : List (List ℕ)) (line : List ℕ) (q : Sending) → Drained old now lines q → next_line q now ≡ Some line → Drained old now (lines ++ line ∷ []) (after_line q now)
+pub Drained_more : (old : Sending) (now : ℕ) (lines : List (List ℕ)) (line : List ℕ) (q : Sending) → Drained old now lines q
+    → next_line q now ≡ Some line → Drained old now (lines ++ line ∷ []) (after_line q now)
 Drained_more old now lines line q d e =
     let goes = next_line-Some q now line e in
     subst (Drained old now (lines ++ line ∷ [])) (sym (after_line-Some q now line e)) (more_gone old now lines line q d goes.0 goes.1)
 
 -- there is room for it among five, and fewer lines wait
-pub Drained-room : (old : Sending) (now : ℕ) (lines : List (List ℕ)) (line : List ℕ) (q : Sending) → Drained old now lines q → next_line q now ≡ Some line → length lines < min (length (waiting old)) 5
+pub Drained-room : (old : Sending) (now : ℕ) (lines : List (List ℕ)) (line : List ℕ) (q : Sending) → Drained old now lines q
+    → next_line q now ≡ Some line → length lines < min (length (waiting old)) 5
 Drained-room old now lines line q d e =
     let goes = next_line-Some q now line e in
-    let soon : max q.timer now < now + 10 = goes.0 in
-    let before : max q.timer now ≡ max old.timer now + 2 * length lines = d.timer in
+    let soon : max q.timer now < now + AHEAD = goes.0 in
+    let before : max q.timer now ≡ max old.timer now + COST * length lines = d.timer in
     let front : first_of (drop (length lines) (waiting old)) ≡ Some line = ap first_of (sym (waiting-Drained old now lines q d)) ∙ goes.1 in
     let within : length lines < length (waiting old) = front_within (length lines) (waiting old) line front in
     omega arith
@@ -149,50 +170,56 @@ length-waiting-after_line q now line e =
     let goes = next_line-Some q now line e in
     let within : 0 < length (waiting q) = front_within 0 (waiting q) line goes.1 in
     let len : length (waiting (after_line q now)) ≡ length (waiting q) - 1 =
-    ap (λ p. length (waiting p)) (after_line-Some q now line e) ∙ ap length (waiting-gone 1 q (max q.timer now + 2)) ∙ length-drop 1 (waiting q) in
+    ap (λ p. length (waiting p)) (after_line-Some q now line e) ∙ ap length (waiting-gone 1 q (max q.timer now + COST)) ∙ length-drop 1 (waiting q) in
     omega arith
 
 -- ---- the end of a moment
 
-same_sending : (a b : Sending) → a.mode ≡ b.mode → a.server ≡ b.server → a.help ≡ b.help → a.timer ≡ b.timer → a ≡ b
-same_sending a b mode server help timer =
-    ap (λ m. let s : Sending = record { mode = m; server = a.server; help = a.help; timer = a.timer } in s) mode
-    ∙ ap (λ m. let s : Sending = record { mode = b.mode; server = m; help = a.help; timer = a.timer } in s) server
-    ∙ ap (λ m. let s : Sending = record { mode = b.mode; server = b.server; help = m; timer = a.timer } in s) help
-    ∙ ap (λ m. let s : Sending = record { mode = b.mode; server = b.server; help = b.help; timer = m } in s) timer
+same_sending : (a b : Sending) → a.mode ≡ b.mode → a.server ≡ b.server → a.help ≡ b.help → a.timer ≡ b.timer → a.room ≡ b.room
+    → a ≡ b
+same_sending a b mode server help timer room =
+    ap (λ m. let s : Sending = record a { mode = m } in s) mode
+    ∙ ap (λ m. let s : Sending = record b { server = m; help = a.help; timer = a.timer; room = a.room } in s) server
+    ∙ ap (λ m. let s : Sending = record b { help = m; timer = a.timer; room = a.room } in s) help
+    ∙ ap (λ m. let s : Sending = record b { timer = m; room = a.room } in s) timer
+    ∙ ap (λ m. let s : Sending = record b { room = m } in s) room
 
 -- no line may follow
-Drained-no_more : (old : Sending) (now : ℕ) (lines : List (List ℕ)) (q : Sending) → Drained old now lines q → next_line q now ≡ None → length lines < length (waiting old) → now + 10 ≤ max old.timer now + 2 * length lines
+Drained-no_more : (old : Sending) (now : ℕ) (lines : List (List ℕ)) (q : Sending) → Drained old now lines q
+    → next_line q now ≡ None → length lines < length (waiting old) → now + AHEAD ≤ max old.timer now + COST * length lines
 Drained-no_more old now lines q d e h =
-    let before : max q.timer now ≡ max old.timer now + 2 * length lines = d.timer in
+    let before : max q.timer now ≡ max old.timer now + COST * length lines = d.timer in
     ⊎_elim
-    (λ (late : now + 10 ≤ max q.timer now). omega arith)
+    (λ (late : now + AHEAD ≤ max q.timer now). omega arith)
     (λ (none : first_of (waiting q) ≡ None).
     let all : length (waiting old) ≤ length lines = front_none (length lines) (waiting old) (ap first_of (sym (waiting-Drained old now lines q d)) ∙ none) in
     absurd (omega arith))
     (next_line-None q now e)
 
-pub IsGreatest-Drained : (old : Sending) (now : ℕ) (lines : List (List ℕ)) (q : Sending) → Drained old now lines q → next_line q now ≡ None → IsGreatest old now lines
+pub IsGreatest-Drained : (old : Sending) (now : ℕ) (lines : List (List ℕ)) (q : Sending) → Drained old now lines q
+    → next_line q now ≡ None → IsGreatest old now lines
 IsGreatest-Drained old now lines q d e = record { first = d.lines_are; in_time = d.in_time; no_more = Drained-no_more old now lines q d e }
 
 -- the greatest list has as many lines as the closed form says
-pub length-IsGreatest : (q : Sending) (now : ℕ) (lines : List (List ℕ)) → length lines ≤ length (waiting q) → IsGreatest q now lines → length lines ≡ count_at q now
+pub length-IsGreatest : (q : Sending) (now : ℕ) (lines : List (List ℕ)) → length lines ≤ length (waiting q)
+    → IsGreatest q now lines → length lines ≡ count_at q now
 length-IsGreatest q now lines within g =
     ⊎_elim
     (λ (some : 0 < length lines).
-    let last : max q.timer now + 2 * (length lines - 1) < now + 10 = g.in_time (length lines - 1) (omega arith) in
+    let last : max q.timer now + COST * (length lines - 1) < now + AHEAD = g.in_time (length lines - 1) (omega arith) in
     ⊎_elim
-    (λ (short : length lines < length (waiting q)). let no_more : now + 10 ≤ max q.timer now + 2 * length lines = g.no_more short in omega arith)
+    (λ (short : length lines < length (waiting q)). let no_more : now + AHEAD ≤ max q.timer now + COST * length lines = g.no_more short in omega arith)
     (λ (all : length (waiting q) ≤ length lines). omega arith)
     (cases_lt (length lines) (length (waiting q))))
     (λ (none : length lines ≤ 0).
     ⊎_elim
-    (λ (short : length lines < length (waiting q)). let no_more : now + 10 ≤ max q.timer now + 2 * length lines = g.no_more short in omega arith)
+    (λ (short : length lines < length (waiting q)). let no_more : now + AHEAD ≤ max q.timer now + COST * length lines = g.no_more short in omega arith)
     (λ (all : length (waiting q) ≤ length lines). omega arith)
     (cases_lt (length lines) (length (waiting q))))
     (cases_lt 0 (length lines))
 
-Drained-count : (old : Sending) (now : ℕ) (lines : List (List ℕ)) (q : Sending) → Drained old now lines q → next_line q now ≡ None → length lines ≡ count_at old now
+Drained-count : (old : Sending) (now : ℕ) (lines : List (List ℕ)) (q : Sending) → Drained old now lines q
+    → next_line q now ≡ None → length lines ≡ count_at old now
 Drained-count old now lines q d e =
     length-IsGreatest old now lines (length-Drained old now lines q d) (IsGreatest-Drained old now lines q d e)
 
@@ -200,19 +227,21 @@ pub Drained-sent : (old : Sending) (now : ℕ) (lines : List (List ℕ)) (q : Se
 unfolding sent
 Drained-sent old now lines q d e = d.lines_are ∙ ap (λ k. take k (waiting old)) (Drained-count old now lines q d e)
 
-pub Drained-after : (old : Sending) (now : ℕ) (lines : List (List ℕ)) (q : Sending) → Drained old now lines q → next_line q now ≡ None → after_line q now ≡ after old now
+pub Drained-after : (old : Sending) (now : ℕ) (lines : List (List ℕ)) (q : Sending) → Drained old now lines q
+    → next_line q now ≡ None → after_line q now ≡ after old now
 unfolding after
 Drained-after old now lines q d e =
     let last : Sending = record q { timer = max q.timer now } in
     after_line-None q now e
-    ∙ same_sending (record q { timer = max q.timer now }) (gone (length lines) old (max old.timer now + 2 * length lines)) d.mode d.server d.help d.timer
-    ∙ ap (λ k. gone k old (max old.timer now + 2 * k)) (Drained-count old now lines q d e)
+    ∙ same_sending (record q { timer = max q.timer now })
+    (gone (length lines) old (max old.timer now + COST * length lines)) d.mode d.server d.help d.timer d.room
+    ∙ ap (λ k. gone k old (max old.timer now + COST * k)) (Drained-count old now lines q d e)
 
 -- what went and what stays are what waited
 pub waiting-after : (q : Sending) (now : ℕ) → sent q now ++ waiting (after q now) ≡ waiting q
 unfolding sent after
 waiting-after q now =
-    ap (λ rest. take (count_at q now) (waiting q) ++ rest) (waiting-gone (count_at q now) q (max q.timer now + 2 * count_at q now))
+    ap (λ rest. take (count_at q now) (waiting q) ++ rest) (waiting-gone (count_at q now) q (max q.timer now + COST * count_at q now))
     ∙ take-append-drop (count_at q now) (waiting q)
 
 -- ---- many moments
@@ -228,18 +257,23 @@ length-sent : (q : Sending) (now : ℕ) → length (sent q now) ≡ count_at q n
 unfolding sent
 length-sent q now = length-take (count_at q now) (waiting q) ∙ omega arith
 
-timer-after : (q : Sending) (now : ℕ) → (after q now).timer ≡ max q.timer now + 2 * count_at q now
+timer-after : (q : Sending) (now : ℕ) → (after q now).timer ≡ max q.timer now + COST * count_at q now
 unfolding after
 timer-after q now = refl
 
-pace_step : (timer now last waits n more next : ℕ) → now ≤ last → n ≡ min waits ((now + 10 - max timer now + 1) / 2) → next ≡ max timer now + 2 * n → next + 2 * more ≤ max next (last + 11) → timer + 2 * (n + more) ≤ max timer (last + 11)
+pace_step : (timer now last waits n more next : ℕ) → now ≤ last
+    → n ≡ min waits ((now + AHEAD - max timer now + (COST - 1)) / COST) → next ≡ max timer now + COST * n
+    → next + COST * more ≤ max next (last + (AHEAD + COST - 1)) → timer + COST * (n + more) ≤ max timer (last + (AHEAD + COST - 1))
 pace_step timer now last waits n more next upto count moved rest = omega arith
 
-pub sent_over-pace : (q : Sending) (moments : List ℕ) (last : ℕ) → AllUpTo last moments → q.timer + 2 * length (sent_over q moments) ≤ max q.timer (last + 11)
+pub sent_over-pace : (q : Sending) (moments : List ℕ) (last : ℕ) → AllUpTo last moments
+    → q.timer + COST * length (sent_over q moments) ≤ max q.timer (last + (AHEAD + COST - 1))
 sent_over-pace q [] last upto = omega arith
 sent_over-pace q (now ∷ moments) last upto =
-    let both : length (sent q now ++ sent_over (after q now) moments) ≡ length (sent q now) + length (sent_over (after q now) moments) = length-append (sent q now) (sent_over (after q now) moments) in
-    let step : q.timer + 2 * (length (sent q now) + length (sent_over (after q now) moments)) ≤ max q.timer (last + 11) =
-    pace_step q.timer now last (length (waiting q)) (length (sent q now)) (length (sent_over (after q now) moments)) (after q now).timer upto.0 (length-sent q now)
-    (timer-after q now ∙ ap (λ k. max q.timer now + 2 * k) (sym (length-sent q now))) (sent_over-pace (after q now) moments last upto.1) in
-    subst (λ k. q.timer + 2 * k ≤ max q.timer (last + 11)) (sym both) step
+    let later : List (List ℕ) = sent_over (after q now) moments in
+    let both : length (sent q now ++ later) ≡ length (sent q now) + length later = length-append (sent q now) later in
+    let step : q.timer + COST * (length (sent q now) + length (sent_over (after q now) moments)) ≤ max q.timer (last + (AHEAD + COST - 1)) =
+    pace_step q.timer now last (length (waiting q)) (length (sent q now)) (length (sent_over (after q now) moments))
+    (after q now).timer upto.0 (length-sent q now)
+    (timer-after q now ∙ ap (λ k. max q.timer now + COST * k) (sym (length-sent q now))) (sent_over-pace (after q now) moments last upto.1) in
+    subst (λ k. q.timer + COST * k ≤ max q.timer (last + (AHEAD + COST - 1))) (sym both) step

@@ -1,2 +1,4 @@
+pub mod Lanes
+pub mod Rooms
 pub mod Sending
 pub mod Refusals

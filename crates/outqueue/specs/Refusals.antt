@@ -1,14 +1,16 @@
 -- Which lines are refused, and what putting a line does.
-use Rattle.std.specs.Prelude.{◌≡◌, ℕ, ◌==◌, nat_lt, nat_le, Bool, ◌||◌, List, [], ◌∷◌, ◌++◌, length, codes, Option, Some, None, Result, Ok, Err, if◌then◌else◌}
+use Rattle.std.specs.Prelude.{◌≡◌, ℕ, ◌==◌, ◌-◌, nat_lt, nat_le, Bool, ◌||◌, if◌then◌else◌}
+use Rattle.std.specs.Prelude.{List, [], ◌∷◌, ◌++◌, length, codes, Option, Some, None, Result, Ok, Err}
 use Rattle.std.specs.List.{list_any}
-use Rattle.outqueue.specs.declared.error.QueueFault.{QueueFault}
-use Rattle.outqueue.specs.declared.error.QueueFault.TheVariants.{BadLine, QueueFull}
-use Rattle.outqueue.specs.declared.error.PutError.{PutError}
-use Rattle.outqueue.specs.declared.error.PutError.TheVariants.{Refused, NoMemory}
-use Rattle.outqueue.specs.declared.queues.Queue.{Queue}
-use Rattle.outqueue.specs.declared.queues.Queue.TheVariants.{Mode, Server, Help}
-use Rattle.outqueue.specs.declared.queues.Which.TheVariants.{One}
-use Rattle.outqueue.specs.Sending.{Sending, lines_in}
+use Rattle.bytetext.specs.declared.failure.Failure.{Failure}
+use Rattle.bytetext.specs.declared.failure.Failure.TheVariants.{Refused, NoMemory}
+use Rattle.outqueue.specs.declared.limits.TheConstants.{MAX_LINES, MAX_BYTES}
+use Rattle.outqueue.specs.declared.fault.QueueFault.{QueueFault}
+use Rattle.outqueue.specs.declared.fault.QueueFault.TheVariants.{BadLine, QueueFull}
+use Rattle.outqueue.specs.declared.queue.Queue.{Queue}
+use Rattle.outqueue.specs.declared.queue.Queue.TheVariants.{Mode, Server, Help}
+use Rattle.outqueue.specs.declared.queue.Which.TheVariants.{One}
+use Rattle.outqueue.specs.Sending.{Sending, lines_in, room_in, with_room}
 
 -- the code that transcripts print
 abbrev pub code_of : QueueFault → List ℕ
@@ -21,13 +23,13 @@ is_break byte = byte == 0 || byte == 10 || byte == 13
 
 -- a line is 1 to 510 bytes without NUL, LF and CR
 abbrev pub is_bad_line : List ℕ → Bool
-is_bad_line line = length line == 0 || nat_lt 510 (length line) || list_any is_break line
+is_bad_line line = length line == 0 || nat_lt MAX_BYTES (length line) || list_any is_break line
 
 -- why a line can't be put into a queue
 unfoldable pub refusal : Sending → Queue → List ℕ → Option QueueFault
 refusal q queue line =
     if is_bad_line line then Some BadLine
-    else (if nat_le 500 (length (lines_in q (One queue))) then Some QueueFull else None)
+    else (if nat_le MAX_LINES (length (lines_in q (One queue))) then Some QueueFull else None)
 
 -- the line stands last in its queue
 abbrev pub with_line : Sending → Queue → List ℕ → Sending
@@ -35,8 +37,17 @@ with_line q Mode line = record q { mode = q.mode ++ line ∷ [] }
 with_line q Server line = record q { server = q.server ++ line ∷ [] }
 with_line q Help line = record q { help = q.help ++ line ∷ [] }
 
+-- and takes one place of the room, if any
+abbrev pub put_last : Sending → Queue → List ℕ → Sending
+put_last q queue line = with_room (with_line q queue line) queue (room_in q queue - 1)
+
 -- Putting a line: it is queued, or refused, or memory ran out, and what is then. Memory comes last.
-abbrev pub Puts : {T : Type 0} → Sending → Queue → List ℕ → Result T PutError → Sending → Type 0
-Puts old queue line (Ok _) new = (refusal old queue line ≡ None) × (new ≡ with_line old queue line)
+abbrev pub Puts : {T : Type 0} → Sending → Queue → List ℕ → Result T (Failure QueueFault) → Sending → Type 0
+Puts old queue line (Ok _) new = (refusal old queue line ≡ None) × (new ≡ put_last old queue line)
 Puts old queue line (Err (Refused fault)) new = (refusal old queue line ≡ Some fault) × (new ≡ old)
 Puts old queue line (Err NoMemory) new = (refusal old queue line ≡ None) × (new ≡ old)
+
+-- the same where there is room, so that no memory is taken
+abbrev pub PutsReserved : {T : Type 0} → Sending → Queue → List ℕ → Result T QueueFault → Sending → Type 0
+PutsReserved old queue line (Ok _) new = (refusal old queue line ≡ None) × (new ≡ put_last old queue line)
+PutsReserved old queue line (Err fault) new = (refusal old queue line ≡ Some fault) × (new ≡ old)

@@ -1,19 +1,45 @@
 -- Lines that wait, and the send timer of RFC 1459 section 8.10.
-use Rattle.std.specs.Prelude.{◌≡◌, ℕ, ◌+◌, ◌-◌, ◌*◌, ◌/◌, ◌<◌, ◌≤◌, min, max, nat_lt, List, [], ◌∷◌, ◌++◌, length, take, drop, Option, Some, None, is_some, if◌then◌else◌}
-use Rattle.outqueue.specs.declared.queues.Queue.TheVariants.{Mode, Server, Help}
-use Rattle.outqueue.specs.declared.queues.Which.{Which}
-use Rattle.outqueue.specs.declared.queues.Which.TheVariants.{One, All}
+use Rattle.std.specs.Prelude.{◌≡◌, ℕ, ◌+◌, ◌-◌, ◌*◌, ◌/◌, ◌<◌, ◌≤◌, min, max, nat_lt, if◌then◌else◌}
+use Rattle.std.specs.Prelude.{List, [], ◌∷◌, ◌++◌, length, take, drop, Option, Some, None, is_some}
+use Rattle.outqueue.specs.declared.limits.TheConstants.{AHEAD, COST}
+use Rattle.outqueue.specs.declared.queue.Queue.{Queue}
+use Rattle.outqueue.specs.declared.queue.Queue.TheVariants.{Mode, Server, Help}
+use Rattle.outqueue.specs.declared.queue.Which.{Which}
+use Rattle.outqueue.specs.declared.queue.Which.TheVariants.{One, All}
+use Rattle.outqueue.specs.Lanes.{first_of}
 
--- the lines of the three queues, each from the one that goes first, and the send timer
+-- how many lines more each queue has room for
+pub record Room : Type 0 where
+  pub mode : ℕ
+  pub server : ℕ
+  pub help : ℕ
+
+abbrev pub no_room : Room
+no_room = record { mode = 0; server = 0; help = 0 }
+
+-- the lines of the three queues, each from the one that goes first, the send timer, and the room for more lines
 pub record Sending : Type 0 where
   pub mode : List (List ℕ)
   pub server : List (List ℕ)
   pub help : List (List ℕ)
   pub timer : ℕ
+  pub room : Room
 
--- nothing waits, and the timer is behind any moment
+-- nothing waits, the timer is not ahead of any moment, and there is no room
 abbrev pub idle : Sending
-idle = record { mode = []; server = []; help = []; timer = 0 }
+idle = record { mode = []; server = []; help = []; timer = 0; room = no_room }
+
+-- the room in one queue
+abbrev pub room_in : Sending → Queue → ℕ
+room_in q Mode = q.room.mode
+room_in q Server = q.room.server
+room_in q Help = q.room.help
+
+-- with just so much room there
+abbrev pub with_room : Sending → Queue → ℕ → Sending
+with_room q Mode count = record q { room = record q.room { mode = count } }
+with_room q Server count = record q { room = record q.room { server = count } }
+with_room q Help count = record q { room = record q.room { help = count } }
 
 -- the lines in the order in which they go: a lower queue waits for the higher
 abbrev pub waiting : Sending → List (List ℕ)
@@ -41,13 +67,15 @@ gone n q timer =
       server = drop (n - length q.mode) q.server;
       help = drop (n - (length q.mode + length q.server)) q.help;
       timer = timer;
+      room = q.room;
     }
 
--- how many lines may go at a moment: as many as there are k, from 0 on, with `timer + 2 * k` below `now + 10`
+-- how many lines may go at a moment: as many as there are k, from 0 on, with `timer + COST * k` below
+-- `now + AHEAD`
 abbrev pub allowed : ℕ → ℕ → ℕ
-allowed timer now = (now + 10 - timer + 1) / 2
+allowed timer now = (now + AHEAD - timer + (COST - 1)) / COST
 
--- how many go: those that may, or all that wait. The timer is never behind now
+-- how many go: those that may, or all that wait. The timer is never earlier than now
 abbrev pub count_at : Sending → ℕ → ℕ
 count_at q now = min (length (waiting q)) (allowed (max q.timer now) now)
 
@@ -55,30 +83,26 @@ count_at q now = min (length (waiting q)) (allowed (max q.timer now) now)
 unfoldable pub sent : Sending → ℕ → List (List ℕ)
 sent q now = take (count_at q now) (waiting q)
 
--- what stays then: the rest, and a timer that each line has moved by two seconds
+-- what stays then: the rest, and a timer that each line has moved by its cost
 unfoldable pub after : Sending → ℕ → Sending
-after q now = gone (count_at q now) q (max q.timer now + 2 * count_at q now)
+after q now = gone (count_at q now) q (max q.timer now + COST * count_at q now)
 
 -- These lines are the first that wait, each leaves at a time that the timer allows, and the next one would not.
 pub record IsGreatest (q : Sending) (now : ℕ) (lines : List (List ℕ)) : Type 0 where
   pub first : lines ≡ take (length lines) (waiting q)
-  pub in_time : (k : ℕ) → k < length lines → max q.timer now + 2 * k < now + 10
-  pub no_more : length lines < length (waiting q) → now + 10 ≤ max q.timer now + 2 * length lines
+  pub in_time : (k : ℕ) → k < length lines → max q.timer now + COST * k < now + AHEAD
+  pub no_more : length lines < length (waiting q) → now + AHEAD ≤ max q.timer now + COST * length lines
 
 -- ---- one line
 
-abbrev pub first_of : List (List ℕ) → Option (List ℕ)
-first_of [] = None
-first_of (line ∷ lines) = Some line
-
 -- the line that may go at a moment
 unfoldable pub next_line : Sending → ℕ → Option (List ℕ)
-next_line q now = if nat_lt (max q.timer now) (now + 10) then first_of (waiting q) else None
+next_line q now = if nat_lt (max q.timer now) (now + AHEAD) then first_of (waiting q) else None
 
 -- what stays then: without it, and a timer that it has moved
 unfoldable pub after_line : Sending → ℕ → Sending
 after_line q now =
-    if is_some (next_line q now) then gone 1 q (max q.timer now + 2)
+    if is_some (next_line q now) then gone 1 q (max q.timer now + COST)
     else record q { timer = max q.timer now }
 
 -- ---- many moments

@@ -1,7 +1,7 @@
 //! The lines that wait to be sent to an IRC server, and when each may go.
 //!
-//! A server drops a client that floods it. RFC 1459 section 8.10 says how it counts: a timer that is never behind the
-//! clock grows by two seconds with each line, and lines are read while it is less than ten seconds ahead. [`Queues`]
+//! A server drops a client that floods it. RFC 1459 section 8.10 says how it counts: a timer that is never earlier than
+//! the clock grows by two seconds with each line, and lines are read while it is less than ten seconds ahead. [`Queues`]
 //! keeps the same timer and lets a line go only while the server would read it: five at once, then one each two seconds.
 //!
 //! There are three queues of at most 500 lines. A lower one is served only while the higher ones are empty.
@@ -15,10 +15,16 @@
 //! ```
 #![tactic(auto)]
 
-mod error;
+mod fault;
+mod lane;
+mod limits;
+mod line;
 mod pacing;
+mod queue;
 mod queues;
 
-pub use crate::error::{PutError, QueueFault};
+pub use crate::fault::{PutError, QueueFault};
+pub use crate::limits::{AHEAD, COST, MAX_AT_ONCE, MAX_BYTES, MAX_LINES, MOMENTS_END};
 pub use crate::pacing::over_moments;
-pub use crate::queues::{Queue, Queues, Which};
+pub use crate::queue::{Queue, Which};
+pub use crate::queues::Queues;

@@ -1,6 +1,8 @@
 // What sending comes to over many moments.
-ghost use Rattle.std.specs.Prelude.{◌≡◌, ℕ, ◌+◌, ◌*◌, ◌≤◌, max, List, ◌++◌, length};
+ghost use Rattle.std.specs.Prelude.{◌≡◌, ℕ, ◌+◌, ◌-◌, ◌*◌, ◌≤◌, max, List, ◌++◌, length};
 ghost use Rattle.outqueue.specs.Sending.{Sending, waiting, sent_over, after_over, AllUpTo};
+
+use crate::limits::{AHEAD, COST};
 
 /// The law of sending, over the lines that [`Queues::drain`](crate::Queues::drain) gives at any list of moments.
 ///
@@ -11,5 +13,5 @@ pub fn over_moments()
     ensures order { (q : Sending) (moments : List ℕ) →
         sent_over q moments ++ waiting (after_over q moments) ≡ waiting q }
     ensures pace { (q : Sending) (moments : List ℕ) (last : ℕ) → AllUpTo last moments →
-        q.timer + 2 * length (sent_over q moments) ≤ max q.timer (last + 11) }
+        q.timer + COST * length (sent_over q moments) ≤ max q.timer (last + (AHEAD + COST - 1)) }
 {}

@@ -1,99 +1,127 @@
 // The three queues and the send timer.
-ghost use Rattle.std.specs.Prelude.{◌≡◌, ℕ, ◌+◌, ◌<◌, ◌≤◌, length, [], ◌++◌, IsOk, IfNone, IfOk, OnOk, OnErr};
-ghost use Rattle.std.specs.List.{list_any};
-ghost use Rattle.outqueue.specs.Sending.{Sending, idle, lines_in, without, waiting, first_of, gone, next_line, after_line, sent, after, IsGreatest};
-ghost use Rattle.outqueue.specs.Refusals.{is_break, is_bad_line, refusal, Puts};
+ghost use Rattle.std.specs.Prelude.{◌≡◌, ◌≢◌, ◌+◌, ◌*◌, ◌<◌, ◌≤◌, length, [], ◌++◌, IsOk, IfNone, IfOk, OnOk, OnErr, Err};
+ghost use Rattle.outqueue.specs.Lanes.{first_of};
+ghost use Rattle.outqueue.specs.Sending.{Sending, idle, lines_in, without, waiting, gone, next_line, after_line, sent, after, IsGreatest};
+ghost use Rattle.outqueue.specs.Sending.{room_in, with_room};
+ghost use Rattle.outqueue.specs.Refusals.{refusal, Puts, PutsReserved};
 
-use crate::error::{PutError, QueueFault};
-use bytetext::{NoMemory, Text, Texts, TryCopy};
+use crate::fault::{PutError, QueueFault};
+use crate::lane::Lane;
+use crate::limits::{AHEAD, COST, MAX_AT_ONCE, MAX_LINES, MOMENTS_END};
+use crate::line::is_bad_line;
+use crate::queue::{Queue, Which};
+use bytetext::{Failure, NoMemory, Text, Texts, TryCopy, refuse};
 use std::alloc::Global;
-use std::collections::VecDeque;
 use std::marker::Model;
-
-/// How many lines a queue holds at most.
-const MAX_LINES: usize = 500;
-
-/// How many bytes a line has at most: 512 with its CR LF (RFC 2812 section 2.3).
-const MAX_BYTES: usize = 510;
-
-/// How far ahead of the clock the send timer may get, in seconds (RFC 1459 section 8.10).
-const AHEAD: u64 = 10;
-
-/// How many seconds a line costs (RFC 1459 section 8.10).
-const COST: u64 = 2;
-
-/// One of the three queues, the one that is served first in front.
-#[derive(Clone, Copy, Debug, PartialEq, Eq)]
-pub enum Queue {
-    /// What can't wait: answers to the server, channel modes, kicks.
-    Mode,
-    /// What is meant for the server: joins and the like.
-    Server,
-    /// What is meant for people.
-    Help,
-}
-
-/// One queue or all of them.
-#[derive(Clone, Copy, Debug)]
-pub enum Which {
-    /// This queue alone.
-    One(Queue),
-    /// All three.
-    All,
-}
 
 /// Lines that wait to be sent, and the send timer.
 ///
-/// Contracts see the three lists of lines, each from the one that goes first, and the timer in seconds since
-/// 1970-01-01 UTC.
-#[derive(Debug, Drop)]
+/// Contracts see the three lists of lines, each from the one that goes first, the timer in seconds since 1970-01-01 UTC,
+/// and how many lines more each queue has room for.
+///
+/// ```text
+/// let mut queues = Queues::new(alloc);
+/// queues.put(Queue::Help, hello)?;
+/// queues.put(Queue::Mode, pong)?;
+/// queues.take(100)                                // Some(pong): the mode queue is served first
+/// queues.drain(alloc, 100)?                       // hello
+/// queues.clear(Which::All)                        // 0
+/// ```
+///
+/// Who must not fail half-way asks for room first:
+///
+/// ```text
+/// queues.reserve(Queue::Server, 2)?;              // all that may want memory
+/// queues.put_reserved(Queue::Server, join)        // takes none
+/// queues.put_reserved(Queue::Server, part)        // takes none
+/// ```
+#[derive(Drop)]
 pub struct Queues {
-    mode: VecDeque<Text>,
-    server: VecDeque<Text>,
-    help: VecDeque<Text>,
+    mode: Lane,
+    server: Lane,
+    help: Lane,
     timer: u64,
 }
 
 impl Model for Queues {
-    ghost use Rattle.std.specs.Prelude.{◌≤◌, length};
     ghost use Rattle.outqueue.specs.Sending.{Sending};
 
     ghost Value = { Sending };
 
-    ghost view = { λ q. record { mode = q.mode.items; server = q.server.items; help = q.help.items; timer = q.timer } };
-
-    ghost invariant = { λ q. (length q.mode.items ≤ 500) × (length q.server.items ≤ 500) × (length q.help.items ≤ 500) };
+    ghost view = { λ q. record {
+      mode = q.mode.lines;
+      server = q.server.lines;
+      help = q.help.lines;
+      timer = q.timer;
+      room = record { mode = q.mode.room; server = q.server.room; help = q.help.room };
+    } };
 }
 
 impl Queues {
-    /// Empty queues, with a timer that is behind any moment. Takes no memory.
+    /// Empty queues, with a timer that is not ahead of any moment, and no room. Takes no memory.
     pub fn new(alloc: Global) -> Queues
         ensures { result ≡ idle }
     {
         Queues {
-            mode: VecDeque::new(alloc),
-            server: VecDeque::new(alloc),
-            help: VecDeque::new(alloc),
+            mode: Lane::new(alloc),
+            server: Lane::new(alloc),
+            help: Lane::new(alloc),
             timer: 0,
         }
     }
 
-    /// Puts a line, without its CR LF, behind those of a queue.
+    /// Makes room in a queue for just `count` lines, so that as many calls of [`put`](Queues::put) or
+    /// [`put_reserved`](Queues::put_reserved) take no memory. Nothing else that is seen changes. `reserve(queue, 0)` gives
+    /// the room up.
+    ///
+    /// # Errors
+    /// `NoMemory` where room is refused, never where there was as much. The queues are as before.
+    pub fn reserve(&mut self, queue: Queue, count: usize) -> Result<(), NoMemory>
+        ensures ready { OnOk result (self.new ≡ with_room self.old queue count) }
+        ensures unchanged { OnErr result (self.new ≡ self.old) }
+        ensures needs_none { count ≤ room_in self.old queue → IsOk result }
+    {
+        match queue {
+            Queue::Mode => self.mode.reserve(count),
+            Queue::Server => self.server.reserve(count),
+            Queue::Help => self.help.reserve(count),
+        }
+    }
+
+    /// Puts a line, without its CR LF, after those of a queue.
     ///
     /// # Errors
     /// In this order: `BadLine` where the line is empty, longer than 510 bytes, or holds a NUL, a CR or an LF;
-    /// `QueueFull` where the queue holds 500 lines; `NoMemory` where room for the line is refused. None changes the
-    /// queues, and only the last has asked for memory.
+    /// `QueueFull` where the queue holds 500 lines; `NoMemory` where room for the line is refused, never where there was
+    /// room. None changes the queues, and only the last has asked for memory.
     pub fn put(&mut self, queue: Queue, line: Text) -> Result<(), PutError>
-        ensures { Puts self.old queue line result self.new }
+        ensures puts { Puts self.old queue line result self.new }
+        ensures needs_none { 0 < room_in self.old queue → result ≢ Err Failure.NoMemory }
+    {
+        refuse(self.refusal_of(queue, &line))?;
+        match queue {
+            Queue::Mode => self.mode.put(line)?,
+            Queue::Server => self.server.put(line)?,
+            Queue::Help => self.help.put(line)?,
+        }
+        Ok(())
+    }
+
+    /// The same where there is room: it takes no memory.
+    ///
+    /// # Errors
+    /// `BadLine` and `QueueFull`, as at [`put`](Queues::put). The queues and the room are as before.
+    pub fn put_reserved(&mut self, queue: Queue, line: Text) -> Result<(), QueueFault>
+        requires { 0 < room_in self.old queue }
+        ensures { PutsReserved self.old queue line result self.new }
     {
         if let Some(fault) = self.refusal_of(queue, &line) {
-            return Err(PutError::Refused(fault));
+            return Err(fault);
         }
         match queue {
-            Queue::Mode => self.mode.push_back(line)?,
-            Queue::Server => self.server.push_back(line)?,
-            Queue::Help => self.help.push_back(line)?,
+            Queue::Mode => self.mode.put_reserved(line),
+            Queue::Server => self.server.put_reserved(line),
+            Queue::Help => self.help.put_reserved(line),
         }
         Ok(())
     }
@@ -102,7 +130,7 @@ impl Queues {
     #[tactic(auto, unfolding(crate::specs::Refusals::refusal))]
     fn refusal_of(&self, queue: Queue, line: &Text) -> Option<QueueFault>
         ensures refusal { result ≡ refusal self.now queue line.now }
-        ensures room { IfNone result (length (lines_in self.now (Which.One queue)) < 500) }
+        ensures room { IfNone result (length (lines_in self.now (Which.One queue)) < MAX_LINES) }
     {
         if is_bad_line(line.as_bytes()) {
             return Some(QueueFault::BadLine);
@@ -116,18 +144,19 @@ impl Queues {
     /// How many lines wait in one queue or in all.
     pub fn len(&self, which: Which) -> usize
         ensures lines { result ≡ length (lines_in self.now which) }
-        ensures small { result ≤ 1500 }
-        ensures each { (queue : Queue) → length (lines_in self.now (Which.One queue)) ≤ 500 }
+        ensures small { result ≤ 3 * MAX_LINES }
+        ensures each { (queue : Queue) → length (lines_in self.now (Which.One queue)) ≤ MAX_LINES }
     {
+        let (mode, server, help) = (self.mode.len(), self.server.len(), self.help.len());
         match which {
-            Which::One(Queue::Mode) => self.mode.len(),
-            Which::One(Queue::Server) => self.server.len(),
-            Which::One(Queue::Help) => self.help.len(),
-            Which::All => self.mode.len() + self.server.len() + self.help.len(),
+            Which::One(Queue::Mode) => mode,
+            Which::One(Queue::Server) => server,
+            Which::One(Queue::Help) => help,
+            Which::All => mode + server + help,
         }
     }
 
-    /// Drops the lines of one queue or of all, and says how many there were. The timer stays.
+    /// Drops the lines of one queue or of all, and says how many there were. The timer and the room stay.
     pub fn clear(&mut self, which: Which) -> usize
         ensures count { result ≡ length (lines_in self.old which) }
         ensures rest { self.new ≡ without self.old which }
@@ -149,11 +178,11 @@ impl Queues {
     /// The line that may go at a moment, in seconds since 1970-01-01 UTC, if one may. Its time doesn't grow with the
     /// number of lines, and it takes no memory.
     ///
-    /// The timer is set to now if it is behind. While it is less than ten seconds ahead of now, the first line of the
-    /// first queue that has one goes, and the timer grows by two seconds.
+    /// The timer is set to now if it is earlier. While it is less than ten seconds ahead of now, the first line of the
+    /// first queue that has one goes, and the timer grows by two seconds (RFC 1459 section 8.10).
     #[tactic(auto, unfolding(crate::specs::Sending::next_line, crate::specs::Sending::after_line))]
     pub fn take(&mut self, now: u64) -> Option<Text>
-        requires { now < 32503680000 }
+        requires { now < MOMENTS_END }
         ensures line { result ≡ next_line self.old now }
         ensures after { self.new ≡ after_line self.old now }
     {
@@ -171,13 +200,13 @@ impl Queues {
         ensures line { result ≡ first_of (waiting self.old) }
         ensures rest { self.new ≡ gone 1 self.old self.old.timer }
     {
-        if !self.mode.is_empty() {
-            return self.mode.pop_front();
+        if self.mode.len() > 0 {
+            return self.mode.pop();
         }
-        if !self.server.is_empty() {
-            return self.server.pop_front();
+        if self.server.len() > 0 {
+            return self.server.pop();
         }
-        self.help.pop_front()
+        self.help.pop()
     }
 
     /// All lines that may go at a moment, in seconds since 1970-01-01 UTC: what [`Queues::take`] gives until it gives
@@ -186,7 +215,7 @@ impl Queues {
     /// # Errors
     /// `NoMemory` where room for the list is refused; nothing has changed then. With nothing waiting none is asked for.
     pub fn drain(&mut self, alloc: Global, now: u64) -> Result<Texts, NoMemory>
-        requires { now < 32503680000 }
+        requires { now < MOMENTS_END }
         ensures lines { IfOk result (λ lines. lines ≡ sent self.old now) }
         ensures after { OnOk result (self.new ≡ after self.old now) }
         // No longer list may go.
@@ -196,58 +225,21 @@ impl Queues {
         ensures err { OnErr result (self.new ≡ self.old) }
         ensures nothing_waits { waiting self.old ≡ [] → IsOk result }
     {
-        let mut lines = Vec::with_capacity(alloc, self.len(Which::All).min(5))?;
+        let mut lines = Vec::with_capacity(alloc, self.len(Which::All).min(MAX_AT_ONCE))?;
         while let Some(line) = self.take(now) {
             lines.push_reserved(line);
         }
         Ok(Texts::new(lines))
     }
+}
 
-    /// Equal queues of their own.
-    ///
-    /// # Errors
-    /// `NoMemory` where room for a copy is refused.
-    pub fn copy(&self, alloc: Global) -> Result<Queues, NoMemory>
-        ensures { IfOk result (λ twin. twin ≡ self.now) }
-    {
+impl TryCopy for Queues {
+    fn copy(&self, alloc: Global) -> Result<Queues, NoMemory> {
         Ok(Queues {
-            mode: copies_of(alloc, &self.mode)?,
-            server: copies_of(alloc, &self.server)?,
-            help: copies_of(alloc, &self.help)?,
+            mode: self.mode.copy(alloc)?,
+            server: self.server.copy(alloc)?,
+            help: self.help.copy(alloc)?,
             timer: self.timer,
         })
     }
-}
-
-// A copy of each line, in order.
-fn copies_of(alloc: Global, lines: &VecDeque<Text>) -> Result<VecDeque<Text>, NoMemory>
-    ensures { IfOk result (λ copies. copies.items ≡ lines.now.items) }
-{
-    let mut copies = VecDeque::with_capacity(alloc, lines.len())?;
-    for at in 0..lines.len() {
-        copies.push_back(lines[at].copy(alloc)?)?;
-    }
-    Ok(copies)
-}
-
-// Whether a line can't be sent as one line.
-fn is_bad_line(line: &[u8]) -> bool
-    ensures { result ≡ is_bad_line line.now }
-{
-    if line.is_empty() || line.len() > MAX_BYTES {
-        return true;
-    }
-    has_break(line)
-}
-
-// Whether there is a NUL, an LF or a CR.
-fn has_break(line: &[u8]) -> bool
-    ensures { result ≡ list_any is_break line.now }
-{
-    for byte in line {
-        if *byte == 0 || *byte == b'\n' || *byte == b'\r' {
-            return true;
-        }
-    }
-    false
 }

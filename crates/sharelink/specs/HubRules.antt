@@ -1,5 +1,5 @@
 -- The hub's side of the link, call by call.
-use Rattle.std.specs.Prelude.{◌≡◌, ℕ, zero, suc, ◌+◌, ◌-◌, ◌==◌, nat_lt, nat_le, Bool, ◌||◌, List, [], ◌∷◌, ◌++◌, length, take, drop, map, if◌then◌else◌, Option, None, Some, Result, Ok, Err}
+use Rattle.std.specs.Prelude.{ℕ, zero, suc, ◌+◌, ◌-◌, ◌==◌, nat_lt, nat_le, Bool, ◌||◌, List, [], ◌∷◌, ◌++◌, length, take, drop, map, if◌then◌else◌, Option, None, Some, Result, Ok, Err}
 use Rattle.userfile.specs.Records.{Records, no_records}
 use Rattle.userfile.specs.Apply.{bad_shape, refusal, changed}
 use Rattle.userfile.specs.declared.change.Change.{Change}
@@ -9,14 +9,15 @@ use Rattle.sharelink.specs.declared.packet.Packet.TheVariants.{Hello, Change as 
 use Rattle.sharelink.specs.declared.answer.Outgoing.{Outgoing}
 use Rattle.sharelink.specs.declared.answer.Note.TheVariants.{Queued, Idle, Accepted, Refused, Served, Stray}
 use Rattle.sharelink.specs.declared.error.LinkFault.TheVariants.{BadChange, AsksFull, NumbersSpent}
-use Rattle.sharelink.specs.declared.hub.Entry.{Entry}
+use Rattle.sharelink.specs.declared.accepted.AcceptedChange.{AcceptedChange}
+use Rattle.sharelink.specs.declared.TheConstants.{MAX_ASKS, HELLO_CHANGES}
 use Rattle.sharelink.specs.Meets.{Row, noted, refused}
 
 -- what a hub stands for: its leaves, its records, the accepted changes with who asked for them, and the asks that wait
 pub record Hub : Type 0 where
   pub leaves : ℕ
   pub records : Records
-  pub accepted : List Entry
+  pub accepted : List AcceptedChange
   pub waiting : List Change
 
 -- a hub before its first ask
@@ -32,11 +33,11 @@ abbrev pub version_of : Hub → ℕ
 version_of hub = length hub.accepted
 
 -- the packet of an accepted change
-abbrev pub packet_of : ℕ → Entry → Packet
+abbrev pub packet_of : ℕ → AcceptedChange → Packet
 packet_of number entry = change_packet number entry.origin entry.request entry.change
 
 -- the hub's own ask, as an accepted change: no leaf and no request number
-abbrev pub own : Change → Entry
+abbrev pub own : Change → AcceptedChange
 own change = record { origin = 0; request = 0; change = change }
 
 -- one packet to each bot from the first number on, so many of them, in order
@@ -49,45 +50,57 @@ abbrev pub to_leaves : ℕ → Packet → List Outgoing
 to_leaves leaves packet = to_each 1 leaves packet
 
 -- these changes to one leaf, numbered on from v
-abbrev pub numbered_from : ℕ → ℕ → List Entry → List Outgoing
+abbrev pub numbered_from : ℕ → ℕ → List AcceptedChange → List Outgoing
 numbered_from leaf v [] = []
 numbered_from leaf v (entry ∷ entries) = record { to = leaf; packet = packet_of (v + 1) entry } ∷ numbered_from leaf (v + 1) entries
 
--- what a hello from a leaf at v is answered with: the changes after v, at most 16
+-- the changes after v to one leaf, at most as many as go on one hello
+abbrev pub next_to : ℕ → ℕ → List AcceptedChange → List Outgoing
+next_to leaf v accepted = numbered_from leaf v (take HELLO_CHANGES (drop v accepted))
+
+-- what a hello from a leaf at v is answered with
 abbrev pub served : Hub → ℕ → ℕ → List Outgoing
-served hub leaf v = numbered_from leaf v (take 16 (drop v hub.accepted))
+served hub leaf v = next_to leaf v hub.accepted
 
 -- no such leaf
 abbrev pub is_no_leaf : ℕ → ℕ → Bool
 is_no_leaf leaves leaf = (leaf == 0) || nat_lt leaves leaf
 
--- an ask of good shape waits where fewer than 64 do
+-- an ask of good shape waits where fewer do than may
 abbrev pub ask_taken : Hub → Change → Option ChangeFault → Row Hub
 ask_taken old change (Some fault) = refused (BadChange fault) old
-ask_taken old change None = if nat_lt (length old.waiting) 64 then noted Queued (record old { waiting = old.waiting ++ change ∷ [] }) else refused AsksFull old
+ask_taken old change None =
+    if nat_lt (length old.waiting) MAX_ASKS then noted Queued (record old { waiting = old.waiting ++ change ∷ [] })
+    else refused AsksFull old
 
 abbrev pub hub_asked : Hub → Change → Row Hub
 hub_asked old change = ask_taken old change (bad_shape change)
 
--- the hub after it accepted a change, with these asks behind it
+-- the hub after it accepted a change, with these asks after it
 abbrev pub with_accepted : Hub → Change → List Change → Hub
-with_accepted old change behind = record { leaves = old.leaves; records = changed old.records change; accepted = old.accepted ++ own change ∷ []; waiting = behind }
+with_accepted old change rest = record old {
+  records = changed old.records change;
+  accepted = old.accepted ++ own change ∷ [];
+  waiting = rest;
+}
 
 -- a change is accepted under the next number, and goes to each leaf
 abbrev pub acceptance : Hub → Change → List Change → Row Hub
-acceptance old change behind = record {
+acceptance old change rest = record {
   answer = Ok (record { note = Accepted (version_of old + 1); packets = to_leaves old.leaves (packet_of (version_of old + 1) (own change)) });
-  after = with_accepted old change behind;
+  after = with_accepted old change rest;
 }
 
--- the oldest ask, with those behind it: where the records refuse it, it is gone; else it is accepted, while there are numbers
+-- the oldest ask, with those after it: where the records refuse it, it is gone; else it is accepted, while there are numbers
 abbrev pub ask_served : Hub → Change → List Change → Option ChangeFault → Row Hub
-ask_served old change behind (Some fault) = noted (Refused fault) (record old { waiting = behind })
-ask_served old change behind None = if nat_lt (version_of old) last_number then acceptance old change behind else refused NumbersSpent old
+ask_served old change rest (Some fault) = noted (Refused fault) (record old { waiting = rest })
+ask_served old change rest None =
+    if nat_lt (version_of old) last_number then acceptance old change rest
+    else refused NumbersSpent old
 
 abbrev pub hub_pumped_at : Hub → List Change → Row Hub
 hub_pumped_at old [] = noted Idle old
-hub_pumped_at old (change ∷ behind) = ask_served old change behind (refusal old.records change)
+hub_pumped_at old (change ∷ rest) = ask_served old change rest (refusal old.records change)
 
 -- a pump takes the oldest ask
 abbrev pub hub_pumped : Hub → Row Hub
@@ -95,9 +108,14 @@ hub_pumped old = hub_pumped_at old old.waiting
 
 -- a leaf's hello is answered with the changes after its version
 abbrev pub hello_served : Hub → ℕ → ℕ → Row Hub
-hello_served old leaf version = record { answer = Ok (record { note = Served (length (served old leaf version)); packets = served old leaf version }); after = old }
+hello_served old leaf version = record {
+  answer = Ok (record { note = Served (length (served old leaf version)); packets = served old leaf version });
+  after = old;
+}
 
 -- a hello of one of the leaves at a version that the hub has is served, and nothing else is taken
 abbrev pub hub_received : Hub → Packet → Row Hub
-hub_received old (Hello leaf version) = if is_no_leaf old.leaves leaf || nat_lt (version_of old) version then noted Stray old else hello_served old leaf version
+hub_received old (Hello leaf version) =
+    if is_no_leaf old.leaves leaf || nat_lt (version_of old) version then noted Stray old
+    else hello_served old leaf version
 hub_received old (change_packet number origin request change) = noted Stray old

@@ -1,10 +1,11 @@
 -- How a call's answer stands to its rule.
-use Rattle.std.specs.Prelude.{◌≡◌, [], Result, Ok, Err, IsOk}
+use Rattle.std.specs.Prelude.{◌≡◌, ◌<◌, ℕ, [], length, Result, Ok, Err}
+use Rattle.bytetext.specs.declared.failure.Failure.{Failure}
+use Rattle.bytetext.specs.declared.failure.Failure.TheVariants.{Refused as refused_by, NoMemory}
 use Rattle.sharelink.specs.declared.answer.Answer.{Answer}
 use Rattle.sharelink.specs.declared.answer.Note.{Note}
+use Rattle.sharelink.specs.declared.answer.Note.TheVariants.{Queued, Idle, Accepted, Refused, Served, Old, Early, Applied, Stray}
 use Rattle.sharelink.specs.declared.error.LinkFault.{LinkFault}
-use Rattle.sharelink.specs.declared.error.LinkError.{LinkError}
-use Rattle.sharelink.specs.declared.error.LinkError.TheVariants.{Refused, NoMemory}
 
 -- a rule gives what is answered and the state that the call leaves; a refusal leaves the old state
 pub record Row (S : Type 0) : Type 0 where
@@ -19,8 +20,25 @@ noted note after = record { answer = Ok (record { note = note; packets = [] }); 
 abbrev pub refused : {S : Type 0} → LinkFault → S → Row S
 refused fault old = record { answer = Err fault; after = old }
 
--- a call from old gives what its row says; want of memory comes only where no rule stands against the call, and leaves the old state
-abbrev pub Meets : {S : Type 0} → S → Row S → Result Answer LinkError → S → Type 0
+-- what takes memory: an ask that waits, a change that is accepted or applied, and so many packets, if there are any
+abbrev pub TakesMemory : Note → ℕ → Type 0
+TakesMemory Queued sent = Unit {0}
+TakesMemory (Accepted number) sent = Unit {0}
+TakesMemory (Applied number) sent = Unit {0}
+TakesMemory Idle sent = 0 < sent
+TakesMemory (Served count) sent = 0 < sent
+TakesMemory (Refused fault) sent = ⊥
+TakesMemory Old sent = ⊥
+TakesMemory Early sent = ⊥
+TakesMemory Stray sent = ⊥
+
+-- no rule stands against the call, and what it answers takes memory
+abbrev pub AnswerTakesMemory : Result Answer LinkFault → Type 0
+AnswerTakesMemory (Ok answer) = TakesMemory answer.note (length answer.packets)
+AnswerTakesMemory (Err fault) = ⊥
+
+-- a call from old gives what its row says; it is out of memory only where its answer takes memory, and then leaves the old state
+abbrev pub Meets : {S : Type 0} → S → Row S → Result Answer (Failure LinkFault) → S → Type 0
 Meets old row (Ok answer) new = (row.answer ≡ Ok answer) × (new ≡ row.after)
-Meets old row (Err (Refused fault)) new = (row.answer ≡ Err fault) × (new ≡ old)
-Meets old row (Err NoMemory) new = IsOk row.answer × (new ≡ old)
+Meets old row (Err (refused_by fault)) new = (row.answer ≡ Err fault) × (new ≡ old)
+Meets old row (Err NoMemory) new = AnswerTakesMemory row.answer × (new ≡ old)

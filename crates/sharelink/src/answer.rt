@@ -1,9 +1,9 @@
 // What a call of a link answers.
-ghost use Rattle.std.specs.Prelude.{◌≡◌, [], length};
+ghost use Rattle.std.specs.Prelude.{◌≡◌, []};
 
 use crate::packet::Packet;
+use bytetext::{NoMemory, Seq, TryCopy};
 use std::alloc::Global;
-use std::marker::Model;
 use userfile::ChangeFault;
 
 /// What came of a call.
@@ -30,7 +30,7 @@ pub enum Note {
 }
 
 /// A packet and the bot that it goes to.
-#[derive(Debug, Drop)]
+#[derive(Drop)]
 pub struct Outgoing {
     /// The addressee's number.
     pub to: u16,
@@ -38,60 +38,20 @@ pub struct Outgoing {
     pub packet: Packet,
 }
 
-/// Packets to send, in order. Contracts see the list of them.
-#[derive(Debug, Drop)]
-pub struct Outgoings {
-    items: Vec<Outgoing>,
-}
-
-impl Model for Outgoings {
-    ghost use Rattle.std.specs.Prelude.{List};
-    ghost use Rattle.sharelink.specs.declared.answer.Outgoing.{Outgoing};
-
-    ghost Value = { List Outgoing };
-
-    ghost view = { λ o. o.items.items };
-}
-
-impl Outgoings {
-    /// These packets. Takes no memory.
-    pub fn new(items: Vec<Outgoing>) -> Outgoings
-        ensures { result ≡ items.items }
-    {
-        Outgoings { items }
-    }
-
-    /// No packets. Takes no memory.
-    pub fn empty(alloc: Global) -> Outgoings
-        ensures { result ≡ [] }
-    {
-        Outgoings::new(Vec::new(alloc))
-    }
-
-    /// The packets, in order.
-    pub fn as_slice(&self) -> &[Outgoing]
-        ensures { result.now ≡ self.now }
-    {
-        self.items.as_slice()
-    }
-
-    /// How many packets there are.
-    pub fn len(&self) -> usize
-        ensures { result ≡ length self.now }
-    {
-        self.items.len()
-    }
-
-    /// The packets as a `Vec`. Takes no memory.
-    pub fn into_vec(self) -> Vec<Outgoing>
-        ensures { result.items ≡ self }
-    {
-        self.items
+impl TryCopy for Outgoing {
+    fn copy(&self, alloc: Global) -> Result<Outgoing, NoMemory> {
+        Ok(Outgoing {
+            to: self.to,
+            packet: self.packet.copy(alloc)?,
+        })
     }
 }
+
+/// Packets to send, in order.
+pub type Outgoings = Seq<Outgoing>;
 
 /// What a call answers: what came of it, and what is to be sent.
-#[derive(Debug, Drop)]
+#[derive(Drop)]
 pub struct Answer {
     /// What came of the call.
     pub note: Note,
@@ -106,7 +66,16 @@ impl Answer {
     {
         Answer {
             note,
-            packets: Outgoings::empty(alloc),
+            packets: Seq::empty(alloc),
         }
+    }
+}
+
+impl TryCopy for Answer {
+    fn copy(&self, alloc: Global) -> Result<Answer, NoMemory> {
+        Ok(Answer {
+            note: self.note,
+            packets: self.packets.copy(alloc)?,
+        })
     }
 }

@@ -1,10 +1,8 @@
 // Why a link does not do what it is asked.
 ghost use Rattle.std.specs.Prelude.{◌≡◌};
 ghost use Rattle.sharelink.specs.Codes.{link_code};
-ghost use Rattle.sharelink.specs.declared.error.LinkError.TheVariants.{NoMemory as no_memory};
 
-use bytetext::NoMemory;
-use std::alloc::{AllocError, AllocFailed};
+use bytetext::Failure;
 use thiserror::Error;
 use userfile::ChangeFault;
 
@@ -39,37 +37,6 @@ impl LinkFault {
     }
 }
 
-/// Why a call changed nothing.
-#[derive(Clone, Copy, Debug, PartialEq, Eq, Error)]
-pub enum LinkError {
-    /// A rule stands against the call.
-    #[error("{0}")]
-    Refused(LinkFault),
-    /// A growth was refused, and no rule stands against the call.
-    #[error("out of memory: free some and try again")]
-    NoMemory,
-}
-
-impl From<NoMemory> for LinkError {
-    ghost from_gives = { λ _ e. e ≡ no_memory };
-
-    fn from(_refused: NoMemory) -> LinkError {
-        LinkError::NoMemory
-    }
-}
-
-impl From<AllocError> for LinkError {
-    ghost from_gives = { λ _ e. e ≡ no_memory };
-
-    fn from(_refused: AllocError) -> LinkError {
-        LinkError::NoMemory
-    }
-}
-
-impl<T: Drop> From<AllocFailed<T>> for LinkError {
-    ghost from_gives = { λ _ e. e ≡ no_memory };
-
-    fn from(_refused: AllocFailed<T>) -> LinkError {
-        LinkError::NoMemory
-    }
-}
+/// Why a call changed nothing: a rule stands against it, or else a growth was refused. `NoMemory` comes only where
+/// something is kept (an ask, an accepted or an applied change) or packets are sent.
+pub type LinkError = Failure<LinkFault>;

@@ -1,74 +1,48 @@
 // The hub's end of the link.
-ghost use Rattle.std.specs.Prelude.{◌≡◌, ◌+◌, ◌-◌, ◌^◌, ◌<◌, ◌≤◌, IfOk, length, take, drop, map};
-ghost use Rattle.sharelink.specs.HubRules.{to_each, numbered_from};
+ghost use Rattle.std.specs.Prelude.{◌≡◌, ◌+◌, ◌^◌, ◌<◌, ◌≤◌, IfOk, OnErr, length};
+ghost use Rattle.sharelink.specs.HubRules.{next_to, numbered_from, to_each};
 
+use crate::accepted::AcceptedChange;
 use crate::answer::{Answer, Note, Outgoing, Outgoings};
 use crate::error::{LinkError, LinkFault};
 use crate::packet::Packet;
 use crate::{HELLO_CHANGES, MAX_ASKS};
-use bytetext::{NoMemory, TryCopy};
+use bytetext::{NoMemory, Seq, TryCopy, copies_of};
 use std::alloc::Global;
 use std::collections::VecDeque;
 use std::marker::Model;
 use userfile::{Change, Userfile, shape};
-
-/// An accepted change, and who asked for it.
-#[derive(Debug, Drop)]
-pub struct Entry {
-    /// The bot that asked: 0 for the hub.
-    pub origin: u16,
-    /// The asking leaf's request number: 0 for the hub's own.
-    pub request: u32,
-    /// The change itself.
-    pub change: Change,
-}
-
-impl Entry {
-    ghost use Rattle.std.specs.Prelude.{◌≡◌, IfOk};
-
-    /// An equal entry of its own.
-    ///
-    /// # Errors
-    /// `NoMemory` where room for the copy is refused.
-    pub fn copy(&self, alloc: Global) -> Result<Entry, NoMemory>
-        ensures { IfOk result (λ e. e ≡ self.now) }
-    {
-        Ok(Entry {
-            origin: self.origin,
-            request: self.request,
-            change: self.change.copy(alloc)?,
-        })
-    }
-}
 
 /// The hub's end: the userfile, every change that it accepted, and the asks that wait.
 #[derive(Drop)]
 pub struct HubLink {
     leaves: u16,
     userfile: Userfile,
-    accepted: Vec<Entry>,
+    accepted: Vec<AcceptedChange>,
     waiting: VecDeque<Change>,
 }
 
 impl Model for HubLink {
     ghost use Rattle.std.specs.Prelude.{◌<◌, ◌≤◌, ◌^◌, length};
     ghost use Rattle.sharelink.specs.HubRules.{Hub};
+    ghost use Rattle.sharelink.specs.declared.TheConstants.{MAX_LEAVES};
 
     ghost Value = { Hub };
 
     ghost view = { λ h. record { leaves = h.leaves; records = h.userfile; accepted = h.accepted.items; waiting = h.waiting.items } };
 
-    ghost invariant = { λ h. (length h.accepted.items < 2 ^ 32) × (h.leaves ≤ 1000) };
+    ghost invariant = { λ h. (length h.accepted.items < 2 ^ 32) × (h.leaves ≤ MAX_LEAVES) };
 }
 
 impl HubLink {
     ghost use Rattle.std.specs.Prelude.{◌≡◌, ◌≤◌, [], length, IfOk, false};
     ghost use Rattle.sharelink.specs.Meets.{Meets};
-    ghost use Rattle.sharelink.specs.HubRules.{new_hub, hub_asked, hub_pumped, hub_received, version_of, served};
+    ghost use Rattle.sharelink.specs.HubRules.{new_hub, hub_asked, hub_pumped, hub_received, version_of};
+    ghost use Rattle.sharelink.specs.declared.TheConstants.{MAX_LEAVES};
 
     /// A hub without records, for this many leaves, at most 1,000. Takes no memory.
     pub fn new(alloc: Global, leaves: u16) -> HubLink
-        requires { leaves ≤ 1000 }
+        requires { leaves ≤ MAX_LEAVES }
         ensures { result ≡ new_hub leaves }
     {
         HubLink {
@@ -100,21 +74,6 @@ impl HubLink {
         false
     }
 
-    /// An equal link of its own.
-    ///
-    /// # Errors
-    /// `NoMemory` where room for the copy is refused.
-    pub fn copy(&self, alloc: Global) -> Result<HubLink, NoMemory>
-        ensures { IfOk result (λ link. link ≡ self.now) }
-    {
-        Ok(HubLink {
-            leaves: self.leaves,
-            userfile: self.userfile.copy()?,
-            accepted: entries_of(alloc, self.accepted.as_slice())?,
-            waiting: asks_of(alloc, &self.waiting)?,
-        })
-    }
-
     /// Lets a change wait for a pump: `Queued`.
     ///
     /// # Errors
@@ -138,9 +97,10 @@ impl HubLink {
     ///
     /// # Errors
     /// `NumbersSpent` at the last version, where the ask still waits, then `NoMemory`; each leaves the hub as it was.
+    /// `Idle` and `Refused` take no memory.
     pub fn pump(&mut self, alloc: Global) -> Result<Answer, LinkError>
         ensures row { Meets self.old (hub_pumped self.old) result self.new }
-        ensures few { IfOk result (λ answer. length answer.packets ≤ 1000) }
+        ensures few { IfOk result (λ answer. length answer.packets ≤ MAX_LEAVES) }
     {
         let Some(change) = self.waiting.front() else {
             return Ok(Answer::only(alloc, Note::Idle));
@@ -160,7 +120,7 @@ impl HubLink {
             Err(_) => return Err(LinkError::NoMemory),
         }
         if let Some(change) = self.waiting.pop_front() {
-            let entry = Entry {
+            let entry = AcceptedChange {
                 origin: 0,
                 request: 0,
                 change,
@@ -177,16 +137,15 @@ impl HubLink {
     /// follow, at most 16; any other packet is `Stray`.
     ///
     /// # Errors
-    /// `NoMemory`, which leaves the hub as it was.
+    /// `NoMemory`, which leaves the hub as it was. `Stray`, and a hello that no change follows, take no memory.
     pub fn receive(&mut self, alloc: Global, packet: &Packet) -> Result<Answer, LinkError>
         ensures row { Meets self.old (hub_received self.old packet.now) result self.new }
-        ensures few { IfOk result (λ answer. length answer.packets ≤ 16) }
+        ensures few { IfOk result (λ answer. length answer.packets ≤ HELLO_CHANGES) }
     {
         let Packet::Hello { leaf, version } = packet else {
             return Ok(Answer::only(alloc, Note::Stray));
         };
-        let behind = *version as usize;
-        if *leaf == 0 || *leaf > self.leaves || behind > self.accepted.len() {
+        if *leaf == 0 || *leaf > self.leaves || *version > self.version() {
             return Ok(Answer::only(alloc, Note::Stray));
         }
         let packets = next_changes(alloc, *leaf, *version, self.accepted.as_slice())?;
@@ -197,15 +156,15 @@ impl HubLink {
     }
 }
 
-// A copy of each accepted change, in order.
-fn entries_of(alloc: Global, entries: &[Entry]) -> Result<Vec<Entry>, NoMemory>
-    ensures { IfOk result (λ copies. copies.items ≡ entries.now) }
-{
-    let mut copies = Vec::with_capacity(alloc, entries.len())?;
-    for entry in entries {
-        copies.push(entry.copy(alloc)?)?;
+impl TryCopy for HubLink {
+    fn copy(&self, alloc: Global) -> Result<HubLink, NoMemory> {
+        Ok(HubLink {
+            leaves: self.leaves,
+            userfile: self.userfile.copy(alloc)?,
+            accepted: copies_of(alloc, self.accepted.as_slice())?,
+            waiting: asks_of(alloc, &self.waiting)?,
+        })
     }
-    Ok(copies)
 }
 
 // A copy of each ask that waits, in order.
@@ -237,36 +196,39 @@ fn to_all(alloc: Global, leaves: u16, number: u32, change: &Change) -> Result<Ou
             packet,
         })?;
     }
-    Ok(Outgoings::new(packets))
+    Ok(Seq::new(packets))
 }
 
 // The changes after a version to one leaf, at most 16.
+#[tactic(auto, using(crate::proofs::Posts::length_numbered))]
 fn next_changes(
     alloc: Global,
     leaf: u16,
     version: u32,
-    accepted: &[Entry],
+    accepted: &[AcceptedChange],
 ) -> Result<Outgoings, NoMemory>
     requires has { version ≤ length accepted.now }
     requires few { length accepted.now < 2 ^ 32 }
-    ensures packets { IfOk result (λ packets. packets ≡ numbered_from leaf version (take 16 (drop version accepted.now))) }
-    ensures few { IfOk result (λ packets. length packets ≤ 16) }
+    ensures packets { IfOk result (λ packets. packets ≡ next_to leaf version accepted.now) }
+    ensures few { IfOk result (λ packets. length packets ≤ HELLO_CHANGES) }
+    ensures some { OnErr result (0 < length (next_to leaf version accepted.now)) }
 {
-    let behind = &accepted[version as usize..];
-    let count = behind.len().min(HELLO_CHANGES);
-    copies_from(alloc, leaf, version, &behind[..count])
+    let rest = &accepted[version as usize..];
+    let count = rest.len().min(HELLO_CHANGES);
+    numbered_from(alloc, leaf, version, &rest[..count])
 }
 
 // These accepted changes to one leaf, numbered on from a version.
-fn copies_from(
+fn numbered_from(
     alloc: Global,
     leaf: u16,
     version: u32,
-    entries: &[Entry],
+    entries: &[AcceptedChange],
 ) -> Result<Outgoings, NoMemory>
     requires { version + length entries.now < 2 ^ 32 }
     ensures packets { IfOk result (λ packets. packets ≡ numbered_from leaf version entries.now) }
     ensures few { IfOk result (λ packets. length packets ≡ length entries.now) }
+    ensures some { OnErr result (0 < length entries.now) }
 {
     let mut packets = Vec::with_capacity(alloc, entries.len())?;
     let mut number = version;
@@ -280,5 +242,5 @@ fn copies_from(
         };
         packets.push(Outgoing { to: leaf, packet })?;
     }
-    Ok(Outgoings::new(packets))
+    Ok(Seq::new(packets))
 }

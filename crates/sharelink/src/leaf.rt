@@ -1,8 +1,8 @@
 // A leaf's end of the link.
-use crate::answer::{Answer, Note, Outgoing, Outgoings};
+use crate::answer::{Answer, Note, Outgoing};
 use crate::error::{LinkError, LinkFault};
 use crate::packet::Packet;
-use bytetext::NoMemory;
+use bytetext::{NoMemory, Seq, TryCopy};
 use std::alloc::Global;
 use std::marker::Model;
 use userfile::{Change, Userfile, shape};
@@ -11,29 +11,38 @@ use userfile::{Change, Userfile, shape};
 #[derive(Drop)]
 pub struct LeafLink {
     number: u16,
+    leaves: u16,
     version: u32,
     userfile: Userfile,
 }
 
 impl Model for LeafLink {
+    ghost use Rattle.std.specs.Prelude.{◌≤◌};
     ghost use Rattle.sharelink.specs.LeafRules.{Leaf};
+    ghost use Rattle.sharelink.specs.declared.TheConstants.{MAX_LEAVES};
 
     ghost Value = { Leaf };
 
     ghost view = { λ l. record { number = l.number; version = l.version; records = l.userfile } };
+
+    ghost invariant = { λ l. (1 ≤ l.number) × (l.number ≤ l.leaves) × (l.leaves ≤ MAX_LEAVES) };
 }
 
 impl LeafLink {
-    ghost use Rattle.std.specs.Prelude.{◌≡◌, [], length, IfOk, IsErr, false};
+    ghost use Rattle.std.specs.Prelude.{◌≡◌, ◌≤◌, [], length, IfOk, IsErr, false};
     ghost use Rattle.sharelink.specs.Meets.{Meets};
     ghost use Rattle.sharelink.specs.LeafRules.{new_leaf, leaf_asked, leaf_pumped, leaf_received};
+    ghost use Rattle.sharelink.specs.declared.TheConstants.{MAX_LEAVES};
 
-    /// The leaf of this number, without records. Takes no memory.
-    pub fn new(alloc: Global, number: u16) -> LeafLink
+    /// The leaf of this number, from 1 to the number of leaves, without records. Takes no memory.
+    pub fn new(alloc: Global, number: u16, leaves: u16) -> LeafLink
+        requires numbered { (1 ≤ number) × (number ≤ leaves) }
+        requires few { leaves ≤ MAX_LEAVES }
         ensures { result ≡ new_leaf number }
     {
         LeafLink {
             number,
+            leaves,
             version: 0,
             userfile: Userfile::new(alloc),
         }
@@ -58,20 +67,6 @@ impl LeafLink {
         ensures { result ≡ false }
     {
         false
-    }
-
-    /// An equal link of its own.
-    ///
-    /// # Errors
-    /// `NoMemory` where room for the copy is refused.
-    pub fn copy(&self) -> Result<LeafLink, NoMemory>
-        ensures { IfOk result (λ link. link ≡ self.now) }
-    {
-        Ok(LeafLink {
-            number: self.number,
-            version: self.version,
-            userfile: self.userfile.copy()?,
-        })
     }
 
     /// Takes no ask: changes are asked of the hub. Takes no memory.
@@ -106,7 +101,7 @@ impl LeafLink {
         let packets = vec![in alloc; hello]?;
         Ok(Answer {
             note: Note::Idle,
-            packets: Outgoings::new(packets),
+            packets: Seq::new(packets),
         })
     }
 
@@ -114,7 +109,8 @@ impl LeafLink {
     /// one further above is `Early`. Any other packet is `Stray`.
     ///
     /// # Errors
-    /// `Diverged` where the records refuse the next change, then `NoMemory`; each leaves the leaf as it was.
+    /// `Diverged` where the records refuse the next change, then `NoMemory`; each leaves the leaf as it was. `Old`,
+    /// `Early` and `Stray` take no memory.
     pub fn receive(&mut self, alloc: Global, packet: &Packet) -> Result<Answer, LinkError>
         ensures row { Meets self.old (leaf_received self.old packet.now) result self.new }
         ensures few { IfOk result (λ answer. answer.packets ≡ []) }
@@ -137,5 +133,16 @@ impl LeafLink {
         }
         self.version = *number;
         Ok(Answer::only(alloc, Note::Applied(*number)))
+    }
+}
+
+impl TryCopy for LeafLink {
+    fn copy(&self, alloc: Global) -> Result<LeafLink, NoMemory> {
+        Ok(LeafLink {
+            number: self.number,
+            leaves: self.leaves,
+            version: self.version,
+            userfile: self.userfile.copy(alloc)?,
+        })
     }
 }

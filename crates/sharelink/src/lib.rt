@@ -6,21 +6,25 @@
 //! changes make. A leaf says hello with its version, and the hub answers with the changes that follow it.
 //!
 //! ```text
+//! let mut hub = HubLink::new(alloc, 1);
+//! let mut leaf = LeafLink::new(alloc, 1, 1);
 //! hub.ask(alloc, Change::AddUser { handle })?;          // Queued
 //! let answer = hub.pump(alloc)?;                        // Accepted(1), and Change 1 to each leaf
 //! leaf.receive(alloc, &answer.packets.as_slice()[0].packet)?;  // Applied(1)
 //! ```
 #![tactic(auto)]
 
+mod accepted;
 mod answer;
 mod error;
 mod hub;
 mod leaf;
 mod packet;
 
+pub use crate::accepted::AcceptedChange;
 pub use crate::answer::{Answer, Note, Outgoing, Outgoings};
 pub use crate::error::{LinkError, LinkFault};
-pub use crate::hub::{Entry, HubLink};
+pub use crate::hub::HubLink;
 pub use crate::leaf::LeafLink;
 pub use crate::packet::Packet;
 

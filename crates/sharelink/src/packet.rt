@@ -1,12 +1,10 @@
 // What goes over the link.
-ghost use Rattle.std.specs.Prelude.{◌≡◌, IfOk};
-
 use bytetext::{NoMemory, TryCopy};
 use std::alloc::Global;
 use userfile::Change;
 
 /// One packet of the sharing link. Bot 0 is the hub, and leaves are numbered from 1.
-#[derive(Debug, Drop)]
+#[derive(Drop)]
 pub enum Packet {
     /// A leaf tells the hub the version that it is at.
     Hello {
@@ -28,14 +26,8 @@ pub enum Packet {
     },
 }
 
-impl Packet {
-    /// An equal packet of its own.
-    ///
-    /// # Errors
-    /// `NoMemory` where room for the copy is refused.
-    pub fn copy(&self, alloc: Global) -> Result<Packet, NoMemory>
-        ensures { IfOk result (λ p. p ≡ self.now) }
-    {
+impl TryCopy for Packet {
+    fn copy(&self, alloc: Global) -> Result<Packet, NoMemory> {
         match self {
             Packet::Hello { leaf, version } => Ok(Packet::Hello {
                 leaf: *leaf,

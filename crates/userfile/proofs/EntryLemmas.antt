@@ -1,16 +1,16 @@
 -- What a map's look-ups and edits mean for the users in it.
-use Rattle.std.proofs.Common.{◌≡◌, ℕ, ◌<◌, ◌≤◌, Bool, true, false, not, cond, List, [], ◌∷◌, ◌++◌, filter, find, length, nat_eq, refl, sym, ap, subst, ◌∙◌, Option, None, Some, vec_len, arith}
+use Rattle.std.proofs.Common.{◌≡◌, ℕ, ◌<◌, ◌≤◌, Bool, true, false, not, cond, List, [], ◌∷◌, ◌++◌, filter, find, length, nat_eq, refl, sym, ap, subst, ◌∙◌, Option, None, Some, arith}
 use Rattle.std.specs.Map.{values_of, lookup, set_value}
-use Rattle.std.specs.List.{AllZip}
 use Rattle.std.specs.Cmp.Lexicographic.{pointwise}
 use Rattle.indexmap.specs.IndexMap.{insert_entry}
 use Rattle.std.specs.declared.vec.Vec.{Vec}
 use Rattle.std.specs.declared.alloc.Global.{Global}
-use Rattle.rfccase.specs.Casemapping.{folded}
+use Rattle.rfccase.specs.Casemapping.{folded, is_same}
 use Rattle.userfile.specs.declared.user.User.{User}
-use Rattle.userfile.specs.Held.{same_text, user_of, users_without, with_user}
+use Rattle.userfile.specs.declared.limits.TheConstants.{MAX_HANDLE}
+use Rattle.userfile.specs.Held.{user_of, users_without, with_user}
 use Rattle.userfile.specs.Keys.{IsKeyed}
-use Rattle.userfile.proofs.TextLemmas.{same_text-length}
+use Rattle.userfile.proofs.TextLemmas.{is_same-length}
 
 -- an entry of the map
 abbrev pub Entry : Type 0
@@ -21,7 +21,7 @@ abbrev pub has_key : List ℕ → Vec ℕ Global → Bool
 has_key lower k = pointwise nat_eq lower k.items
 
 -- users that stand under their handles still do with one more that does
-pub IsKeyed-append : (es : List Entry) (k : Vec ℕ Global) (u : User) → IsKeyed es → k.items ≡ folded u.handle → length u.handle ≤ 32 → IsKeyed (es ++ (k, u) ∷ [])
+pub IsKeyed-append : (es : List Entry) (k : Vec ℕ Global) (u : User) → IsKeyed es → k.items ≡ folded u.handle → length u.handle ≤ MAX_HANDLE → IsKeyed (es ++ (k, u) ∷ [])
 IsKeyed-append [] k u h e short = (e, short, tt)
 IsKeyed-append (x ∷ xs) k u h e short = (h.0, h.1, IsKeyed-append xs k u h.2 e short)
 
@@ -44,7 +44,7 @@ IsKeyed-set_value lower (x ∷ xs) v w keyed found same = by (has_key lower x.0)
     by true here rest =
         let user : x.1 ≡ v = cc in
         let handle : x.1.handle ≡ w.handle = ap (λ (u : User). u.handle) user ∙ sym same in
-        (keyed.0 ∙ ap folded handle, subst (λ (h : List ℕ). length h ≤ 32) handle keyed.1, keyed.2)
+        (keyed.0 ∙ ap folded handle, subst (λ (h : List ℕ). length h ≤ MAX_HANDLE) handle keyed.1, keyed.2)
     by false later rest = (keyed.0, keyed.1, rest later)
 
 -- the values of entries that a test of the value keeps are the values that it keeps
@@ -63,7 +63,6 @@ values_of-append (x ∷ xs) k u = ap (λ us. x.1 ∷ us) (values_of-append xs k 
 
 -- a look-up by a handle's lower case finds the user of the handle
 pub lookup-user_of : (h lower : List ℕ) (es : List Entry) → lower ≡ folded h → IsKeyed es → lookup (has_key lower) es ≡ user_of h (values_of es)
-unfolding same_text
 lookup-user_of h lower [] same keyed = refl
 lookup-user_of h lower (x ∷ xs) same keyed =
     by (has_key lower x.0) (pointwise nat_eq (folded h) (folded x.1.handle)) (rw (keyed.0, same) refl) (lookup-user_of h lower xs same keyed.2)
@@ -75,16 +74,15 @@ lookup-user_of h lower (x ∷ xs) same keyed =
     by false true e rest = cc
 
 -- nobody has a handle of more than 32 bytes
-pub user_of-long : (h : List ℕ) (es : List Entry) → 32 < length h → IsKeyed es → user_of h (values_of es) ≡ None
+pub user_of-long : (h : List ℕ) (es : List Entry) → MAX_HANDLE < length h → IsKeyed es → user_of h (values_of es) ≡ None
 user_of-long h [] long keyed = refl
 user_of-long h (x ∷ xs) long keyed =
-    let short : length x.1.handle ≤ 32 = keyed.1 in
-    ap (λ b. cond b (Some x.1) (user_of h (values_of xs))) (same_text-length h x.1.handle (omega arith)) ∙ user_of-long h xs long keyed.2
+    let short : length x.1.handle ≤ MAX_HANDLE = keyed.1 in
+    ap (λ b. cond b (Some x.1) (user_of h (values_of xs))) (is_same-length h x.1.handle (omega arith)) ∙ user_of-long h xs long keyed.2
 
 -- a value written where a handle's lower case stands is the user of the handle after an edit that gives it
 pub values_of-set_value : (h lower : List ℕ) (es : List Entry) (v : User) (edit : User → User) → lower ≡ folded h → IsKeyed es → lookup (has_key lower) es ≡ Some v
     → values_of (set_value (has_key lower) es (edit v)) ≡ with_user h edit (values_of es)
-unfolding same_text
 values_of-set_value h lower [] v edit same keyed found = refl
 values_of-set_value h lower (x ∷ xs) v edit same keyed found =
     by (has_key lower x.0) (pointwise nat_eq (folded h) (folded x.1.handle)) (rw (keyed.0, same) refl) found (values_of-set_value h lower xs v edit same keyed.2)
@@ -100,7 +98,7 @@ values_of-set_value h lower (x ∷ xs) v edit same keyed found =
 -- where nobody has the handle, an edit changes nothing
 pub with_user-absent : (h : List ℕ) (edit : User → User) (us : List User) → user_of h us ≡ None → with_user h edit us ≡ us
 with_user-absent h edit [] none = refl
-with_user-absent h edit (u ∷ us) none = by (same_text h u.handle) none (with_user-absent h edit us)
+with_user-absent h edit (u ∷ us) none = by (is_same h u.handle) none (with_user-absent h edit us)
   where
     by : (b : Bool) → cond b (Some u) (user_of h us) ≡ None → (user_of h us ≡ None → with_user h edit us ≡ us) → cond b (edit u ∷ us) (u ∷ with_user h edit us) ≡ u ∷ us
     by true none rest = cc
@@ -109,7 +107,6 @@ with_user-absent h edit (u ∷ us) none = by (same_text h u.handle) none (with_u
 -- where nobody has the handle, a user who is put under its lower case goes last
 pub inserted_last : (h : List ℕ) (k : Vec ℕ Global) (u : User) (es : List Entry) → k.items ≡ folded h → IsKeyed es → user_of h (values_of es) ≡ None
     → insert_entry (λ a b. pointwise nat_eq a.items b.items) es k u ≡ es ++ (k, u) ∷ []
-unfolding same_text
 inserted_last h k u [] same keyed none = refl
 inserted_last h k u (x ∷ xs) same keyed none =
     by (pointwise nat_eq k.items x.0.items) (pointwise nat_eq (folded h) (folded x.1.handle)) (rw (same, keyed.0) refl) none (inserted_last h k u xs same keyed.2)
@@ -121,35 +118,3 @@ inserted_last h k u (x ∷ xs) same keyed none =
     by true true e none rest = cc
     by true false e none rest = cc
     by false true e none rest = cc
-
--- lists whose elements are equal one by one are one
-pub AllZip-equal : {X : Type 0} (xs ys : List X) → AllZip (λ x y. y ≡ x) xs ys → ys ≡ xs
-AllZip-equal [] [] h = refl
-AllZip-equal [] (y ∷ ys) h = absurd h
-AllZip-equal (x ∷ xs) [] h = absurd h
-AllZip-equal (x ∷ xs) (y ∷ ys) h = cong₂ h.0 (AllZip-equal xs ys h.1)
-  where
-    cong₂ : y ≡ x → ys ≡ xs → y ∷ ys ≡ x ∷ xs
-    cong₂ e f = cc
-
--- a clone of an entry has its key's bytes and its user
-abbrev pub IsClonedEntry : Entry → Entry → Type 0
-IsClonedEntry p q = (AllZip (λ x y. y ≡ x) p.0.items q.0.items × (vec_len q.0 ≡ vec_len p.0)) × (q.1 ≡ p.1)
-
--- so clones of entries have the same users, under the same bytes
-pub values_of-clones : (es fs : List Entry) → AllZip IsClonedEntry es fs → values_of fs ≡ values_of es
-values_of-clones [] [] h = refl
-values_of-clones [] (f ∷ fs) h = absurd h
-values_of-clones (e ∷ es) [] h = absurd h
-values_of-clones (e ∷ es) (f ∷ fs) h = cong₂ h.0.1 (values_of-clones es fs h.1)
-  where
-    cong₂ : f.1 ≡ e.1 → values_of fs ≡ values_of es → f.1 ∷ values_of fs ≡ e.1 ∷ values_of es
-    cong₂ a b = cc
-
-pub IsKeyed-clones : (es fs : List Entry) → AllZip IsClonedEntry es fs → IsKeyed es → IsKeyed fs
-IsKeyed-clones [] [] h keyed = tt
-IsKeyed-clones [] (f ∷ fs) h keyed = absurd h
-IsKeyed-clones (e ∷ es) [] h keyed = absurd h
-IsKeyed-clones (e ∷ es) (f ∷ fs) h keyed =
-    let handle : e.1.handle ≡ f.1.handle = ap (λ (u : User). u.handle) (sym h.0.1) in
-    (AllZip-equal e.0.items f.0.items h.0.0.0 ∙ keyed.0 ∙ ap folded handle, subst (λ (t : List ℕ). length t ≤ 32) handle keyed.1, IsKeyed-clones es fs h.1 keyed.2)

@@ -1,48 +1,47 @@
 -- Users whose handles differ, put into a map one by one.
-use Rattle.std.proofs.Common.{◌≡◌, ℕ, ◌<◌, ◌≤◌, zero, suc, Bool, true, false, cond, ◌||◌, ◌&&◌, List, [], ◌∷◌, take, length, get_or, refl, sym, ap, ◌∙◌, arith, Option, None, Some, is_some, find, true≢false}
-use Rattle.std.specs.List.{list_all}
-use Rattle.std.proofs.lemmas.Bool.{cases_Bool}
-use Rattle.std.proofs.lemmas.List.Folds.{list_all_at}
+use Rattle.std.proofs.Common.{◌≡◌, ℕ, ◌≤◌, Bool, true, false, cond, ◌||◌, ◌&&◌, List, [], ◌∷◌, ◌++◌, length, sym, ap, subst, ◌∙◌, refl, nat_eq, append_assoc, Option, None, Some}
+use Rattle.std.specs.Map.{values_of}
+use Rattle.std.specs.Cmp.Lexicographic.{pointwise}
+use Rattle.indexmap.specs.IndexMap.{insert_entry}
+use Rattle.std.specs.declared.vec.Vec.{Vec}
+use Rattle.std.specs.declared.alloc.Global.{Global}
+use Rattle.std.specs.List.{list_any, list_all}
+use Rattle.rfccase.specs.Casemapping.{folded, is_same}
+use Rattle.userfile.specs.Keys.{IsKeyed}
 use Rattle.userfile.specs.declared.user.User.{User}
-use Rattle.userfile.specs.Shapes.{is_handle}
-use Rattle.userfile.specs.Held.{same_text, user_of, has_user}
+use Rattle.userfile.specs.declared.limits.TheConstants.{MAX_HANDLE}
+use Rattle.userfile.specs.Held.{user_of}
 use Rattle.userfile.specs.Together.{is_user, repeats_handle}
-use Rattle.userfile.proofs.TextLemmas.{same_text-sym, is_handle-length}
+use Rattle.userfile.proofs.TextLemmas.{is_same-sym, is_handle-length}
+use Rattle.userfile.proofs.EntryLemmas.{Entry, IsKeyed-append, values_of-append, inserted_last}
+use Rattle.userfile.proofs.RepeatLemmas.{or_false, and_true}
 
-or_false : (a b : Bool) → (a || b) ≡ false → (a ≡ false) × (b ≡ false)
-or_false true b e = cc
-or_false false b e = (refl, e)
+-- what no element passes, the one in the middle doesn't
+list_any-middle : {X : Type 0} (p : X → Bool) (ys zs : List X) (x : X) → list_any p (ys ++ x ∷ zs) ≡ false → p x ≡ false
+list_any-middle p [] zs x none = (or_false none).0
+list_any-middle p (y ∷ ys) zs x none = list_any-middle p ys zs x (or_false none).1
 
--- where no user has a handle, the one at a place doesn't
-absent_at : (h : List ℕ) (us : List User) (i : ℕ) (d : User) → i < length us → has_user h us ≡ false → same_text h (get_or us i d).handle ≡ false
-absent_at h [] i d lt none = absurd (omega arith)
-absent_at h (x ∷ xs) i d lt none = by (same_text h x.handle) refl none i lt (λ k below gone. absent_at h xs k d below gone)
-  where
-    by : (b : Bool) → same_text h x.handle ≡ b → is_some (cond b (Some x) (user_of h xs)) ≡ false → (i : ℕ) → i < length (x ∷ xs)
-        → ((k : ℕ) → k < length xs → has_user h xs ≡ false → same_text h (get_or xs k d).handle ≡ false) → same_text h (get_or (x ∷ xs) i d).handle ≡ false
-    by true e none i lt rest = cc
-    by false e none zero lt rest = e
-    by false e none (suc i) lt rest = rest i (omega arith) none
+list_all-middle : {X : Type 0} (p : X → Bool) (ys zs : List X) (x : X) → list_all p (ys ++ x ∷ zs) ≡ true → p x ≡ true
+list_all-middle p [] zs x all = (and_true all).0
+list_all-middle p (y ∷ ys) zs x all = list_all-middle p ys zs x (and_true all).1
 
 -- where no handle is held twice, a user's is not among those before
-pub fresh : (us : List User) (i : ℕ) (d : User) → i < length us → repeats_handle us ≡ false → user_of (get_or us i d).handle (take i us) ≡ None
-fresh [] i d lt apart = absurd (omega arith)
-fresh (x ∷ xs) zero d lt apart = refl
-fresh (x ∷ xs) (suc i) d lt apart =
-    let parts = or_false (has_user x.handle xs) (repeats_handle xs) apart in
-    let h = (get_or xs i d).handle in
-    let differs : same_text h x.handle ≡ false = same_text-sym h x.handle ∙ absent_at x.handle xs i d (omega arith) parts.0 in
-    ap (λ b. cond b (Some x) (user_of h (take i xs))) differs ∙ fresh xs i d (omega arith) parts.1
+pub fresh : (ys zs : List User) (x : User) → repeats_handle (ys ++ x ∷ zs) ≡ false → user_of x.handle ys ≡ None
+fresh [] zs x apart = refl
+fresh (y ∷ ys) zs x apart =
+    let differs : is_same x.handle y.handle ≡ false = is_same-sym x.handle y.handle ∙ list_any-middle (λ (u : User). is_same y.handle u.handle) ys zs x (or_false apart).0 in
+    ap (λ b. cond b (Some y) (user_of x.handle ys)) differs ∙ fresh ys zs x (or_false apart).1
 
-and_first : (a b : Bool) → (a && b) ≡ true → a ≡ true
-and_first true b e = refl
-and_first false b e = e
-
--- a good user's handle has at most 32 bytes
-pub short_handle : (us : List User) (i : ℕ) (d : User) → i < length us → list_all is_user us ≡ true → length (get_or us i d).handle ≤ 32
+-- a good user's handle is short
+pub short_handle : (ys zs : List User) (x : User) → list_all is_user (ys ++ x ∷ zs) ≡ true → length x.handle ≤ MAX_HANDLE
 unfolding is_user
-short_handle us i d lt good = by (is_user (get_or us i d)) refl
-  where
-    by : (b : Bool) → is_user (get_or us i d) ≡ b → length (get_or us i d).handle ≤ 32
-    by false e = absurd (true≢false (sym good ∙ list_all_at is_user us i d lt e))
-    by true e = is_handle-length _ (and_first _ _ (and_first _ _ e))
+short_handle ys zs x good = is_handle-length _ (and_true (and_true (list_all-middle is_user ys zs x good)).0).0
+
+-- the next user goes last
+pub one_more : (all ys zs : List User) (u : User) (es new : List Entry) (k : Vec ℕ Global) → list_all is_user all ≡ true → repeats_handle all ≡ false → all ≡ ys ++ u ∷ zs → IsKeyed es → values_of es ≡ ys
+    → k.items ≡ folded u.handle → new ≡ insert_entry (λ a b. pointwise nat_eq a.items b.items) es k u → IsKeyed new × (values_of new ≡ ys ++ u ∷ []) × (all ≡ (ys ++ u ∷ []) ++ zs)
+one_more all ys zs u es new k good apart parts keyed made key inserted =
+    let nobody = ap (user_of u.handle) made ∙ fresh ys zs u (ap repeats_handle (sym parts) ∙ apart) in
+    let last = inserted ∙ inserted_last u.handle k u es key keyed nobody in
+    let short = short_handle ys zs u (ap (list_all is_user) (sym parts) ∙ good) in
+    (subst IsKeyed (sym last) (IsKeyed-append _ _ _ keyed key short), ap values_of last ∙ values_of-append es _ _ ∙ ap (λ vs. vs ++ u ∷ []) made, parts ∙ sym (append_assoc ys (u ∷ []) zs))

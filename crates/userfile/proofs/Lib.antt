@@ -6,3 +6,5 @@ pub mod MatchLemmas
 pub mod PersonLemmas
 pub mod GatherLemmas
 pub mod DeciderLemmas
+pub mod RepeatLemmas
+pub mod SoundLemmas

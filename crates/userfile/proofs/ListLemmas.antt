@@ -3,19 +3,20 @@ use Rattle.std.proofs.Common.{◌≡◌, ℕ, ◌+◌, ◌<◌, zero, suc, lengt
 use Rattle.std.specs.List.{position_from}
 use Rattle.std.specs.Map.{values_of}
 use Rattle.userfile.specs.declared.channel_flags.ChannelFlags.{ChannelFlags}
-use Rattle.userfile.specs.Held.{same_text, with_entry}
+use Rattle.userfile.specs.Held.{with_entry}
+use Rattle.rfccase.specs.Casemapping.{is_same}
 
 abbrev test : ChannelFlags → ChannelFlags → Bool
-test entry e = same_text entry.channel e.channel
+test entry e = is_same entry.channel e.channel
 
 -- what a search through these entries for this channel says of the entry's channel
 pub found_at : (entry : ChannelFlags) (channel : List ℕ) (seen es : List ChannelFlags) (j : ℕ) → seen ≡ es → channel ≡ entry.channel
-    → Some j ≡ position_from (λ e. same_text channel e.channel) 0 seen → position_from (test entry) 0 es ≡ Some j
-found_at entry channel seen es j same name found = sym (found ∙ ap (λ xs. position_from (λ e. same_text channel e.channel) 0 xs) same ∙ ap (λ (c : List ℕ). position_from (λ e. same_text c e.channel) 0 es) name)
+    → Some j ≡ position_from (λ e. is_same channel e.channel) 0 seen → position_from (test entry) 0 es ≡ Some j
+found_at entry channel seen es j same name found = sym (found ∙ ap (λ xs. position_from (λ e. is_same channel e.channel) 0 xs) same ∙ ap (λ (c : List ℕ). position_from (λ e. is_same c e.channel) 0 es) name)
 
 pub absent_from : (entry : ChannelFlags) (channel : List ℕ) (seen es : List ChannelFlags) → seen ≡ es → channel ≡ entry.channel
-    → None ≡ position_from (λ e. same_text channel e.channel) 0 seen → position_from (test entry) 0 es ≡ None
-absent_from entry channel seen es same name found = sym (found ∙ ap (λ xs. position_from (λ e. same_text channel e.channel) 0 xs) same ∙ ap (λ (c : List ℕ). position_from (λ e. same_text c e.channel) 0 es) name)
+    → None ≡ position_from (λ e. is_same channel e.channel) 0 seen → position_from (test entry) 0 es ≡ None
+absent_from entry channel seen es same name found = sym (found ∙ ap (λ xs. position_from (λ e. is_same channel e.channel) 0 xs) same ∙ ap (λ (c : List ℕ). position_from (λ e. is_same c e.channel) 0 es) name)
 
 -- where the channel has an entry, the new one takes its place
 pub with_entry-found : (entry : ChannelFlags) (es : List ChannelFlags) (i j : ℕ) → position_from (test entry) i es ≡ Some j

@@ -5,28 +5,27 @@ use Rattle.std.specs.Option.{is_none}
 use Rattle.std.specs.Cmp.Lexicographic.{pointwise, bytes_decides}
 use Rattle.std.proofs.lemmas.Bool.{cases_Bool}
 use Rattle.std.proofs.lemmas.Bool.Decides.{nat_tests, same_from_decides}
-use Rattle.rfccase.specs.Casemapping.{folded, IsSame}
+use Rattle.rfccase.specs.Casemapping.{folded, IsSame, is_same}
 use Rattle.rfccase.proofs.SameLemmas.{length-folded}
 use Rattle.wildmask.specs.Masks.{host_fault}
 use Rattle.wildmask.specs.declared.faults.MaskFault.{MaskFault}
-use Rattle.userfile.specs.Held.{same_text}
+use Rattle.userfile.specs.declared.limits.TheConstants.{MAX_HANDLE}
 use Rattle.userfile.specs.Shapes.{is_hostmask, is_handle}
 
-pub same_text-Decides : (a b : List ℕ) → Decides (same_text a b) (IsSame a b)
-unfolding same_text
-same_text-Decides a b = bytes_decides (folded a) (folded b)
+pub is_same-Decides : (a b : List ℕ) → Decides (is_same a b) (IsSame a b)
+is_same-Decides a b = bytes_decides (folded a) (folded b)
 
-pub same_text-sym : (a b : List ℕ) → same_text a b ≡ same_text b a
-same_text-sym a b = same_from_decides _ _ (same_text-Decides a b) (λ h. sym ((same_text-Decides b a).0 h), λ h. (same_text-Decides b a).1 (sym h))
+pub is_same-sym : (a b : List ℕ) → is_same a b ≡ is_same b a
+is_same-sym a b = same_from_decides _ _ (is_same-Decides a b) (λ h. sym ((is_same-Decides b a).0 h), λ h. (is_same-Decides b a).1 (sym h))
 
 -- texts of different lengths are not the same
-pub same_text-length : (a b : List ℕ) → length b < length a → same_text a b ≡ false
-same_text-length a b longer = by (same_text a b) refl
+pub is_same-length : (a b : List ℕ) → length b < length a → is_same a b ≡ false
+is_same-length a b longer = by (is_same a b) refl
   where
-    by : (t : Bool) → same_text a b ≡ t → t ≡ false
+    by : (t : Bool) → is_same a b ≡ t → t ≡ false
     by false e = refl
     by true e =
-        let lengths : length a ≡ length b = sym (length-folded a) ∙ ap length ((same_text-Decides a b).0 e) ∙ length-folded b in
+        let lengths : length a ≡ length b = sym (length-folded a) ∙ ap length ((is_same-Decides a b).0 e) ∙ length-folded b in
         absurd (omega arith)
 
 -- a hostmask has no fault
@@ -35,6 +34,6 @@ unfolding is_hostmask
 no_fault text fault good bad = true≢false (sym good ∙ ap is_none bad)
 
 -- a handle has at most 32 bytes
-pub is_handle-length : (text : List ℕ) → is_handle text ≡ true → length text ≤ 32
+pub is_handle-length : (text : List ℕ) → is_handle text ≡ true → length text ≤ MAX_HANDLE
 unfolding is_handle
 is_handle-length text good = grind (arith, nat_tests)

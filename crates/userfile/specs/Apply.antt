@@ -1,6 +1,10 @@
--- What a change makes of the records, and when it is refused.
-use Rattle.std.specs.Prelude.{◌≡◌, ℕ, List, [], ◌∷◌, ◌++◌, Bool, true, false, not, ◌&&◌, ◌||◌, nat_lt, ◌==◌, length, if◌then◌else◌, Option, None, Some, Result, Ok, Err}
-use Rattle.userfile.specs.Shapes.{is_handle, is_channel, is_ban_channel, is_hostmask, is_comment}
+-- What a change makes of the records, and when it is refused. The changes are those of Eggdrop's .+user, .-user, .+host,
+-- .-host, .chattr, .botattr, .+ban and .-ban; the order of the refusals is our own choice.
+use Rattle.std.specs.Prelude.{◌≡◌, ℕ, List, [], ◌∷◌, ◌++◌, Bool, true, false, not, ◌||◌, nat_lt, ◌==◌, length, if◌then◌else◌, Option, None, Some, Result, Ok, Err}
+use Rattle.bytetext.specs.declared.failure.Failure.{Failure}
+use Rattle.bytetext.specs.declared.failure.Failure.TheVariants.{Refused, NoMemory}
+use Rattle.rfccase.specs.Channels.{is_channel_name}
+use Rattle.userfile.specs.Shapes.{is_handle, is_ban_channel, is_hostmask, is_comment}
 use Rattle.userfile.specs.Records.{Records}
 use Rattle.userfile.specs.Held.{user_of, has_user, users_without, with_user, has_mask, masks_without, has_entry, entries_without, with_entry, has_ban, bans_without}
 use Rattle.userfile.specs.declared.user.User.{User}
@@ -9,23 +13,8 @@ use Rattle.userfile.specs.declared.ban.Ban.{Ban}
 use Rattle.userfile.specs.declared.change.Change.{Change}
 use Rattle.userfile.specs.declared.change.Change.TheVariants.{AddUser, DelUser, AddHost, DelHost, SetGlobal, SetChan, SetBot, AddBan, DelBan}
 use Rattle.userfile.specs.declared.error.ChangeFault.{ChangeFault}
-use Rattle.userfile.specs.declared.error.ChangeFault.TheVariants.{BadHandle, BadMask, BadChannel, BadText, NoSuchUser, UserExists, MaskHeld, NoSuchMask, BanExists, NoSuchBan, Full}
-use Rattle.userfile.specs.declared.error.ApplyError.{ApplyError}
-use Rattle.userfile.specs.declared.error.ApplyError.TheVariants.{Refused, NoMemory}
-
--- ---- limits
-
-abbrev pub max_users : ℕ
-max_users = 500
-
-abbrev pub max_masks : ℕ
-max_masks = 16
-
-abbrev pub max_channels : ℕ
-max_channels = 16
-
-abbrev pub max_bans : ℕ
-max_bans = 200
+use Rattle.userfile.specs.declared.error.ChangeFault.TheVariants.{BadHandle, BadMask, BadChannel, BadComment, NoSuchUser, UserExists, MaskExists, NoSuchMask, BanExists, NoSuchBan, Full}
+use Rattle.userfile.specs.declared.limits.TheConstants.{MAX_USERS, MAX_BANS, MAX_MASKS, MAX_CHANNELS}
 
 -- ---- refusals
 
@@ -49,13 +38,13 @@ bad_shape (DelUser handle) = fault_unless (is_handle handle) BadHandle
 bad_shape (AddHost handle mask) = first_of_two (fault_unless (is_handle handle) BadHandle) (fault_unless (is_hostmask mask) BadMask)
 bad_shape (DelHost handle mask) = first_of_two (fault_unless (is_handle handle) BadHandle) (fault_unless (is_hostmask mask) BadMask)
 bad_shape (SetGlobal handle flags) = fault_unless (is_handle handle) BadHandle
-bad_shape (SetChan handle channel flags) = first_of_two (fault_unless (is_handle handle) BadHandle) (fault_unless (is_channel channel) BadChannel)
+bad_shape (SetChan handle channel flags) = first_of_two (fault_unless (is_handle handle) BadHandle) (fault_unless (is_channel_name channel) BadChannel)
 bad_shape (SetBot handle flags) = fault_unless (is_handle handle) BadHandle
 bad_shape (AddBan channel mask creator expires comment) =
     first_of_two (fault_unless (is_handle creator) BadHandle)
     (first_of_two (fault_unless (is_hostmask mask) BadMask)
     (first_of_two (fault_unless (is_ban_channel channel) BadChannel)
-    (fault_unless (is_comment comment) BadText)))
+    (fault_unless (is_comment comment) BadComment)))
 bad_shape (DelBan channel mask) = first_of_two (fault_unless (is_hostmask mask) BadMask) (fault_unless (is_ban_channel channel) BadChannel)
 
 -- the refusal of a user's edit: there is no such user, or what the edit says of the user that there is
@@ -63,27 +52,32 @@ abbrev pub of_user : Option User → (User → Option ChangeFault) → Option Ch
 of_user None test = Some NoSuchUser
 of_user (Some user) test = test user
 
--- the refusal of an edit for what the user holds: the mask is held, or isn't, or there is no place for one more
-abbrev pub edit_fault : Change → User → Option ChangeFault
-edit_fault (AddHost handle mask) user =
-    first_of_two (fault_if (has_mask mask user.masks) MaskHeld) (fault_unless (nat_lt (length user.masks) max_masks) Full)
-edit_fault (DelHost handle mask) user = fault_unless (has_mask mask user.masks) NoSuchMask
-edit_fault (SetChan handle channel flags) user =
-    fault_unless (flags == 0 || has_entry channel user.channels || nat_lt (length user.channels) max_channels) Full
-edit_fault _ user = None
+-- why a user can't be given a mask: the user has it, or there is no place for one more
+abbrev pub add_mask_fault : List ℕ → User → Option ChangeFault
+add_mask_fault mask user =
+    first_of_two (fault_if (has_mask mask user.masks) MaskExists) (fault_unless (nat_lt (length user.masks) MAX_MASKS) Full)
+
+-- why a mask can't be taken from a user: the user doesn't have it
+abbrev pub del_mask_fault : List ℕ → User → Option ChangeFault
+del_mask_fault mask user = fault_unless (has_mask mask user.masks) NoSuchMask
+
+-- why a user's flags on a channel can't be set: there would be one entry more, and no place for it
+abbrev pub set_channel_fault : List ℕ → ℕ → User → Option ChangeFault
+set_channel_fault channel flags user =
+    fault_unless (flags == 0 || has_entry channel user.channels || nat_lt (length user.channels) MAX_CHANNELS) Full
 
 -- the refusal for what the records hold and for their limits, of a change of good shape
 abbrev pub not_taken : Records → Change → Option ChangeFault
 not_taken old (AddUser handle) =
-    first_of_two (fault_if (has_user handle old.users) UserExists) (fault_unless (nat_lt (length old.users) max_users) Full)
+    first_of_two (fault_if (has_user handle old.users) UserExists) (fault_unless (nat_lt (length old.users) MAX_USERS) Full)
 not_taken old (DelUser handle) = fault_unless (has_user handle old.users) NoSuchUser
-not_taken old (AddHost handle mask) = of_user (user_of handle old.users) (edit_fault (AddHost handle mask))
-not_taken old (DelHost handle mask) = of_user (user_of handle old.users) (edit_fault (DelHost handle mask))
+not_taken old (AddHost handle mask) = of_user (user_of handle old.users) (add_mask_fault mask)
+not_taken old (DelHost handle mask) = of_user (user_of handle old.users) (del_mask_fault mask)
 not_taken old (SetGlobal handle flags) = fault_unless (has_user handle old.users) NoSuchUser
-not_taken old (SetChan handle channel flags) = of_user (user_of handle old.users) (edit_fault (SetChan handle channel flags))
+not_taken old (SetChan handle channel flags) = of_user (user_of handle old.users) (set_channel_fault channel flags)
 not_taken old (SetBot handle flags) = fault_unless (has_user handle old.users) NoSuchUser
 not_taken old (AddBan channel mask creator expires comment) =
-    first_of_two (fault_if (has_ban channel mask old.bans) BanExists) (fault_unless (nat_lt (length old.bans) max_bans) Full)
+    first_of_two (fault_if (has_ban channel mask old.bans) BanExists) (fault_unless (nat_lt (length old.bans) MAX_BANS) Full)
 not_taken old (DelBan channel mask) = fault_unless (has_ban channel mask old.bans) NoSuchBan
 
 -- the first refusal that holds, in the order: shape, what is held, limits
@@ -96,45 +90,66 @@ refusal old change = first_of_two (bad_shape change) (not_taken old change)
 abbrev pub new_user : List ℕ → User
 new_user handle = record { handle = handle; masks = []; global = 0; channels = []; bot = 0 }
 
+-- the user with one more hostmask, after the others
+abbrev pub with_mask : List ℕ → User → User
+with_mask mask user = record user { masks = user.masks ++ mask ∷ [] }
+
+-- the user without this hostmask
+abbrev pub without_mask : List ℕ → User → User
+without_mask mask user = record user { masks = masks_without mask user.masks }
+
+-- the user with these flags everywhere
+abbrev pub with_global : ℕ → User → User
+with_global flags user = record user { global = flags }
+
 -- a user's channels after a change of the flags on one: no flags take its entry out
 abbrev pub set_channel : List ℕ → ℕ → List ChannelFlags → List ChannelFlags
 set_channel channel flags entries =
     if flags == 0 then entries_without channel entries else with_entry (record { channel = channel; flags = flags }) entries
 
--- the user after an edit; the handle stays
-abbrev pub edited : Change → User → User
-edited (AddHost handle mask) user = record user { masks = user.masks ++ mask ∷ [] }
-edited (DelHost handle mask) user = record user { masks = masks_without mask user.masks }
-edited (SetGlobal handle flags) user = record user { global = flags }
-edited (SetChan handle channel flags) user = record user { channels = set_channel channel flags user.channels }
-edited (SetBot handle flags) user = record user { bot = flags }
-edited _ user = user
+-- the user with these flags on a channel
+abbrev pub with_channel : List ℕ → ℕ → User → User
+with_channel channel flags user = record user { channels = set_channel channel flags user.channels }
 
--- the records with the user of the handle as the change leaves it
-abbrev pub user_edited : Records → List ℕ → Change → Records
-user_edited old handle change = record old { users = with_user handle (edited change) old.users }
+-- the user with these flags as a bot
+abbrev pub with_bot : ℕ → User → User
+with_bot flags user = record user { bot = flags }
 
--- the bans with the one of the change behind the others
-abbrev pub with_ban : Change → List Ban → List Ban
-with_ban (AddBan channel mask creator expires comment) bans =
-    bans ++ record { channel = channel; mask = mask; creator = creator; expires = expires; comment = comment } ∷ []
-with_ban _ bans = bans
+-- the records with the user of the handle as the edit leaves it
+abbrev pub user_edited : Records → List ℕ → (User → User) → Records
+user_edited old handle edit = record old { users = with_user handle edit old.users }
+
+-- the ban of these fields
+abbrev pub new_ban : List ℕ → List ℕ → List ℕ → ℕ → List ℕ → Ban
+new_ban channel mask creator expires comment =
+    record { channel = channel; mask = mask; creator = creator; expires = expires; comment = comment }
 
 -- the records after a change that isn't refused
 abbrev pub changed : Records → Change → Records
 changed old (AddUser handle) = record old { users = old.users ++ new_user handle ∷ [] }
 changed old (DelUser handle) = record old { users = users_without handle old.users }
-changed old (AddHost handle mask) = user_edited old handle (AddHost handle mask)
-changed old (DelHost handle mask) = user_edited old handle (DelHost handle mask)
-changed old (SetGlobal handle flags) = user_edited old handle (SetGlobal handle flags)
-changed old (SetChan handle channel flags) = user_edited old handle (SetChan handle channel flags)
-changed old (SetBot handle flags) = user_edited old handle (SetBot handle flags)
-changed old (AddBan channel mask creator expires comment) =
-    record old { bans = with_ban (AddBan channel mask creator expires comment) old.bans }
+changed old (AddHost handle mask) = user_edited old handle (with_mask mask)
+changed old (DelHost handle mask) = user_edited old handle (without_mask mask)
+changed old (SetGlobal handle flags) = user_edited old handle (with_global flags)
+changed old (SetChan handle channel flags) = user_edited old handle (with_channel channel flags)
+changed old (SetBot handle flags) = user_edited old handle (with_bot flags)
+changed old (AddBan channel mask creator expires comment) = record old { bans = old.bans ++ new_ban channel mask creator expires comment ∷ [] }
 changed old (DelBan channel mask) = record old { bans = bans_without channel mask old.bans }
 
 -- what applying a change answers, and what it leaves
-abbrev pub Applies : Records → Change → Result Unit ApplyError → Records → Type 0
+abbrev pub Applies : Records → Change → Result Unit (Failure ChangeFault) → Records → Type 0
 Applies old change (Ok _) new = (refusal old change ≡ None) × (new ≡ changed old change)
 Applies old change (Err (Refused fault)) new = (refusal old change ≡ Some fault) × (new ≡ old)
 Applies old change (Err NoMemory) new = (refusal old change ≡ None) × (new ≡ old)
+
+-- whether a change adds something, for which memory is asked
+abbrev pub grows : Change → Bool
+grows (AddUser handle) = true
+grows (DelUser handle) = false
+grows (AddHost handle mask) = true
+grows (DelHost handle mask) = false
+grows (SetGlobal handle flags) = false
+grows (SetChan handle channel flags) = not (flags == 0)
+grows (SetBot handle flags) = false
+grows (AddBan channel mask creator expires comment) = true
+grows (DelBan channel mask) = false

@@ -1,20 +1,19 @@
--- How the map's keys and its users hang together.
-use Rattle.std.specs.Prelude.{◌≡◌, true, ◌≤◌, ℕ, List, [], ◌∷◌, length}
+-- How the map's keys and its users hang together, and the records that map and bans are.
+use Rattle.std.specs.Prelude.{◌≡◌, ◌≤◌, ℕ, List, [], ◌∷◌, length}
+use Rattle.std.specs.Map.{values_of}
 use Rattle.std.specs.declared.vec.Vec.{Vec}
 use Rattle.std.specs.declared.alloc.Global.{Global}
 use Rattle.rfccase.specs.Casemapping.{folded}
+use Rattle.userfile.specs.Records.{Records}
+use Rattle.userfile.specs.declared.ban.Ban.{Ban}
+use Rattle.userfile.specs.declared.limits.TheConstants.{MAX_HANDLE}
 use Rattle.userfile.specs.declared.user.User.{User}
-use Rattle.userfile.specs.declared.change.Change.{Change}
-use Rattle.userfile.specs.declared.change.Change.TheVariants.{AddHost, AddBan}
-use Rattle.userfile.specs.Shapes.{is_hostmask}
 
--- each user stands under the lower case of the handle, which has at most 32 bytes
+-- each user stands under the lower case of the handle, which is short enough to be folded on the stack
 abbrev pub IsKeyed : List (Vec ℕ Global × User) → Type 0
 IsKeyed [] = Unit {0}
-IsKeyed (e ∷ es) = (e.0.items ≡ folded e.1.handle) × (length e.1.handle ≤ 32) × IsKeyed es
+IsKeyed (e ∷ es) = (e.0.items ≡ folded e.1.handle) × (length e.1.handle ≤ MAX_HANDLE) × IsKeyed es
 
--- a change that adds a hostmask or a ban has a good one
-abbrev pub HasGoodMask : Change → Type 0
-HasGoodMask (AddHost handle mask) = is_hostmask mask ≡ true
-HasGoodMask (AddBan channel mask creator expires comment) = is_hostmask mask ≡ true
-HasGoodMask _ = Unit {0}
+-- the records of the map's users and these bans
+abbrev pub records_of : List (Vec ℕ Global × User) → List Ban → Records
+records_of entries bans = record { users = values_of entries; bans = bans }

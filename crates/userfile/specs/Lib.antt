@@ -4,6 +4,7 @@ pub mod Hostmasks
 pub mod Records
 pub mod Held
 pub mod Apply
+pub mod Edits
 pub mod Versions
 pub mod Persons
 pub mod Keys

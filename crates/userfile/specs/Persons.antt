@@ -1,7 +1,8 @@
 -- Who a person is, what flags a person has, and whom a ban keeps off.
 use Rattle.std.specs.Prelude.{◌≡◌, ◌<◌, ◌≤◌, ◌⊎◌, ℕ, ◌+◌, ◌*◌, ◌==◌, nat_lt, nat_le, Bool, ◌&&◌, ◌||◌, List, [], ◌∷◌, ◌++◌, length, map, filter, find, slice_get, codes, if◌then◌else◌, Option, None, Some}
 use Rattle.std.specs.List.{list_all, flat_map}
-use Rattle.userfile.specs.Held.{same_text, user_of, entry_of}
+use Rattle.rfccase.specs.Casemapping.{is_same}
+use Rattle.userfile.specs.Held.{user_of, entry_of}
 use Rattle.userfile.specs.Hostmasks.{is_match, literals}
 use Rattle.userfile.specs.declared.user.User.{User}
 use Rattle.userfile.specs.declared.channel_flags.ChannelFlags.{ChannelFlags}
@@ -79,7 +80,7 @@ flags_of users handle channel = flags_on channel (user_of handle users)
 -- a ban keeps a person off a channel where it is of that channel or of all, has not ended, and its mask matches
 abbrev pub bars : List ℕ → List ℕ → ℕ → Ban → Bool
 bars channel who now ban =
-    (length ban.channel == 0 || same_text channel ban.channel) && (ban.expires == 0 || nat_lt now ban.expires) && is_match ban.mask who
+    (length ban.channel == 0 || is_same channel ban.channel) && (ban.expires == 0 || nat_lt now ban.expires) && is_match ban.mask who
 
 -- the first ban that keeps a person off a channel
 abbrev pub ban_for : List Ban → List ℕ → List ℕ → ℕ → Option Ban

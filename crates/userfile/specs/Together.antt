@@ -1,28 +1,35 @@
 -- Which records stand together in one userfile, and what making one of them answers.
 use Rattle.std.specs.Prelude.{◌≡◌, ℕ, List, [], ◌∷◌, Bool, true, false, not, ◌&&◌, ◌||◌, ◌==◌, nat_lt, length, Option, None, Some, Result, Ok, Err}
 use Rattle.std.specs.List.{list_any, list_all}
-use Rattle.userfile.specs.Shapes.{is_handle, is_channel, is_ban_channel, is_comment}
+use Rattle.bytetext.specs.declared.failure.Failure.{Failure}
+use Rattle.bytetext.specs.declared.failure.Failure.TheVariants.{Refused, NoMemory}
+use Rattle.rfccase.specs.Channels.{is_channel_name}
+use Rattle.userfile.specs.Shapes.{is_handle, is_ban_channel, is_comment}
 use Rattle.userfile.specs.Records.{Records}
-use Rattle.userfile.specs.Held.{has_user, has_mask, has_entry, has_ban}
-use Rattle.userfile.specs.Apply.{max_users, max_masks, max_channels, max_bans, fault_if, first_of_two}
+use Rattle.rfccase.specs.Casemapping.{is_same}
+use Rattle.userfile.specs.Held.{is_ban}
+use Rattle.userfile.specs.Apply.{fault_if, first_of_two}
 use Rattle.userfile.specs.declared.user.User.{User}
 use Rattle.userfile.specs.declared.channel_flags.ChannelFlags.{ChannelFlags}
 use Rattle.userfile.specs.declared.ban.Ban.{Ban}
 use Rattle.userfile.specs.declared.error.ChangeFault.{ChangeFault}
-use Rattle.userfile.specs.declared.error.ChangeFault.TheVariants.{UserExists, MaskHeld, BanExists, Full}
-use Rattle.userfile.specs.declared.error.ApplyError.{ApplyError}
-use Rattle.userfile.specs.declared.error.ApplyError.TheVariants.{Refused, NoMemory}
+use Rattle.userfile.specs.declared.error.ChangeFault.TheVariants.{UserExists, MaskExists, BanExists, Full}
+use Rattle.userfile.specs.declared.limits.TheConstants.{MAX_USERS, MAX_BANS, MAX_MASKS, MAX_CHANNELS}
+
+-- whether an element is the same as a later one
+abbrev pub repeats : {X : Type 0} → (X → X → Bool) → List X → Bool
+repeats same [] = false
+repeats same (x ∷ xs) = list_any (same x) xs || repeats same xs
 
 -- ---- one record
 
 -- a channel is named twice
 abbrev pub repeats_channel : List ChannelFlags → Bool
-repeats_channel [] = false
-repeats_channel (e ∷ entries) = has_entry e.channel entries || repeats_channel entries
+repeats_channel entries = repeats (λ a b. is_same a.channel b.channel) entries
 
 -- an entry names a channel, and has flags
 abbrev pub is_entry : ChannelFlags → Bool
-is_entry e = is_channel e.channel && not (e.flags == 0)
+is_entry e = is_channel_name e.channel && not (e.flags == 0)
 
 -- a user's own texts are good, and each channel is named once, with flags
 unfoldable pub is_user : User → Bool
@@ -36,34 +43,37 @@ is_good_ban ban = is_handle ban.creator && is_ban_channel ban.channel && is_comm
 
 -- a handle is held twice
 abbrev pub repeats_handle : List User → Bool
-repeats_handle [] = false
-repeats_handle (user ∷ users) = has_user user.handle users || repeats_handle users
+repeats_handle users = repeats (λ a b. is_same a.handle b.handle) users
 
 -- a mask is held twice
 abbrev pub repeats_mask : List (List ℕ) → Bool
-repeats_mask [] = false
-repeats_mask (mask ∷ masks) = has_mask mask masks || repeats_mask masks
+repeats_mask masks = repeats is_same masks
 
 -- there are two bans of one channel and mask
 abbrev pub repeats_ban : List Ban → Bool
-repeats_ban [] = false
-repeats_ban (ban ∷ bans) = has_ban ban.channel ban.mask bans || repeats_ban bans
+repeats_ban bans = repeats (λ a b. is_ban a.channel a.mask b) bans
 
 -- a user has more than a userfile holds of one
 abbrev pub is_over : User → Bool
-is_over user = nat_lt max_masks (length user.masks) || nat_lt max_channels (length user.channels)
+is_over user = nat_lt MAX_MASKS (length user.masks) || nat_lt MAX_CHANNELS (length user.channels)
 
 -- the first reason for which records don't stand together: a handle, then a mask of one user, then a ban is there
 -- twice, and then there are too many
 abbrev pub records_fault : List User → List Ban → Option ChangeFault
 records_fault users bans =
     first_of_two (fault_if (repeats_handle users) UserExists)
-    (first_of_two (fault_if (list_any (λ user. repeats_mask user.masks) users) MaskHeld)
+    (first_of_two (fault_if (list_any (λ user. repeats_mask user.masks) users) MaskExists)
     (first_of_two (fault_if (repeats_ban bans) BanExists)
-    (fault_if (nat_lt max_users (length users) || nat_lt max_bans (length bans) || list_any is_over users) Full)))
+    (fault_if (nat_lt MAX_USERS (length users) || nat_lt MAX_BANS (length bans) || list_any is_over users) Full)))
 
 -- what making a userfile of records answers
-abbrev pub Gathers : List User → List Ban → Result Records ApplyError → Type 0
+abbrev pub Gathers : List User → List Ban → Result Records (Failure ChangeFault) → Type 0
 Gathers users bans (Ok made) = (records_fault users bans ≡ None) × (made ≡ record { users = users; bans = bans })
 Gathers users bans (Err (Refused fault)) = records_fault users bans ≡ Some fault
 Gathers users bans (Err NoMemory) = records_fault users bans ≡ None
+
+-- the records of a userfile: each of them is good, and they stand together
+pub record AreSound (records : Records) : Type 0 where
+  pub users : list_all is_user records.users ≡ true
+  pub bans : list_all is_good_ban records.bans ≡ true
+  pub together : records_fault records.users records.bans ≡ None

@@ -2,9 +2,9 @@
 ghost use Rattle.std.specs.Prelude.{◌≡◌, ◌+◌, ◌*◌, ◌<◌, ◌≤◌};
 
 use crate::hostmask::Hostmask;
-use crate::texts::same_text;
-use bytetext::{NoMemory, Text};
-use std::alloc::AllocError;
+use crate::texts::is_same;
+use bytetext::{NoMemory, Text, TryCopy};
+use std::alloc::Global;
 
 /// A ban of the persons whom a hostmask matches, on one channel or on all.
 #[derive(Debug, Drop)]
@@ -22,7 +22,7 @@ pub struct Ban {
 }
 
 impl Ban {
-    ghost use Rattle.std.specs.Prelude.{◌≡◌, IfOk};
+    ghost use Rattle.std.specs.Prelude.{◌≡◌};
     ghost use Rattle.userfile.specs.Held.{is_ban};
     ghost use Rattle.userfile.specs.Persons.{bars};
 
@@ -30,39 +30,27 @@ impl Ban {
     pub(crate) fn is_of(&self, channel: &[u8], mask: &[u8]) -> bool
         ensures { result ≡ is_ban channel.now mask.now self.now }
     {
-        same_text(channel, self.channel.as_bytes()) && same_text(mask, self.mask.as_bytes())
+        is_same(channel, self.channel.as_bytes()) && is_same(mask, self.mask.as_bytes())
     }
 
     // Whether the ban keeps this person off the channel at that second.
     pub(crate) fn bars(&self, channel: &[u8], who: &[u8], now: u64) -> bool
         ensures { result ≡ bars channel.now who.now now self.now }
     {
-        (self.channel.is_empty() || same_text(channel, self.channel.as_bytes()))
+        (self.channel.is_empty() || is_same(channel, self.channel.as_bytes()))
             && (self.expires == 0 || now < self.expires)
             && self.mask.matches(who)
     }
-
-    /// An equal ban of its own.
-    ///
-    /// # Errors
-    /// `NoMemory` where room for the copy is refused.
-    pub fn copy(&self) -> Result<Ban, NoMemory>
-        ensures { IfOk result (λ twin. twin ≡ self.now) }
-    {
-        Ok(self.clone()?)
-    }
 }
 
-impl Clone for Ban {
-    ghost is_clone = { λ ban twin. twin ≡ ban };
-
-    fn clone(&self) -> Result<Ban, AllocError> {
+impl TryCopy for Ban {
+    fn copy(&self, alloc: Global) -> Result<Ban, NoMemory> {
         Ok(Ban {
-            channel: self.channel.clone()?,
-            mask: self.mask.clone()?,
-            creator: self.creator.clone()?,
+            channel: self.channel.copy(alloc)?,
+            mask: self.mask.copy(alloc)?,
+            creator: self.creator.copy(alloc)?,
             expires: self.expires,
-            comment: self.comment.clone()?,
+            comment: self.comment.copy(alloc)?,
         })
     }
 }

@@ -1,13 +1,14 @@
 // The list of the bans.
-ghost use Rattle.std.specs.Prelude.{◌≡◌, OnOk, OnErr};
+ghost use Rattle.std.specs.Prelude.{◌≡◌, true, IfOk, IfErr};
+ghost use Rattle.bytetext.specs.declared.failure.Failure.TheVariants.{NoMemory as no_memory};
+ghost use Rattle.userfile.specs.Apply.{new_ban};
 ghost use Rattle.userfile.specs.Held.{has_ban, bans_without};
-ghost use Rattle.userfile.specs.Apply.{with_ban};
-ghost use Rattle.userfile.specs.Keys.{HasGoodMask};
+ghost use Rattle.userfile.specs.Shapes.{is_hostmask};
 
 use crate::ban::Ban;
-use crate::change::Change;
 use crate::edits::hostmask_of;
-use bytetext::{NoMemory, TryCopy};
+use crate::error::ChangeError;
+use bytetext::{Text, TryCopy};
 use std::alloc::Global;
 
 // Whether there is a ban of this channel and mask.
@@ -17,30 +18,27 @@ pub(crate) fn has_ban(bans: &[Ban], channel: &[u8], mask: &[u8]) -> bool
     bans.iter().any(|ban| ban.is_of(channel, mask))
 }
 
-// Adds the ban of a change behind the others.
-pub(crate) fn add_ban(bans: &mut Vec<Ban>, alloc: Global, change: &Change) -> Result<(), NoMemory>
-    requires { HasGoodMask change.now }
-    ensures ok { OnOk result (bans.new.items ≡ with_ban change.now bans.old.items) }
-    ensures err { OnErr result (bans.new.items ≡ bans.old.items) }
+// The ban of copies of these texts, the mask being a hostmask.
+pub(crate) fn ban_of(
+    alloc: Global,
+    channel: &Text,
+    mask: &Text,
+    creator: &Text,
+    expires: u64,
+    comment: &Text,
+) -> Result<Ban, ChangeError>
+    requires { is_hostmask mask.now ≡ true }
+    ensures ok { IfOk result (λ ban. ban ≡ new_ban channel.now mask.now creator.now expires comment.now) }
+    ensures err { IfErr result (λ e. e ≡ no_memory) }
 {
-    if let Change::AddBan {
-        channel,
+    let mask = hostmask_of(alloc, mask)?;
+    Ok(Ban {
+        channel: channel.copy(alloc)?,
         mask,
-        creator,
+        creator: creator.copy(alloc)?,
         expires,
-        comment,
-    } = change
-    {
-        let ban = Ban {
-            channel: channel.copy(alloc)?,
-            mask: hostmask_of(alloc, mask)?,
-            creator: creator.copy(alloc)?,
-            expires: *expires,
-            comment: comment.copy(alloc)?,
-        };
-        bans.push(ban)?;
-    }
-    Ok(())
+        comment: comment.copy(alloc)?,
+    })
 }
 
 // Keeps the bans but the one of this channel and mask, in their order.

@@ -9,7 +9,7 @@ use std::alloc::Global;
 /// as by casemapping.
 #[derive(Debug, Drop)]
 pub enum Change {
-    /// Adds a user behind the others.
+    /// Adds a user after the others.
     AddUser {
         /// The new user's handle.
         handle: Text,
@@ -19,7 +19,7 @@ pub enum Change {
         /// The user's handle.
         handle: Text,
     },
-    /// Adds a hostmask behind the user's others.
+    /// Adds a hostmask after the user's others.
     AddHost {
         /// The user's handle.
         handle: Text,
@@ -56,7 +56,7 @@ pub enum Change {
         /// The flags, in the place of those before.
         flags: Flags,
     },
-    /// Adds a ban behind the others.
+    /// Adds a ban after the others.
     AddBan {
         /// The channel, or the empty text for a ban of all channels.
         channel: Text,
@@ -78,45 +78,50 @@ pub enum Change {
     },
 }
 
-impl Change {
-    /// An equal change of its own.
-    ///
-    /// # Errors
-    /// `NoMemory` where room for the copy is refused.
-    pub fn copy(&self, alloc: Global) -> Result<Change, NoMemory>
-        ensures { IfOk result (λ c. c ≡ self.now) }
-    {
-        Ok(match self {
-            Change::AddUser { handle } => Change::AddUser {
-                handle: handle.copy(alloc)?,
+impl TryCopy for Change {
+    fn copy(&self, alloc: Global) -> Result<Change, NoMemory> {
+        match self {
+            Change::AddUser { handle } => match handle.copy(alloc) {
+                Ok(handle) => Ok(Change::AddUser { handle }),
+                Err(NoMemory) => Err(NoMemory),
             },
-            Change::DelUser { handle } => Change::DelUser {
-                handle: handle.copy(alloc)?,
+            Change::DelUser { handle } => match handle.copy(alloc) {
+                Ok(handle) => Ok(Change::DelUser { handle }),
+                Err(NoMemory) => Err(NoMemory),
             },
-            Change::AddHost { handle, mask } => Change::AddHost {
-                handle: handle.copy(alloc)?,
-                mask: mask.copy(alloc)?,
+            Change::AddHost { handle, mask } => match pair_of(alloc, handle, mask) {
+                Ok((handle, mask)) => Ok(Change::AddHost { handle, mask }),
+                Err(NoMemory) => Err(NoMemory),
             },
-            Change::DelHost { handle, mask } => Change::DelHost {
-                handle: handle.copy(alloc)?,
-                mask: mask.copy(alloc)?,
+            Change::DelHost { handle, mask } => match pair_of(alloc, handle, mask) {
+                Ok((handle, mask)) => Ok(Change::DelHost { handle, mask }),
+                Err(NoMemory) => Err(NoMemory),
             },
-            Change::SetGlobal { handle, flags } => Change::SetGlobal {
-                handle: handle.copy(alloc)?,
-                flags: *flags,
+            Change::SetGlobal { handle, flags } => match handle.copy(alloc) {
+                Ok(handle) => Ok(Change::SetGlobal {
+                    handle,
+                    flags: *flags,
+                }),
+                Err(NoMemory) => Err(NoMemory),
             },
             Change::SetChan {
                 handle,
                 channel,
                 flags,
-            } => Change::SetChan {
-                handle: handle.copy(alloc)?,
-                channel: channel.copy(alloc)?,
-                flags: *flags,
+            } => match pair_of(alloc, handle, channel) {
+                Ok((handle, channel)) => Ok(Change::SetChan {
+                    handle,
+                    channel,
+                    flags: *flags,
+                }),
+                Err(NoMemory) => Err(NoMemory),
             },
-            Change::SetBot { handle, flags } => Change::SetBot {
-                handle: handle.copy(alloc)?,
-                flags: *flags,
+            Change::SetBot { handle, flags } => match handle.copy(alloc) {
+                Ok(handle) => Ok(Change::SetBot {
+                    handle,
+                    flags: *flags,
+                }),
+                Err(NoMemory) => Err(NoMemory),
             },
             Change::AddBan {
                 channel,
@@ -124,13 +129,22 @@ impl Change {
                 creator,
                 expires,
                 comment,
-            } => ban_copy(alloc, channel, mask, creator, *expires, comment)?,
-            Change::DelBan { channel, mask } => Change::DelBan {
-                channel: channel.copy(alloc)?,
-                mask: mask.copy(alloc)?,
+            } => { ban_copy(alloc, channel, mask, creator, *expires, comment) }
+            Change::DelBan { channel, mask } => match pair_of(alloc, channel, mask) {
+                Ok((channel, mask)) => Ok(Change::DelBan { channel, mask }),
+                Err(NoMemory) => Err(NoMemory),
             },
-        })
+        }
     }
+}
+
+// Copies of two texts.
+fn pair_of(alloc: Global, a: &Text, b: &Text) -> Result<(Text, Text), NoMemory>
+    ensures { IfOk result (λ pair. pair ≡ (a.now, b.now)) }
+{
+    let first = a.copy(alloc)?;
+    let second = b.copy(alloc)?;
+    Ok((first, second))
 }
 
 // A ban to be added, of copies of these texts.
@@ -144,11 +158,13 @@ fn ban_copy(
 ) -> Result<Change, NoMemory>
     ensures { IfOk result (λ c. c ≡ Change.AddBan channel.now mask.now creator.now expires comment.now) }
 {
+    let (channel, mask) = pair_of(alloc, channel, mask)?;
+    let (creator, comment) = pair_of(alloc, creator, comment)?;
     Ok(Change::AddBan {
-        channel: channel.copy(alloc)?,
-        mask: mask.copy(alloc)?,
-        creator: creator.copy(alloc)?,
+        channel,
+        mask,
+        creator,
         expires,
-        comment: comment.copy(alloc)?,
+        comment,
     })
 }

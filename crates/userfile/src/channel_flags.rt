@@ -2,12 +2,13 @@
 ghost use Rattle.std.specs.Prelude.{◌≡◌, OnOk, OnErr};
 ghost use Rattle.std.specs.List.{position_from};
 ghost use Rattle.std.specs.Option.{option_copied};
-ghost use Rattle.userfile.specs.Held.{same_text, entry_of, entries_without, with_entry};
+ghost use Rattle.userfile.specs.Held.{entry_of, entries_without, with_entry};
+ghost use Rattle.rfccase.specs.Casemapping.{is_same};
 
-use crate::texts::same_text;
-use bytetext::{NoMemory, Text};
+use crate::texts::is_same;
+use bytetext::{NoMemory, Text, TryCopy, copies_of};
 use flagexpr::Flags;
-use std::alloc::{AllocError, Global};
+use std::alloc::Global;
 use std::marker::Model;
 
 /// A user's flags on one channel.
@@ -19,12 +20,11 @@ pub struct ChannelFlags {
     pub flags: Flags,
 }
 
-impl Clone for ChannelFlags {
-    ghost is_clone = { λ entry twin. twin ≡ entry };
-
-    fn clone(&self) -> Result<ChannelFlags, AllocError> {
+impl TryCopy for ChannelFlags {
+    fn copy(&self, alloc: Global) -> Result<ChannelFlags, NoMemory> {
+        let channel = self.channel.copy(alloc)?;
         Ok(ChannelFlags {
-            channel: self.channel.clone()?,
+            channel,
             flags: self.flags,
         })
     }
@@ -46,7 +46,7 @@ impl Model for ChannelEntries {
 }
 
 impl ChannelEntries {
-    ghost use Rattle.std.specs.Prelude.{◌≡◌, [], ◌∷◌, ◌++◌, ℕ, IfOk, OnOk, OnErr, length};
+    ghost use Rattle.std.specs.Prelude.{◌≡◌, ◌≢◌, [], ◌∷◌, ◌++◌, OnOk, OnErr, length};
     ghost use Rattle.std.specs.Option.{option_copied};
     ghost use Rattle.userfile.specs.Held.{entry_of, entries_without, with_entry};
     ghost use Rattle.userfile.specs.Apply.{set_channel};
@@ -102,6 +102,7 @@ impl ChannelEntries {
     ) -> Result<(), NoMemory>
         ensures ok { OnOk result (self.new ≡ set_channel channel.now flags self.old) }
         ensures err { OnErr result (self.new ≡ self.old) }
+        ensures memory { OnErr result (flags ≢ 0) }
     {
         if flags.is_empty() {
             keep_others(&mut self.items, channel);
@@ -110,27 +111,12 @@ impl ChannelEntries {
         let channel = Text::from_slice(alloc, channel)?;
         put(&mut self.items, ChannelFlags { channel, flags })
     }
-
-    /// An equal list of its own.
-    ///
-    /// # Errors
-    /// `NoMemory` where room for the copy is refused.
-    pub fn copy(&self) -> Result<ChannelEntries, NoMemory>
-        ensures { IfOk result (λ twin. twin ≡ self.now) }
-    {
-        Ok(ChannelEntries {
-            items: self.items.clone()?,
-        })
-    }
 }
 
-impl Clone for ChannelEntries {
-    ghost is_clone = { λ entries twin. twin ≡ entries };
-
-    fn clone(&self) -> Result<ChannelEntries, AllocError> {
-        Ok(ChannelEntries {
-            items: self.items.clone()?,
-        })
+impl TryCopy for ChannelEntries {
+    fn copy(&self, alloc: Global) -> Result<ChannelEntries, NoMemory> {
+        let items = copies_of(alloc, self.items.as_slice())?;
+        Ok(ChannelEntries { items })
     }
 }
 
@@ -140,14 +126,14 @@ pub(crate) fn entry_of<'a>(entries: &'a [ChannelFlags], channel: &[u8]) -> Optio
 {
     entries
         .iter()
-        .find(|entry| same_text(channel, entry.channel.as_bytes()))
+        .find(|entry| is_same(channel, entry.channel.as_bytes()))
 }
 
 // Keeps the entries but the one of this channel, in their order.
 fn keep_others(entries: &mut Vec<ChannelFlags>, channel: &[u8])
     ensures { entries.new.items ≡ entries_without channel.now entries.old.items }
 {
-    entries.retain(|entry| !same_text(channel, entry.channel.as_bytes()));
+    entries.retain(|entry| !is_same(channel, entry.channel.as_bytes()));
 }
 
 // Puts an entry in the place of the one of its channel, or last where there is none.
@@ -164,9 +150,9 @@ fn put(entries: &mut Vec<ChannelFlags>, entry: ChannelFlags) -> Result<(), NoMem
 
 // The place of the channel's entry.
 fn place_of(entries: &[ChannelFlags], channel: &[u8]) -> Option<usize>
-    ensures { result ≡ position_from (λ e. same_text channel.now e.channel) 0 entries.now }
+    ensures { result ≡ position_from (λ e. is_same channel.now e.channel) 0 entries.now }
 {
     entries
         .iter()
-        .position(|entry| same_text(channel, entry.channel.as_bytes()))
+        .position(|entry| is_same(channel, entry.channel.as_bytes()))
 }

@@ -1,75 +1,89 @@
-// What a change makes of one user.
-ghost use Rattle.std.specs.Prelude.{◌≡◌, true, IfOk, OnOk, OnErr};
+// What a change makes of one user, and why one is refused for what the user holds.
+ghost use Rattle.std.specs.Prelude.{◌≡◌, true, IfOk, IfErr, OnOk, OnErr};
+ghost use Rattle.bytetext.specs.declared.failure.Failure.TheVariants.{NoMemory as no_memory};
 ghost use Rattle.userfile.specs.Shapes.{is_hostmask};
-ghost use Rattle.userfile.specs.Keys.{HasGoodMask};
-ghost use Rattle.userfile.specs.Apply.{edited, edit_fault};
+ghost use Rattle.userfile.specs.Apply.{add_mask_fault, del_mask_fault, set_channel_fault};
+ghost use Rattle.userfile.specs.Edits.{edited, edit_grows};
 
-use crate::change::Change;
-use crate::error::ChangeFault;
+use crate::error::{ChangeError, ChangeFault};
 use crate::hostmask::Hostmask;
+use crate::limits::{MAX_CHANNELS, MAX_MASKS};
 use crate::refusals::{fault_if, fault_unless, first_of_two};
 use crate::user::User;
-use bytetext::{NoMemory, Text};
+use bytetext::{Failure, NoMemory, Text};
+use flagexpr::Flags;
 use std::alloc::Global;
 use wildmask::MaskError;
 
-/// The most hostmasks that a user has.
-pub const MAX_MASKS: usize = 16;
-
-/// The most channels on which a user has flags.
-pub const MAX_CHANNELS: usize = 16;
-
-// Why a change of a user is refused for what the user holds.
-pub(crate) fn edit_fault(change: &Change, user: &User) -> Option<ChangeFault>
-    ensures { result ≡ edit_fault change.now user.now }
+// Why a user can't be given a mask.
+pub(crate) fn add_mask_fault(mask: &[u8], user: &User) -> Option<ChangeFault>
+    ensures { result ≡ add_mask_fault mask.now user.now }
 {
-    match change {
-        Change::AddHost { mask, .. } => first_of_two(
-            fault_if(user.masks.has(mask.as_bytes()), ChangeFault::MaskHeld),
-            fault_unless(user.masks.len() < MAX_MASKS, ChangeFault::Full),
-        ),
-        Change::DelHost { mask, .. } => {
-            fault_unless(user.masks.has(mask.as_bytes()), ChangeFault::NoSuchMask)
-        }
-        Change::SetChan { channel, flags, .. } => fault_unless(
-            flags.is_empty()
-                || user.channels.get(channel.as_bytes()).is_some()
-                || user.channels.len() < MAX_CHANNELS,
-            ChangeFault::Full,
-        ),
-        _ => None,
-    }
+    first_of_two(
+        fault_if(user.masks.has(mask), ChangeFault::MaskExists),
+        fault_unless(user.masks.len() < MAX_MASKS, ChangeFault::Full),
+    )
 }
 
-// Makes a change to a user.
-pub(crate) fn edit(user: &mut User, alloc: Global, change: &Change) -> Result<(), NoMemory>
-    requires { HasGoodMask change.now }
-    ensures ok { OnOk result (user.new ≡ edited change.now user.old) }
-    ensures err { OnErr result (user.new ≡ user.old) }
+// Why a mask can't be taken from a user.
+pub(crate) fn del_mask_fault(mask: &[u8], user: &User) -> Option<ChangeFault>
+    ensures { result ≡ del_mask_fault mask.now user.now }
 {
-    match change {
-        Change::AddHost { mask, .. } => {
-            user.masks.push(hostmask_of(alloc, mask)?)?;
-        }
-        Change::DelHost { mask, .. } => user.masks.remove(mask.as_bytes()),
-        Change::SetGlobal { flags, .. } => user.global = *flags,
-        Change::SetChan { channel, flags, .. } => {
-            user.channels.set(alloc, channel.as_bytes(), *flags)?;
-        }
-        Change::SetBot { flags, .. } => user.bot = *flags,
-        _ => {}
+    fault_unless(user.masks.has(mask), ChangeFault::NoSuchMask)
+}
+
+// Why a user's flags on a channel can't be set.
+pub(crate) fn set_channel_fault(channel: &[u8], flags: Flags, user: &User) -> Option<ChangeFault>
+    ensures { result ≡ set_channel_fault channel.now flags user.now }
+{
+    fault_unless(
+        flags.is_empty()
+            || user.channels.get(channel).is_some()
+            || user.channels.len() < MAX_CHANNELS,
+        ChangeFault::Full,
+    )
+}
+
+// An edit of one user.
+#[derive(Drop)]
+pub(crate) enum Edit<'a> {
+    // Puts the mask after the others.
+    AddMask(Hostmask),
+    // Takes out the mask of this text.
+    DelMask(&'a [u8]),
+    // Sets the flags that hold everywhere.
+    SetGlobal(Flags),
+    // Sets the flags on a channel; without flags its entry goes.
+    SetChannel(&'a [u8], Flags),
+    // Sets the flags as a bot.
+    SetBot(Flags),
+}
+
+// Makes an edit.
+pub(crate) fn make_edit(user: &mut User, alloc: Global, edit: Edit<'_>) -> Result<(), NoMemory>
+    ensures ok { OnOk result (user.new ≡ edited edit.entry user.old) }
+    ensures err { OnErr result (user.new ≡ user.old) }
+    ensures memory { IfErr result (λ _. edit_grows edit.entry ≡ true) }
+{
+    match edit {
+        Edit::AddMask(mask) => user.masks.push(mask)?,
+        Edit::DelMask(mask) => user.masks.remove(mask),
+        Edit::SetGlobal(flags) => user.global = flags,
+        Edit::SetChannel(channel, flags) => user.channels.set(alloc, channel, flags)?,
+        Edit::SetBot(flags) => user.bot = flags,
     }
     Ok(())
 }
 
 // The hostmask of a text that is one.
-pub(crate) fn hostmask_of(alloc: Global, mask: &Text) -> Result<Hostmask, NoMemory>
+pub(crate) fn hostmask_of(alloc: Global, mask: &Text) -> Result<Hostmask, ChangeError>
     requires { is_hostmask mask.now ≡ true }
-    ensures { IfOk result (λ made. made ≡ mask.now) }
+    ensures ok { IfOk result (λ made. made ≡ mask.now) }
+    ensures err { IfErr result (λ e. e ≡ no_memory) }
 {
     match Hostmask::new(alloc, mask.as_bytes()) {
         Ok(made) => Ok(made),
-        Err(MaskError::NoMemory) => Err(NoMemory),
-        Err(MaskError::Refused(_)) => unreachable!(),
+        Err(MaskError::NoMemory) => Err(Failure::NoMemory),
+        Err(MaskError::Refused(_)) => Err(Failure::Refused(ChangeFault::BadMask)),
     }
 }

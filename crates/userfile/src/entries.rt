@@ -1,16 +1,17 @@
 // The map of the users, whose keys are the lower cases of their handles.
-ghost use Rattle.std.specs.Prelude.{◌≡◌, [], ◌∷◌, ◌++◌, not, true, None, OnOk, OnErr};
+ghost use Rattle.std.specs.Prelude.{◌≡◌, [], ◌∷◌, ◌++◌, not, true, None, IfErr, OnOk, OnErr};
 ghost use Rattle.std.specs.Option.{option_copied};
-ghost use Rattle.userfile.specs.Apply.{edited, new_user};
-ghost use Rattle.userfile.specs.Held.{same_text, user_of, has_user, users_without, with_user};
+ghost use Rattle.rfccase.specs.Casemapping.{is_same};
+ghost use Rattle.userfile.specs.Apply.{new_user};
+ghost use Rattle.userfile.specs.Edits.{edited, edit_grows};
+ghost use Rattle.userfile.specs.Held.{user_of, users_without, with_user};
 ghost use Rattle.userfile.specs.Shapes.{is_handle};
-ghost use Rattle.userfile.specs.Keys.{IsKeyed, HasGoodMask};
+ghost use Rattle.userfile.specs.Keys.{IsKeyed};
 ghost use Rattle.indexmap.specs.IndexMap.{values};
 
-use crate::change::Change;
-use crate::edits::edit;
-use crate::shapes::MAX_HANDLE;
-use crate::texts::same_text;
+use crate::edits::{Edit, make_edit};
+use crate::limits::MAX_HANDLE;
+use crate::texts::is_same;
 use crate::user::User;
 use bytetext::{NoMemory, Text, TryCopy};
 use indexmap::IndexMap;
@@ -55,29 +56,29 @@ pub(crate) fn keep_other_users(users: &mut IndexMap<Vec<u8>, User>, handle: &[u8
 {
     users.retain(
         |_key: &Vec<u8>, user: &mut User| -> bool
-            ensures { (result ≡ not (same_text handle.entry.now user.old.handle)) × (user.new ≡ user.old) }
-        { !same_text(handle, user.handle.as_bytes()) },
+            ensures { (result ≡ not (is_same handle.entry.now user.old.handle)) × (user.new ≡ user.old) }
+        { !is_same(handle, user.handle.as_bytes()) },
     );
 }
 
-// Makes a change to the user with the handle.
+// Makes an edit of the user with the handle.
 pub(crate) fn edit_user(
     users: &mut IndexMap<Vec<u8>, User>,
     alloc: Global,
     handle: &[u8],
-    change: &Change,
+    change: Edit<'_>,
 ) -> Result<(), NoMemory>
     requires keyed { IsKeyed users.old.entries }
-    requires good { HasGoodMask change.now }
     ensures keyed { IsKeyed users.new.entries }
-    ensures ok { OnOk result (values users.new ≡ with_user handle.now (edited change.now) (values users.old)) }
+    ensures ok { OnOk result (values users.new ≡ with_user handle.now (edited change.entry) (values users.old)) }
     ensures err { OnErr result (values users.new ≡ values users.old) }
+    ensures memory { IfErr result (λ _. edit_grows change.entry ≡ true) }
 {
     let Some(lower) = ShortFold::<MAX_HANDLE>::new(handle) else {
         return Ok(());
     };
     match users.get_mut(lower.as_bytes()) {
-        Some(user) => edit(user, alloc, change),
+        Some(user) => make_edit(user, alloc, change),
         None => Ok(()),
     }
 }

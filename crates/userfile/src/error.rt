@@ -1,9 +1,7 @@
 // Why a change is not made.
 ghost use Rattle.std.specs.Prelude.{◌≡◌};
-ghost use Rattle.userfile.specs.declared.error.ApplyError.TheVariants.{NoMemory as no_memory};
 
-use bytetext::NoMemory;
-use std::alloc::{AllocError, AllocFailed};
+use bytetext::Failure;
 use thiserror::Error;
 
 /// A refusal of a change, by its letter and number. They are tested in this order: the change's own shape, then what
@@ -15,7 +13,7 @@ pub enum ChangeFault {
     #[error("a handle has 1 to 32 printable bytes, none of them a space or one of * , : @")]
     BadHandle,
     /// U4: the mask is no hostmask.
-    #[error("write the mask as nick!user@host, with at most 120 bytes and without spaces or control bytes")]
+    #[error("write the mask as nick!user@host, with at most 120 bytes, each above 32")]
     BadMask,
     /// U7: the channel name does not begin with `&`, `#`, `+` or `!`, has more than 100 bytes, or holds a space, a
     /// comma or control G.
@@ -23,7 +21,7 @@ pub enum ChangeFault {
     BadChannel,
     /// U10: the comment has more than 100 bytes, or holds NUL, CR or LF.
     #[error("a comment has at most 100 bytes and is one line")]
-    BadText,
+    BadComment,
     /// U3: no user has the handle.
     #[error("no user has this handle: add the user first")]
     NoSuchUser,
@@ -32,7 +30,7 @@ pub enum ChangeFault {
     UserExists,
     /// U5: the user has the mask.
     #[error("the user has this mask")]
-    MaskHeld,
+    MaskExists,
     /// U6: the user has no such mask.
     #[error("the user has no such mask")]
     NoSuchMask,
@@ -59,10 +57,10 @@ impl ChangeFault {
             ChangeFault::BadHandle => "U1",
             ChangeFault::BadMask => "U4",
             ChangeFault::BadChannel => "U7",
-            ChangeFault::BadText => "U10",
+            ChangeFault::BadComment => "U10",
             ChangeFault::NoSuchUser => "U3",
             ChangeFault::UserExists => "U2",
-            ChangeFault::MaskHeld => "U5",
+            ChangeFault::MaskExists => "U5",
             ChangeFault::NoSuchMask => "U6",
             ChangeFault::BanExists => "U8",
             ChangeFault::NoSuchBan => "U9",
@@ -71,37 +69,6 @@ impl ChangeFault {
     }
 }
 
-/// Why [`Userfile::apply`](crate::Userfile::apply) changed nothing.
-#[derive(Clone, Copy, Debug, PartialEq, Eq, Error)]
-pub enum ApplyError {
-    /// The change breaks a rule. The same change is refused again as long as the userfile stays the same.
-    #[error("{0}")]
-    Refused(ChangeFault),
-    /// A growth was refused, and no rule stands against the change.
-    #[error("out of memory: free some and try again")]
-    NoMemory,
-}
-
-impl From<NoMemory> for ApplyError {
-    ghost from_gives = { λ _ e. e ≡ no_memory };
-
-    fn from(_refused: NoMemory) -> ApplyError {
-        ApplyError::NoMemory
-    }
-}
-
-impl From<AllocError> for ApplyError {
-    ghost from_gives = { λ _ e. e ≡ no_memory };
-
-    fn from(_refused: AllocError) -> ApplyError {
-        ApplyError::NoMemory
-    }
-}
-
-impl<T: Drop> From<AllocFailed<T>> for ApplyError {
-    ghost from_gives = { λ _ e. e ≡ no_memory };
-
-    fn from(_refused: AllocFailed<T>) -> ApplyError {
-        ApplyError::NoMemory
-    }
-}
+/// Why a userfile stayed as it was: `Refused` with the first fault that holds, and `NoMemory` where no fault holds and a
+/// growth was refused. The same change is refused again as long as the userfile stays the same.
+pub type ChangeError = Failure<ChangeFault>;

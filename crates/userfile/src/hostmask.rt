@@ -2,9 +2,9 @@
 ghost use Rattle.std.specs.Prelude.{◌≡◌};
 ghost use Rattle.userfile.specs.Held.{has_mask, masks_without};
 
-use crate::texts::same_text;
-use bytetext::{NoMemory, TryCopy};
-use std::alloc::{AllocError, Global};
+use crate::texts::is_same;
+use bytetext::{NoMemory, TryCopy, copies_of};
+use std::alloc::Global;
 use std::marker::Model;
 use wildmask::{Mask, MaskError};
 
@@ -12,8 +12,6 @@ use wildmask::{Mask, MaskError};
 #[derive(Debug, Drop)]
 pub struct Hostmask {
     mask: Mask,
-    // where copies are made: `clone` is passed no allocator
-    alloc: Global,
 }
 
 impl Model for Hostmask {
@@ -28,8 +26,9 @@ impl Model for Hostmask {
 }
 
 impl Hostmask {
-    ghost use Rattle.std.specs.Prelude.{◌≡◌, ◌↔◌, IsTrue, IfOk};
+    ghost use Rattle.std.specs.Prelude.{◌≡◌, ◌↔◌, IsTrue, true};
     ghost use Rattle.wildmask.specs.Masks.{host_mask, IsMatch};
+    ghost use Rattle.userfile.specs.Shapes.{is_hostmask};
     ghost use Rattle.userfile.specs.Hostmasks.{MakesHostmask, is_match, literals};
 
     /// The hostmask of this text.
@@ -40,12 +39,13 @@ impl Hostmask {
         ensures { MakesHostmask text.now result }
     {
         let mask = Mask::host(alloc, text)?;
-        Ok(Hostmask { mask, alloc })
+        Ok(Hostmask { mask })
     }
 
     /// The text as it was given.
     pub fn as_bytes(&self) -> &[u8]
-        ensures { result.now ≡ self.now }
+        ensures given { result.now ≡ self.now }
+        ensures good { is_hostmask self.now ≡ true }
     {
         self.mask.text()
     }
@@ -64,27 +64,12 @@ impl Hostmask {
     {
         self.mask.literals()
     }
-
-    /// An equal mask of its own.
-    ///
-    /// # Errors
-    /// `NoMemory` where room for the copy is refused.
-    pub fn copy(&self, alloc: Global) -> Result<Hostmask, NoMemory>
-        ensures { IfOk result (λ mask. mask ≡ self.now) }
-    {
-        let mask = self.mask.copy(alloc)?;
-        Ok(Hostmask { mask, alloc })
-    }
 }
 
-impl Clone for Hostmask {
-    ghost is_clone = { λ mask twin. twin ≡ mask };
-
-    fn clone(&self) -> Result<Hostmask, AllocError> {
-        match self.copy(self.alloc) {
-            Ok(twin) => Ok(twin),
-            Err(NoMemory) => Err(AllocError),
-        }
+impl TryCopy for Hostmask {
+    fn copy(&self, alloc: Global) -> Result<Hostmask, NoMemory> {
+        let mask = self.mask.copy(alloc)?;
+        Ok(Hostmask { mask })
     }
 }
 
@@ -103,7 +88,7 @@ impl Model for Hostmasks {
 }
 
 impl Hostmasks {
-    ghost use Rattle.std.specs.Prelude.{◌≡◌, [], ◌∷◌, ◌++◌, IfOk, OnOk, OnErr, length};
+    ghost use Rattle.std.specs.Prelude.{◌≡◌, [], ◌∷◌, ◌++◌, OnOk, OnErr, length};
     ghost use Rattle.userfile.specs.Held.{has_mask, masks_without};
 
     /// The list of these masks. Takes no memory.
@@ -148,7 +133,7 @@ impl Hostmasks {
         has_mask(self.items.as_slice(), mask)
     }
 
-    // Puts a mask behind the others.
+    // Puts a mask after the others.
     pub(crate) fn push(&mut self, mask: Hostmask) -> Result<(), NoMemory>
         ensures ok { OnOk result (self.new ≡ self.old ++ mask ∷ []) }
         ensures err { OnErr result (self.new ≡ self.old) }
@@ -163,27 +148,12 @@ impl Hostmasks {
     {
         keep_others(&mut self.items, mask);
     }
-
-    /// An equal list of its own.
-    ///
-    /// # Errors
-    /// `NoMemory` where room for the copy is refused.
-    pub fn copy(&self) -> Result<Hostmasks, NoMemory>
-        ensures { IfOk result (λ twin. twin ≡ self.now) }
-    {
-        Ok(Hostmasks {
-            items: self.items.clone()?,
-        })
-    }
 }
 
-impl Clone for Hostmasks {
-    ghost is_clone = { λ masks twin. twin ≡ masks };
-
-    fn clone(&self) -> Result<Hostmasks, AllocError> {
-        Ok(Hostmasks {
-            items: self.items.clone()?,
-        })
+impl TryCopy for Hostmasks {
+    fn copy(&self, alloc: Global) -> Result<Hostmasks, NoMemory> {
+        let items = copies_of(alloc, self.items.as_slice())?;
+        Ok(Hostmasks { items })
     }
 }
 
@@ -191,12 +161,12 @@ impl Clone for Hostmasks {
 pub(crate) fn has_mask(masks: &[Hostmask], mask: &[u8]) -> bool
     ensures { result ≡ has_mask mask.now masks.now }
 {
-    masks.iter().any(|held| same_text(mask, held.as_bytes()))
+    masks.iter().any(|held| is_same(mask, held.as_bytes()))
 }
 
 // Keeps the masks but those of this text, in their order.
 fn keep_others(masks: &mut Vec<Hostmask>, mask: &[u8])
     ensures { masks.new.items ≡ masks_without mask.now masks.old.items }
 {
-    masks.retain(|held| !same_text(mask, held.as_bytes()));
+    masks.retain(|held| !is_same(mask, held.as_bytes()));
 }

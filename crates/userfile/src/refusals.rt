@@ -6,7 +6,8 @@ ghost use Rattle.userfile.specs.declared.error.ChangeFault.TheVariants.{BadHandl
 
 use crate::change::Change;
 use crate::error::ChangeFault;
-use crate::shapes::{is_ban_channel, is_channel, is_comment, is_handle, is_hostmask};
+use crate::shapes::{is_ban_channel, is_comment, is_handle, is_hostmask};
+use rfccase::is_channel_name;
 
 /// The refusal of a change for its own shape, whatever a userfile holds; none where the shape is good. Takes no memory.
 pub fn shape(change: &Change) -> Option<ChangeFault>
@@ -26,7 +27,7 @@ pub fn shape(change: &Change) -> Option<ChangeFault>
             ..
         } => first_of_two(
             handle_fault(handle.as_bytes()),
-            fault_unless(is_channel(channel.as_bytes()), ChangeFault::BadChannel),
+            fault_unless(is_channel_name(channel.as_bytes()), ChangeFault::BadChannel),
         ),
         Change::AddBan {
             channel,
@@ -38,7 +39,7 @@ pub fn shape(change: &Change) -> Option<ChangeFault>
             handle_fault(creator.as_bytes()),
             first_of_two(
                 ban_fault(channel.as_bytes(), mask.as_bytes()),
-                fault_unless(is_comment(comment.as_bytes()), ChangeFault::BadText),
+                fault_unless(is_comment(comment.as_bytes()), ChangeFault::BadComment),
             ),
         ),
         Change::DelBan { channel, mask } => ban_fault(channel.as_bytes(), mask.as_bytes()),

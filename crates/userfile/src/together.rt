@@ -1,21 +1,20 @@
 // Which records stand together in one userfile.
 ghost use Rattle.std.specs.Prelude.{◌≡◌};
 ghost use Rattle.std.specs.List.{list_any, list_all};
-ghost use Rattle.std.specs.Option.{option_copied};
-ghost use Rattle.userfile.specs.Held.{user_of};
+ghost use Rattle.rfccase.specs.Casemapping.{is_same};
 ghost use Rattle.userfile.specs.Together.{is_entry, is_user, is_good_ban, repeats_channel, repeats_handle, repeats_mask, repeats_ban, is_over, records_fault};
 
 use crate::ban::Ban;
 use crate::bans::has_ban;
-use crate::channel_flags::{ChannelFlags, entry_of};
-use crate::edits::{MAX_CHANNELS, MAX_MASKS};
+use crate::channel_flags::ChannelFlags;
 use crate::error::ChangeFault;
 use crate::hostmask::{Hostmask, has_mask};
+use crate::limits::{MAX_BANS, MAX_CHANNELS, MAX_MASKS, MAX_USERS};
 use crate::refusals::{fault_if, first_of_two};
-use crate::shapes::{is_ban_channel, is_channel, is_comment, is_handle};
-use crate::texts::same_text;
+use crate::shapes::{is_ban_channel, is_comment, is_handle};
+use crate::texts::is_same;
 use crate::user::User;
-use crate::userfile_core::{MAX_BANS, MAX_USERS};
+use rfccase::is_channel_name;
 
 /// Whether a user's handle is one, and each channel is named once, is a channel name and has flags.
 #[tactic(auto, unfolding(crate::specs::Together::is_user))]
@@ -58,7 +57,7 @@ pub(crate) fn records_fault(users: &[User], bans: &[Ban]) -> Option<ChangeFault>
     first_of_two(
         fault_if(repeats_handle(users), ChangeFault::UserExists),
         first_of_two(
-            fault_if(some_repeats_mask(users), ChangeFault::MaskHeld),
+            fault_if(some_repeats_mask(users), ChangeFault::MaskExists),
             first_of_two(
                 fault_if(repeats_ban(bans), ChangeFault::BanExists),
                 fault_if(
@@ -73,7 +72,7 @@ pub(crate) fn records_fault(users: &[User], bans: &[Ban]) -> Option<ChangeFault>
 fn are_entries(entries: &[ChannelFlags]) -> bool
     ensures { result ≡ list_all is_entry entries.now }
 {
-    entries.iter().all(|entry| is_channel(entry.channel.as_bytes()) && !entry.flags.is_empty())
+    entries.iter().all(|entry| is_channel_name(entry.channel.as_bytes()) && !entry.flags.is_empty())
 }
 
 fn repeats_channel(entries: &[ChannelFlags]) -> bool
@@ -81,9 +80,16 @@ fn repeats_channel(entries: &[ChannelFlags]) -> bool
 {
     match entries {
         [] => false,
-        [first, rest @ ..] => entry_of(rest, first.channel.as_bytes()).is_some()
-            || repeats_channel(rest),
+        [first, rest @ ..] => has_channel(rest, first.channel.as_bytes()) || repeats_channel(rest),
     }
+}
+
+fn has_channel(entries: &[ChannelFlags], channel: &[u8]) -> bool
+    ensures { result ≡ list_any (λ e. is_same channel.now e.channel) entries.now }
+{
+    entries
+        .iter()
+        .any(|entry| is_same(channel, entry.channel.as_bytes()))
 }
 
 fn repeats_handle(users: &[User]) -> bool
@@ -91,17 +97,16 @@ fn repeats_handle(users: &[User]) -> bool
 {
     match users {
         [] => false,
-        [first, rest @ ..] => user_of(rest, first.handle.as_bytes()).is_some()
-            || repeats_handle(rest),
+        [first, rest @ ..] => has_handle(rest, first.handle.as_bytes()) || repeats_handle(rest),
     }
 }
 
-fn user_of<'a>(users: &'a [User], handle: &[u8]) -> Option<&'a User>
-    ensures { option_copied result ≡ user_of handle.now users.now }
+fn has_handle(users: &[User], handle: &[u8]) -> bool
+    ensures { result ≡ list_any (λ u. is_same handle.now u.handle) users.now }
 {
     users
         .iter()
-        .find(|user| same_text(handle, user.handle.as_bytes()))
+        .any(|user| is_same(handle, user.handle.as_bytes()))
 }
 
 fn some_repeats_mask(users: &[User]) -> bool
@@ -115,7 +120,7 @@ fn repeats_mask(masks: &[Hostmask]) -> bool
 {
     match masks {
         [] => false,
-        [first, rest @ ..] => { has_mask(rest, first.as_bytes()) || repeats_mask(rest) }
+        [first, rest @ ..] => has_mask(rest, first.as_bytes()) || repeats_mask(rest),
     }
 }
 

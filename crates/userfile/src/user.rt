@@ -3,9 +3,9 @@ ghost use Rattle.std.specs.Prelude.{◌≡◌};
 
 use crate::channel_flags::ChannelEntries;
 use crate::hostmask::Hostmasks;
-use bytetext::{NoMemory, Text};
+use bytetext::{NoMemory, Text, TryCopy};
 use flagexpr::Flags;
-use std::alloc::{AllocError, Global};
+use std::alloc::Global;
 
 /// A user of the userfile.
 #[derive(Debug, Drop)]
@@ -23,7 +23,7 @@ pub struct User {
 }
 
 impl User {
-    ghost use Rattle.std.specs.Prelude.{◌≡◌, IfOk};
+    ghost use Rattle.std.specs.Prelude.{◌≡◌};
     ghost use Rattle.userfile.specs.Apply.{new_user};
 
     // The user of this handle, without hostmasks and flags.
@@ -38,27 +38,15 @@ impl User {
             bot: Flags::empty(),
         }
     }
-
-    /// An equal user of its own.
-    ///
-    /// # Errors
-    /// `NoMemory` where room for the copy is refused.
-    pub fn copy(&self) -> Result<User, NoMemory>
-        ensures { IfOk result (λ twin. twin ≡ self.now) }
-    {
-        Ok(self.clone()?)
-    }
 }
 
-impl Clone for User {
-    ghost is_clone = { λ user twin. twin ≡ user };
-
-    fn clone(&self) -> Result<User, AllocError> {
+impl TryCopy for User {
+    fn copy(&self, alloc: Global) -> Result<User, NoMemory> {
         Ok(User {
-            handle: self.handle.clone()?,
-            masks: self.masks.clone()?,
+            handle: self.handle.copy(alloc)?,
+            masks: self.masks.copy(alloc)?,
             global: self.global,
-            channels: self.channels.clone()?,
+            channels: self.channels.copy(alloc)?,
             bot: self.bot,
         })
     }

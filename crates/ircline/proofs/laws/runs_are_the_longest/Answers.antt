@@ -1,6 +1,6 @@
 use Rattle.std.proofs.Common.{ℕ, List, sym, subst}
 use Rattle.ircline.specs.Stream.{Splits, begun}
-use Rattle.ircline.proofs.Splittings.{splits_only, splits_so}
+use Rattle.ircline.proofs.SplittingLemmas.{splits_only, splits_so}
 use Rattle.ircline.proofs.laws.runs_are_the_longest.Goals as goal
 
 pub returns : goal.returns

@@ -1,7 +1,7 @@
 use Rattle.std.proofs.Common.{◌≡◌, ℕ, Bool, true, false, [], ◌∷◌, nat_eq, refl, ◌||◌}
 use Rattle.bstr.specs.Bytes.{is_in}
 use Rattle.ircline.specs.Classes.{is_end}
-use Rattle.ircline.proofs.Places.{first_same}
+use Rattle.ircline.proofs.PlaceLemmas.{first_same}
 use Rattle.ircline.proofs.read.first_end.Goals as goal
 
 or_false : (x y : Bool) → (x || (y || false)) ≡ (x || y)

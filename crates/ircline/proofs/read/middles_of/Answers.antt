@@ -1,13 +1,15 @@
 use Rattle.std.proofs.Common.{◌≡◌, ℕ, ◌-◌, ◌==◌, List, ◌++◌, ap, sym, ◌∙◌, arith}
 use Rattle.ircline.specs.Reading.{last_param, params_at}
-use Rattle.ircline.proofs.Params.{params_at-zero, params_at-last, params_step}
+use Rattle.ircline.proofs.ParamLemmas.{params_at-zero, params_at-last, params_step}
 use Rattle.ircline.proofs.read.middles_of.Goals as goal
 use Rattle.ircline.proofs.read.middles_of.Goals.{else-loop-test, then-loop-test+then-is_last}
 
 pub loop-preserved : goal.loop-preserved
 loop-preserved c =
     let parts = c.parted.ensures (λ b. b == 32) c.find_byte.ensures in
-    params_step c.loop.params.items _ c.in_ok-from_slice.field-0 c.loop.text.now c.parted.result.1.now _ _ c.loop.counter (omega arith) c.loop.invariant (sym c.is_last.ensures ∙ c.if-is_last.false) (c.in_ok-from_slice.ensures ∙ parts.0) parts.1 c.without_spaces-text-in-loop.ensures c.in_ok-push.ensures.items
+    params_step c.loop.params.items _ c.in_ok-from_slice.field-0 c.loop.text.now c.parted.result.1.now _ _ c.loop.counter (omega arith)
+    c.loop.invariant (sym c.is_last.ensures ∙ c.if-is_last.false) (c.in_ok-from_slice.ensures
+    ∙ parts.0) parts.1 c.without_spaces-text-in-loop.ensures c.in_ok-push.ensures.items
 
 pub returns : goal.returns
 returns c =

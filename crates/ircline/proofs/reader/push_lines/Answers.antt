@@ -3,8 +3,8 @@ use Rattle.std.proofs.lemmas.List.{take_rest, nil_from_length, append-nil}
 use Rattle.ircline.specs.declared.line.Line.{Line}
 use Rattle.ircline.specs.Words.{from_first}
 use Rattle.ircline.specs.Classes.{is_end}
-use Rattle.ircline.proofs.Places.{length-from_first}
-use Rattle.ircline.proofs.Streams.{no_more, step_lines, step_rest}
+use Rattle.ircline.proofs.PlaceLemmas.{length-from_first}
+use Rattle.ircline.proofs.StreamLemmas.{no_more, step_lines, step_rest}
 use Rattle.ircline.proofs.reader.push_lines.Goals as goal
 
 pub returns-in_default-clause-lines : goal.returns-in_default-clause-lines
@@ -24,7 +24,8 @@ pub loop-rest-smaller : goal.loop-rest-smaller
 loop-rest-smaller c =
     let parts = c.parted.ensures is_end c.first_end.ensures in
     let rest = c.parted.result.1.now in
-    let short : length rest ≤ length c.loop-rest.text.now = subst (λ (r : List ℕ). length r ≤ length c.loop-rest.text.now) (sym parts.1) (length-from_first is_end c.loop-rest.text.now) in
+    let short : length rest ≤ length c.loop-rest.text.now = subst (λ (r : List ℕ). length r ≤ length c.loop-rest.text.now) (sym parts.1)
+    (length-from_first is_end c.loop-rest.text.now) in
     let next : length (take (length rest - 1) (drop 1 rest)) ≡ length rest - 1 = ap length (take_rest rest 1) ∙ length-drop 1 rest in
     omega (arith, next, short, c.in-len1-up.len_at_least)
 
@@ -33,6 +34,8 @@ loop-rest-preserved c =
     let parts = c.parted.ensures is_end c.first_end.ensures in
     let rest = c.parted.result.1.now in
     record {
-      lines = step_lines c.loop-rest.lines.items _ c.loop-rest.text.now c.parted.result.0.now rest _ _ parts.0 parts.1 c.in-len1-up.len_at_least (take_rest rest 1) c.in_ok-push_line.ensures c.loop-rest.invariant.lines;
+      lines =
+          step_lines c.loop-rest.lines.items _ c.loop-rest.text.now c.parted.result.0.now rest _ _ parts.0 parts.1 c.in-len1-up.len_at_least
+          (take_rest rest 1) c.in_ok-push_line.ensures c.loop-rest.invariant.lines;
       rest = step_rest c.loop-rest.text.now rest _ _ parts.1 c.in-len1-up.len_at_least (take_rest rest 1) c.loop-rest.invariant.rest;
     }

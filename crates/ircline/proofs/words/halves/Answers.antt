@@ -1,6 +1,6 @@
 use Rattle.std.proofs.Common.{List, ℕ, drop, ap, ◌∙◌}
 use Rattle.std.proofs.lemmas.List.{take_rest}
-use Rattle.ircline.proofs.Places.{halves_none, halves_some}
+use Rattle.ircline.proofs.PlaceLemmas.{halves_none, halves_some}
 use Rattle.ircline.proofs.words.halves.Goals as goal
 
 pub returns-in-Some : goal.returns-in-Some

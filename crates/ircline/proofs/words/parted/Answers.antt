@@ -1,6 +1,6 @@
 use Rattle.std.proofs.Common.{ℕ, sym, ◌∙◌, subst, Option, Some, None}
 use Rattle.bstr.specs.Find.{IsFirstByte}
-use Rattle.ircline.proofs.Places.{parts_none, parts_some}
+use Rattle.ircline.proofs.PlaceLemmas.{parts_none, parts_some}
 use Rattle.ircline.proofs.words.parted.Goals as goal
 
 pub returns-in-Some : goal.returns-in-Some

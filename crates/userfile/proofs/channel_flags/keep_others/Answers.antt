@@ -1,7 +1,7 @@
 use Rattle.std.proofs.Common.{not, rules}
 use Rattle.std.proofs.lemmas.Fn.{filter_same}
-use Rattle.userfile.specs.Held.{same_text}
+use Rattle.rfccase.specs.Casemapping.{is_same}
 use Rattle.userfile.proofs.channel_flags.keep_others.Goals as goal
 
 pub returns : goal.returns
-returns c = filter_same _ (λ e. not (same_text c.args.channel.now e.channel)) _ (λ x b f' k. search rules) _ _ c.retain.ensures.filtered
+returns c = filter_same _ (λ e. not (is_same c.args.channel.now e.channel)) _ (λ x b f' k. search rules) _ _ c.retain.ensures.filtered

@@ -1,7 +1,7 @@
-use Rattle.std.proofs.Common.{◌≡◌, ◌∙◌, ap, sym, subst, map, List, not, eqb, refl, ℕ}
+use Rattle.std.proofs.Common.{◌≡◌, ◌∙◌, ap, sym, subst, map, List, not, eqb, refl, ℕ, arith}
 use Rattle.std.specs.List.{list_any}
 use Rattle.std.proofs.lemmas.Bool.{false≢true}
-use Rattle.std.proofs.lemmas.List.Elements.{All-filter}
+use Rattle.std.proofs.lemmas.List.Elements.{All-filter, All-same}
 use Rattle.bottimers.specs.declared.timer.Timer.{Timer}
 use Rattle.bottimers.specs.declared.entry.Entry.{Entry}
 use Rattle.bottimers.specs.declared.timers.Timers.TheInside.{Inside}
@@ -27,13 +27,19 @@ returns-clause-held c =
 
 pub invariant_of-self : goal.invariant_of-self
 invariant_of-self c =
-    rw c.remove_id.ensures
-    (All-filter (λ (e : Entry). not (eqb e.timer.id c.args.id)) (IsRunningAt c.self.inside.last) c.self.inside.entries.items c.self.invariant)
+    record {
+      running =
+          All-same (IsRunningAt c.self.inside.last) _ _ c.remove_id.ensures.items
+          (All-filter (λ (e : Entry). not (eqb e.timer.id c.args.id)) (IsRunningAt c.self.inside.last) c.self.inside.entries.items c.self.invariant.running);
+      room = omega (arith, c.self.invariant.room, c.remove_id.ensures.room, c.remove_id.ensures.fewer);
+    }
 
 pub returns-clause-killed : goal.returns-clause-killed
 returns-clause-killed c =
     let left =
-    ap (map (λ (e : Entry). e.timer)) c.remove_id.ensures
+    ap (map (λ (e : Entry). e.timer)) c.remove_id.ensures.items
     ∙ sym (filter-map (λ (m : Timer). not (eqb m.id c.args.id)) (λ (e : Entry). e.timer) c.self.inside.entries.items) in
-    subst (λ h. held_of (map (λ (e : Entry). e.timer) c.remove_id.new.entries.items) c.self.inside.last c.self.inside.spent ≡ without h c.args.id) c.self.view_is
-    (ap (λ (ts : List Timer). held_of ts c.self.inside.last c.self.inside.spent) left)
+    let inside = c.self.inside in
+    let timers = map (λ (e : Entry). e.timer) c.remove_id.new.entries.items in
+    subst (λ h. held_of timers inside.last inside.spent inside.room ≡ without h c.args.id) c.self.view_is
+    (ap (λ (ts : List Timer). held_of ts inside.last inside.spent inside.room) left)

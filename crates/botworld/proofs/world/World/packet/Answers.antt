@@ -1,12 +1,12 @@
 use Rattle.std.proofs.Common.{◌≡◌, ℕ, List, Option, None, Some, IfSome, ap, ◌∙◌, sym, subst, suc, zero, refl}
-use Rattle.sharelink.specs.declared.hub.Entry.{Entry}
+use Rattle.sharelink.specs.declared.accepted.AcceptedChange.{AcceptedChange}
 use Rattle.botworld.specs.declared.sent.Sent.{Sent}
 use Rattle.botworld.specs.Net.{Net, packet_at}
 use Rattle.botworld.specs.Standing.{IsTrueChange, AllTrue}
 use Rattle.botworld.proofs.Truth.{AllTrue-at}
 use Rattle.botworld.proofs.world.World.packet.Goals as goal
 
-found_is_true : (xs : List Entry) (ps : List Sent) (n : ℕ) (r : Option Sent) → AllTrue xs ps → packet_at ps n ≡ r → IfSome r (λ sent. IsTrueChange xs sent.packet)
+found_is_true : (xs : List AcceptedChange) (ps : List Sent) (n : ℕ) (r : Option Sent) → AllTrue xs ps → packet_at ps n ≡ r → IfSome r (λ sent. IsTrueChange xs sent.packet)
 found_is_true xs ps zero None h e = tt
 found_is_true xs ps zero (Some sent) h e = cc
 found_is_true xs ps (suc n) None h e = tt

@@ -1,21 +1,43 @@
-use Rattle.std.proofs.Common.{◌≡◌, ◌+◌, ◌++◌, [], ◌∷◌, List, cond, is_ok, arith, ap, sym, subst, ◌∙◌, length, length-append, take, get_or, refl}
+use Rattle.std.proofs.Common.{◌≡◌, ◌+◌, ◌++◌, [], ◌∷◌, List, cond, is_ok, arith, ap, sym, subst, ◌∙◌, length, length-append, take, get_or, refl, vec_len, vec_capacity, inr}
+use Rattle.std.proofs.lemmas.Option.{slice_get_read}
 use Rattle.std.proofs.lemmas.List.{take_more}
 use Rattle.botworld.specs.declared.step.Step.{Step}
 use Rattle.botworld.specs.declared.outcome.Outcome.{Outcome}
-use Rattle.botworld.specs.Net.{Net, NetStep}
-use Rattle.botworld.specs.Network.{State}
-use Rattle.botworld.specs.Standing.{Stands, LeadsTo}
+use Rattle.botworld.specs.Net.{Net, missing}
 use Rattle.botworld.proofs.Runs.{leads_on, leads_nowhere}
 use Rattle.botworld.proofs.world.World.run_all.Goals as goal
 
 pub loop-step-init : goal.loop-step-init
-loop-step-init c = rw c.new-outcomes.ensures.items (refl, λ s stands. leads_nowhere c.args.self.now s stands)
+loop-step-init c = record {
+  count = ap length c.in-Ok.ensures.items;
+  len = c.in-Ok.ensures.len;
+  room = omega (arith, c.in-Ok.ensures.capacity);
+  leads = rw c.in-Ok.ensures.items (λ s stands. leads_nowhere c.args.self.now s stands);
+}
+
+pub unwrap-requires : goal.unwrap-requires
+unwrap-requires c = c.push.ensures.succeeds (omega (arith, c.loop-step.invariant.len, c.loop-step.invariant.room, c.loop-step-test.true))
 
 pub loop-step-preserved : goal.loop-step-preserved
 loop-step-preserved c =
     let pushed : c.push.new.self.items ≡ c.loop-step.outcomes.items ++ c.in-Ok-make.outcome ∷ [] =
-    c.push.ensures.items ∙ ap (λ r. cond (is_ok r) (c.reserve.new.self.items ++ c.in-Ok-make.outcome ∷ []) c.reserve.new.self.items) c.unwrap.ensures ∙ ap (λ (os : List Outcome). os ++ c.in-Ok-make.outcome ∷ []) c.in-Ok.ensures.items in
+    c.push.ensures.items ∙ ap (λ r. cond (is_ok r) (c.loop-step.outcomes.items ++ c.in-Ok-make.outcome ∷ []) c.loop-step.outcomes.items) c.unwrap.ensures in
+    let one_more : vec_len c.push.new.self ≡ vec_len c.loop-step.outcomes + 1 = c.push.ensures.len ∙ ap (λ r. cond (is_ok r) (vec_len c.loop-step.outcomes + 1) (vec_len c.loop-step.outcomes)) c.unwrap.ensures in
     let more : take (c.loop-step.step-index + 1) c.args.steps.now ≡ take c.loop-step.step-index c.args.steps.now ++ c.step-item.result ∷ [] =
     take_more c.args.steps.now c.loop-step.step-index c.step-item.result c.loop-step-test.true ∙ ap (λ (x : Step). take c.loop-step.step-index c.args.steps.now ++ x ∷ []) (sym c.step-item.is) in
-    let count : length c.push.new.self.items ≡ c.loop-step.step-index + 1 = ap length pushed ∙ length-append c.loop-step.outcomes.items (c.in-Ok-make.outcome ∷ []) ∙ ap (λ n. n + 1) c.loop-step.invariant.0 in
-    (count, rw (pushed, more) (λ s stands. leads_on s _ _ c.step-item.result c.in-Ok-make.outcome c.loop-step.self c.make.new.self (c.loop-step.invariant.1 s stands) c.in-Ok-make.ensures))
+    record {
+      count = ap length pushed ∙ length-append c.loop-step.outcomes.items (c.in-Ok-make.outcome ∷ []) ∙ ap (λ n. n + 1) c.loop-step.invariant.count;
+      len = one_more ∙ ap (λ n. n + 1) c.loop-step.invariant.len;
+      room = omega (arith, c.loop-step.invariant.room, c.push.ensures.capacity);
+      leads = rw (pushed, more) (λ s stands. leads_on s _ _ c.step-item.result c.in-Ok-make.outcome c.loop-step.self c.make.new.self (c.loop-step.invariant.leads s stands) c.in-Ok-make.ensures);
+    }
+
+pub returns-in_default-clause-leads : goal.returns-in_default-clause-leads
+returns-in_default-clause-leads c = rw c.empty.ensures (λ s stands. leads_nowhere c.args.self.now s stands)
+
+pub returns-in-Err-clause-cut_at : goal.returns-in-Err-clause-cut_at
+returns-in-Err-clause-cut_at c = λ _.
+    let place : length c.new.result ≡ c.loop-step.step-index = ap length c.new.ensures ∙ c.loop-step.invariant.count in
+    let here = slice_get_read c.args.steps.now (length c.args.steps.now) c.loop-step.step-index c.step-item.result refl c.loop-step-test.true c.step-item.is in
+    let part = ap (λ (w : Net). missing w c.step-item.result) c.in-Err.ensures.1 ∙ c.in-Err.ensures.0 in
+    inr (c.step-item.result, rw place here, part)

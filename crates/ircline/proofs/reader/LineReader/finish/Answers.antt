@@ -1,6 +1,6 @@
 use Rattle.std.proofs.Common.{ap, ◌∙◌}
 use Rattle.ircline.specs.Stream.{last_line}
-use Rattle.ircline.proofs.Streams.{last_alike}
+use Rattle.ircline.proofs.StreamLemmas.{last_alike}
 use Rattle.ircline.proofs.reader.LineReader.finish.Goals as goal
 
 pub returns-clause-line : goal.returns-clause-line

@@ -1,11 +1,13 @@
 use Rattle.std.proofs.Common.{◌<◌, ◌++◌, length, sym, ap, ◌∙◌, subst, arith}
 use Rattle.outqueue.specs.Sending.{waiting, sent, after_line, IsGreatest}
-use Rattle.outqueue.proofs.Drains.{Drained, Drained_more, Drained-room, Drained-sent, Drained-after, IsGreatest-Drained, length-waiting-after_line, waiting-after}
+use Rattle.outqueue.proofs.Drains.{Drained, Drained_more, Drained-room, Drained-sent, Drained-after, IsGreatest-Drained}
+use Rattle.outqueue.proofs.Drains.{length-waiting-after_line, waiting-after}
 use Rattle.outqueue.proofs.queues.Queues.drain.Goals as goal
 
 pub push_reserved-requires : goal.push_reserved-requires
 push_reserved-requires c =
-    let room = Drained-room c.args.self.now c.args.now c.loop-line.lines.items c.in-Some.line c.loop-line.self c.loop-line.invariant.drained (sym c.in-Some.ensures.line) in
+    let room = Drained-room c.args.self.now c.args.now c.loop-line.lines.items c.in-Some.line c.loop-line.self
+    c.loop-line.invariant.drained (sym c.in-Some.ensures.line) in
     omega (arith, room, c.loop-line.invariant.room, c.loop-line.lines.ok)
 
 pub loop-line-smaller : goal.loop-line-smaller
@@ -19,17 +21,20 @@ loop-line-preserved c =
       drained =
           subst (λ q. Drained c.args.self.now c.args.now c.push_reserved.new.self.items q) (sym c.take.ensures.after)
           (subst (λ lines. Drained c.args.self.now c.args.now lines (after_line c.loop-line.self c.args.now)) (sym c.push_reserved.ensures.items)
-          (Drained_more c.args.self.now c.args.now c.loop-line.lines.items c.in-Some.line c.loop-line.self c.loop-line.invariant.drained (sym c.in-Some.ensures.line)));
+          (Drained_more c.args.self.now c.args.now c.loop-line.lines.items c.in-Some.line c.loop-line.self
+          c.loop-line.invariant.drained (sym c.in-Some.ensures.line)));
       room = omega (arith, c.loop-line.invariant.room, c.push_reserved.ensures.capacity);
     }
 
 pub returns-clause-lines : goal.returns-clause-lines
 returns-clause-lines c =
-    c.new.ensures ∙ Drained-sent c.args.self.now c.args.now c.loop-line.lines.items c.loop-line.self c.loop-line.invariant.drained (sym c.in_default.ensures.line)
+    c.new.ensures ∙ Drained-sent c.args.self.now c.args.now c.loop-line.lines.items c.loop-line.self
+    c.loop-line.invariant.drained (sym c.in_default.ensures.line)
 
 pub returns-clause-after : goal.returns-clause-after
 returns-clause-after c =
-    c.take.ensures.after ∙ Drained-after c.args.self.now c.args.now c.loop-line.lines.items c.loop-line.self c.loop-line.invariant.drained (sym c.in_default.ensures.line)
+    c.take.ensures.after ∙ Drained-after c.args.self.now c.args.now c.loop-line.lines.items c.loop-line.self
+    c.loop-line.invariant.drained (sym c.in_default.ensures.line)
 
 pub returns-clause-greatest : goal.returns-clause-greatest
 returns-clause-greatest c =

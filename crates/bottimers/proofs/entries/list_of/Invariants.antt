@@ -1,7 +1,0 @@
-use Rattle.std.proofs.Common.{◌≡◌, take, map}
-use Rattle.bottimers.specs.Held.{listed}
-use Rattle.bottimers.proofs.entries.list_of.Given as goal
-
--- those so far are listed
-abbrev pub invariant-loop-entry : goal.invariant-loop-entry
-invariant-loop-entry l = l.list.items ≡ map (λ e. listed l.at e.timer) (take l.entry-index l.entries)

@@ -1,0 +1,32 @@
+// How a timer stands.
+use crate::timer::TimerKind;
+use bytetext::{NoMemory, Text, TryCopy};
+use std::alloc::Global;
+
+/// How a timer stands, as Eggdrop's `timers` and `utimers` show it: what is left until it is due, and how often it will
+/// be.
+#[derive(Debug, Drop)]
+pub struct TimerStatus {
+    /// What `left` counts.
+    pub kind: TimerKind,
+    /// Minutes from the minute, or seconds from the second, last given to the next due one.
+    pub left: u32,
+    /// The proc that it calls.
+    pub proc: Text,
+    /// Its id.
+    pub id: u32,
+    /// How many occurrences are to come, or 0 for ever.
+    pub repeats: u32,
+}
+
+impl TryCopy for TimerStatus {
+    fn copy(&self, alloc: Global) -> Result<TimerStatus, NoMemory> {
+        Ok(TimerStatus {
+            kind: self.kind,
+            left: self.left,
+            proc: self.proc.copy(alloc)?,
+            id: self.id,
+            repeats: self.repeats,
+        })
+    }
+}

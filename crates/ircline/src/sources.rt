@@ -1,0 +1,13 @@
+// Who a message comes from.
+use crate::person::Person;
+
+/// Who a message comes from, by its prefix (RFC 2812 section 2.3.1).
+#[derive(Clone, Copy, Debug)]
+pub enum Source<'a> {
+    /// The message has no prefix.
+    None,
+    /// A server, by its name.
+    Server(&'a [u8]),
+    /// A person.
+    Person(Person<'a>),
+}

@@ -1,0 +1,33 @@
+// Why a line isn't queued.
+ghost use Rattle.std.specs.Prelude.{◌≡◌};
+ghost use Rattle.outqueue.specs.Refusals.{code_of};
+
+use bytetext::Failure;
+use thiserror::Error;
+
+/// Why a line is refused, in the order in which it is tested.
+#[derive(Clone, Copy, Debug, PartialEq, Eq, Error)]
+pub enum QueueFault {
+    /// The line is empty, longer than 510 bytes, or holds a NUL, a CR or an LF (RFC 2812 section 2.3).
+    #[error("give a line of 1 to 510 bytes without NUL, CR and LF")]
+    BadLine,
+    /// The queue holds 500 lines.
+    #[error("wait until lines have been sent, or clear the queue")]
+    QueueFull,
+}
+
+impl QueueFault {
+    /// The short code that transcripts print: `Q2` or `Q1`.
+    pub fn code(self) -> &'static str
+        ensures { result.now ≡ code_of self }
+    {
+        match self {
+            QueueFault::BadLine => "Q2",
+            QueueFault::QueueFull => "Q1",
+        }
+    }
+}
+
+/// Why [`Queues::put`](crate::Queues::put) did not queue a line: a fault, or out of memory where there is none. The queues
+/// are as before.
+pub type PutError = Failure<QueueFault>;

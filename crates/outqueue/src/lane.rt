@@ -1,0 +1,118 @@
+// The lines of one queue, with room for more.
+ghost use Rattle.std.specs.Prelude.{◌≡◌, ◌<◌, ◌≤◌, length, [], drop, IsOk, IfOk, OnOk, OnErr};
+ghost use Rattle.outqueue.specs.Lanes.{Filled, with_last, first_of};
+
+use crate::limits::MAX_LINES;
+use bytetext::{NoMemory, Text, TryCopy};
+use std::alloc::Global;
+use std::collections::VecDeque;
+use std::marker::Model;
+
+// At most 500 lines, from the one that goes first, and how many more take no memory.
+#[derive(Drop)]
+pub(crate) struct Lane {
+    queue: VecDeque<Text>,
+    room: usize,
+}
+
+impl Model for Lane {
+    ghost use Rattle.outqueue.specs.Lanes.{Filled};
+
+    ghost Value = { Filled };
+
+    ghost use Rattle.outqueue.specs.Rooms.{filled, HasRoom};
+
+    ghost view = { filled };
+
+    ghost invariant = { HasRoom };
+}
+
+impl Lane {
+    // No line, and no room.
+    pub(crate) fn new(alloc: Global) -> Lane
+        ensures { result ≡ record { lines = []; room = 0 } }
+    {
+        Lane {
+            queue: VecDeque::new(alloc),
+            room: 0,
+        }
+    }
+
+    // How many lines there are.
+    pub(crate) fn len(&self) -> usize
+        ensures lines { result ≡ length self.now.lines }
+        ensures few { result ≤ MAX_LINES }
+    {
+        self.queue.len()
+    }
+
+    // Makes room for just so many more.
+    pub(crate) fn reserve(&mut self, count: usize) -> Result<(), NoMemory>
+        ensures ready { OnOk result (self.new ≡ record self.old { room = count }) }
+        ensures unchanged { OnErr result (self.new ≡ self.old) }
+        ensures needs_none { count ≤ self.old.room → IsOk result }
+    {
+        self.queue.reserve(count)?;
+        self.room = count;
+        Ok(())
+    }
+
+    // Puts a line last.
+    pub(crate) fn put(&mut self, line: Text) -> Result<(), NoMemory>
+        requires { length self.old.lines < MAX_LINES }
+        ensures put { OnOk result (self.new ≡ with_last self.old line) }
+        ensures unchanged { OnErr result (self.new ≡ self.old) }
+        ensures needs_none { 0 < self.old.room → IsOk result }
+    {
+        self.reserve(self.room.max(1))?;
+        self.put_reserved(line);
+        Ok(())
+    }
+
+    // Puts a line last, where there is room for it.
+    pub(crate) fn put_reserved(&mut self, line: Text)
+        requires few { length self.old.lines < MAX_LINES }
+        requires room { 0 < self.old.room }
+        ensures { self.new ≡ with_last self.old line }
+    {
+        self.queue.push_back_reserved(line);
+        self.room -= 1;
+    }
+
+    // Takes the first line.
+    pub(crate) fn pop(&mut self) -> Option<Text>
+        ensures line { result ≡ first_of self.old.lines }
+        ensures rest { self.new ≡ record self.old { lines = drop 1 self.old.lines } }
+    {
+        self.queue.pop_front()
+    }
+
+    // Drops all lines.
+    pub(crate) fn clear(&mut self)
+        ensures { self.new ≡ record self.old { lines = [] } }
+    {
+        self.queue.clear();
+    }
+}
+
+impl TryCopy for Lane {
+    fn copy(&self, alloc: Global) -> Result<Lane, NoMemory> {
+        let mut queue = copies_of(alloc, &self.queue)?;
+        queue.reserve(self.room)?;
+        Ok(Lane {
+            queue,
+            room: self.room,
+        })
+    }
+}
+
+// A copy of each line, in order.
+fn copies_of(alloc: Global, lines: &VecDeque<Text>) -> Result<VecDeque<Text>, NoMemory>
+    ensures { IfOk result (λ copies. copies.items ≡ lines.now.items) }
+{
+    let mut copies = VecDeque::with_capacity(alloc, lines.len())?;
+    for at in 0..lines.len() {
+        copies.push_back(lines[at].copy(alloc)?)?;
+    }
+    Ok(copies)
+}

@@ -1,0 +1,19 @@
+// The limits of queues, and the numbers of the send timer.
+
+/// How many lines a queue holds at most (our own choice, as Eggdrop's default).
+pub const MAX_LINES: usize = 500;
+
+/// How many bytes a line has at most: 512 with its CR LF (RFC 2812 section 2.3).
+pub const MAX_BYTES: usize = 510;
+
+/// How far ahead of the clock the send timer may get, in seconds (RFC 1459 section 8.10).
+pub const AHEAD: u64 = 10;
+
+/// How many seconds a line costs (RFC 1459 section 8.10).
+pub const COST: u64 = 2;
+
+/// How many lines go at one moment at most: those that cost as many seconds as the timer may get ahead.
+pub const MAX_AT_ONCE: usize = 5;
+
+/// The first second after the year 2999: moments are the whole seconds before it.
+pub const MOMENTS_END: u64 = 32_503_680_000;

@@ -1,0 +1,20 @@
+// How much a userfile holds, and how long its texts are. Eggdrop's handles have 32 bytes; the other limits are our own
+// choice. The limits of hostmasks stand in `wildmask`, that of channel names in `rfccase`.
+
+/// The most users that a userfile holds.
+pub const MAX_USERS: usize = 500;
+
+/// The most bans that a userfile holds.
+pub const MAX_BANS: usize = 200;
+
+/// The most hostmasks that a user has.
+pub const MAX_MASKS: usize = 16;
+
+/// The most channels on which a user has flags.
+pub const MAX_CHANNELS: usize = 16;
+
+/// The most bytes that a handle has.
+pub const MAX_HANDLE: usize = 32;
+
+/// The most bytes that a comment has.
+pub const MAX_COMMENT: usize = 100;

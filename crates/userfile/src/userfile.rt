@@ -1,0 +1,301 @@
+// The userfile.
+ghost use Rattle.std.specs.Prelude.{◌≡◌, None, true, IfErr, OnOk, OnErr};
+ghost use Rattle.bytetext.specs.declared.failure.Failure.TheVariants.{NoMemory as no_memory};
+ghost use Rattle.userfile.specs.Apply.{refusal, changed, grows};
+ghost use Rattle.userfile.specs.Keys.{IsKeyed, records_of};
+
+use crate::ban::Ban;
+use crate::bans::{ban_of, has_ban, keep_other_bans};
+use crate::change::Change;
+use crate::edits::{Edit, add_mask_fault, del_mask_fault, hostmask_of, set_channel_fault};
+use crate::entries::{add_user, edit_user, find_user, keep_other_users};
+use crate::error::{ChangeError, ChangeFault};
+use crate::flags::PersonFlags;
+use crate::gather::{map_of, user_copies};
+use crate::limits::{MAX_BANS, MAX_USERS};
+use crate::persons::user_for;
+use crate::refusals::{fault_if, fault_unless, first_of_two, shape};
+use crate::together::records_fault;
+use crate::user::User;
+use bytetext::{NoMemory, TryCopy, copies_of, refuse};
+use indexmap::IndexMap;
+use std::alloc::Global;
+use std::marker::Model;
+
+/// Users and bans, each in the order in which they were added. Contracts see its records.
+#[derive(Drop)]
+pub struct Userfile {
+    users: IndexMap<Vec<u8>, User>,
+    bans: Vec<Ban>,
+}
+
+impl Model for Userfile {
+    ghost use Rattle.std.specs.Prelude.{List};
+    ghost use Rattle.userfile.specs.Records.{Records};
+    ghost use Rattle.userfile.specs.Keys.{IsKeyed, records_of};
+    ghost use Rattle.userfile.specs.Together.{AreSound};
+
+    ghost Value = { Records };
+
+    ghost view = { λ u. records_of u.users.entries u.bans.items };
+
+    ghost invariant = { λ u. IsKeyed u.users.entries × AreSound (records_of u.users.entries u.bans.items) };
+}
+
+impl Userfile {
+    ghost use Rattle.std.specs.Prelude.{◌≡◌, true, Err, IsTrue, length, slice_get};
+    ghost use Rattle.std.specs.List.{list_all};
+    ghost use Rattle.std.specs.Option.{option_copied};
+    ghost use Rattle.userfile.specs.Together.{is_user, is_good_ban, AreSound, Gathers};
+    ghost use Rattle.userfile.specs.Records.{no_records};
+    ghost use Rattle.userfile.specs.Apply.{Applies, refusal, not_taken, grows};
+    ghost use Rattle.bytetext.specs.declared.failure.Failure.TheVariants.{NoMemory as no_memory};
+    ghost use Rattle.userfile.specs.Held.{user_of};
+    ghost use Rattle.userfile.specs.Persons.{ban_for, flags_of, handle_of, IsHandleFor};
+
+    /// The userfile without records. Takes no memory.
+    pub fn new(alloc: Global) -> Userfile
+        ensures { result ≡ no_records }
+    {
+        Userfile {
+            users: IndexMap::new(alloc),
+            bans: Vec::new(alloc),
+        }
+    }
+
+    /// The userfile of just these users and bans, in their order. Nothing of them is copied.
+    ///
+    /// # Errors
+    /// `Refused` with the first of these that holds: `UserExists` where two users have one handle, `MaskExists` where a
+    /// user has a mask twice, `BanExists` where two bans have one channel and mask, `Full` where there are more users,
+    /// bans, masks of a user or channels of a user than a userfile holds. Or `NoMemory`, where none of them holds and a
+    /// growth is refused. The users and bans are gone then.
+    pub fn from_records(
+        alloc: Global,
+        users: Vec<User>,
+        bans: Vec<Ban>,
+    ) -> Result<Userfile, ChangeError>
+        requires users { IsTrue (list_all is_user users.items) }
+        requires bans { IsTrue (list_all is_good_ban bans.items) }
+        ensures { Gathers users.items bans.items result }
+    {
+        refuse(records_fault(users.as_slice(), bans.as_slice()))?;
+        let users = map_of(alloc, users)?;
+        Ok(Userfile { users, bans })
+    }
+
+    /// What always holds of the records: each user and each ban is good, and none of the reasons for which
+    /// [`from_records`](Userfile::from_records) refuses records holds of them. There is nothing to run: who writes the
+    /// records down calls it for its clause, which lets them be read again.
+    pub fn are_sound(&self)
+        ensures { AreSound self.now }
+    {
+        let _ = &self.users;
+    }
+
+    /// How many users there are.
+    pub fn user_count(&self) -> usize
+        ensures { result ≡ length self.now.users }
+    {
+        self.users.len()
+    }
+
+    /// The user at this place, from 0; none after the last.
+    pub fn user_at(&self, place: usize) -> Option<&User>
+        ensures { option_copied result ≡ slice_get self.now.users place }
+    {
+        match self.users.get_index(place) {
+            Some((_, user)) => Some(user),
+            None => None,
+        }
+    }
+
+    /// How many bans there are, those that have ended included.
+    pub fn ban_count(&self) -> usize
+        ensures { result ≡ length self.now.bans }
+    {
+        self.bans.len()
+    }
+
+    /// The ban at this place, from 0; none after the last.
+    pub fn ban_at(&self, place: usize) -> Option<&Ban>
+        ensures { option_copied result ≡ slice_get self.now.bans place }
+    {
+        self.bans.as_slice().get(place)
+    }
+
+    /// The user of this handle.
+    pub fn user(&self, handle: &[u8]) -> Option<&User>
+        ensures { option_copied result ≡ user_of handle.now self.now.users }
+    {
+        find_user(&self.users, handle)
+    }
+
+    /// The handle of who a person, written as `nick!user@host`, is: of all hostmasks that match, the one with most
+    /// literals decides, then the earlier user, then the earlier mask. `*` where none matches.
+    pub fn handle_of(&self, who: &[u8]) -> &[u8]
+        ensures value { result.now ≡ handle_of self.now.users who.now }
+        ensures decides { IsHandleFor self.now.users who.now result.now }
+    {
+        match user_for(&self.users, who) {
+            Some(user) => user.handle.as_bytes(),
+            None => b"*",
+        }
+    }
+
+    /// The flags of the user of a handle, with those on one channel; none where there is no such user.
+    pub fn flags_of(&self, handle: &[u8], channel: &[u8]) -> PersonFlags
+        ensures { result ≡ flags_of self.now.users handle.now channel.now }
+    {
+        match self.user(handle) {
+            Some(user) => PersonFlags::on(user, channel),
+            None => PersonFlags::none(),
+        }
+    }
+
+    /// The first ban that keeps this person, written as `nick!user@host`, off a channel at this second: it is of that
+    /// channel or of all, its mask matches, and it has not ended.
+    pub fn ban_for(&self, channel: &[u8], who: &[u8], now: u64) -> Option<&Ban>
+        ensures { option_copied result ≡ ban_for self.now.bans channel.now who.now now }
+    {
+        self.bans.iter().find(|ban| ban.bars(channel, who, now))
+    }
+
+    /// The first refusal that holds of a change, without making it. Takes no memory.
+    pub fn refusal_of(&self, change: &Change) -> Option<ChangeFault>
+        ensures { result ≡ refusal self.now change.now }
+    {
+        match shape(change) {
+            Some(fault) => Some(fault),
+            None => self.not_taken(change),
+        }
+    }
+
+    // Why a change of good shape is refused.
+    fn not_taken(&self, change: &Change) -> Option<ChangeFault>
+        ensures { result ≡ not_taken self.now change.now }
+    {
+        match change {
+            Change::AddUser { handle } => first_of_two(
+                fault_if(
+                    self.user(handle.as_bytes()).is_some(),
+                    ChangeFault::UserExists,
+                ),
+                fault_unless(self.users.len() < MAX_USERS, ChangeFault::Full),
+            ),
+            Change::DelUser { handle }
+            | Change::SetGlobal { handle, .. }
+            | Change::SetBot { handle, .. } => fault_unless(
+                self.user(handle.as_bytes()).is_some(),
+                ChangeFault::NoSuchUser,
+            ),
+            Change::AddHost { handle, mask } => match self.user(handle.as_bytes()) {
+                Some(user) => add_mask_fault(mask.as_bytes(), user),
+                None => Some(ChangeFault::NoSuchUser),
+            },
+            Change::DelHost { handle, mask } => match self.user(handle.as_bytes()) {
+                Some(user) => del_mask_fault(mask.as_bytes(), user),
+                None => Some(ChangeFault::NoSuchUser),
+            },
+            Change::SetChan {
+                handle,
+                channel,
+                flags,
+            } => match self.user(handle.as_bytes()) {
+                Some(user) => set_channel_fault(channel.as_bytes(), *flags, user),
+                None => Some(ChangeFault::NoSuchUser),
+            },
+            Change::AddBan { channel, mask, .. } => first_of_two(
+                fault_if(
+                    has_ban(self.bans.as_slice(), channel.as_bytes(), mask.as_bytes()),
+                    ChangeFault::BanExists,
+                ),
+                fault_unless(self.bans.len() < MAX_BANS, ChangeFault::Full),
+            ),
+            Change::DelBan { channel, mask } => fault_unless(
+                has_ban(self.bans.as_slice(), channel.as_bytes(), mask.as_bytes()),
+                ChangeFault::NoSuchBan,
+            ),
+        }
+    }
+
+    /// Makes a change.
+    ///
+    /// # Errors
+    /// `Refused` with the first fault that holds, or `NoMemory`; both leave the userfile as it was.
+    pub fn apply(&mut self, alloc: Global, change: &Change) -> Result<(), ChangeError>
+        ensures applies { Applies self.old change.now result self.new }
+        ensures memory { result ≡ Err no_memory → grows change.now ≡ true }
+    {
+        refuse(self.refusal_of(change))?;
+        make(&mut self.users, &mut self.bans, alloc, change)
+    }
+}
+
+impl TryCopy for Userfile {
+    fn copy(&self, alloc: Global) -> Result<Userfile, NoMemory> {
+        let users = user_copies(alloc, &self.users)?;
+        let users = map_of(alloc, users)?;
+        let bans = copies_of(alloc, self.bans.as_slice())?;
+        Ok(Userfile { users, bans })
+    }
+}
+
+// Makes a change that isn't refused.
+fn make(
+    users: &mut IndexMap<Vec<u8>, User>,
+    bans: &mut Vec<Ban>,
+    alloc: Global,
+    change: &Change,
+) -> Result<(), ChangeError>
+    requires keyed { IsKeyed users.old.entries }
+    requires taken { refusal (records_of users.old.entries bans.old.items) change.now ≡ None }
+    ensures keyed { IsKeyed users.new.entries }
+    ensures ok { OnOk result (records_of users.new.entries bans.new.items ≡ changed (records_of users.old.entries bans.old.items) change.now) }
+    ensures err { OnErr result (records_of users.new.entries bans.new.items ≡ records_of users.old.entries bans.old.items) }
+    ensures memory { IfErr result (λ e. (e ≡ no_memory) × (grows change.now ≡ true)) }
+{
+    match change {
+        Change::AddUser { handle } => add_user(users, alloc, handle)?,
+        Change::DelUser { handle } => keep_other_users(users, handle.as_bytes()),
+        Change::AddHost { handle, mask } => {
+            let mask = hostmask_of(alloc, mask)?;
+            edit_user(users, alloc, handle.as_bytes(), Edit::AddMask(mask))?;
+        }
+        Change::DelHost { handle, mask } => {
+            edit_user(
+                users,
+                alloc,
+                handle.as_bytes(),
+                Edit::DelMask(mask.as_bytes()),
+            )?;
+        }
+        Change::SetGlobal { handle, flags } => {
+            edit_user(users, alloc, handle.as_bytes(), Edit::SetGlobal(*flags))?;
+        }
+        Change::SetChan {
+            handle,
+            channel,
+            flags,
+        } => {
+            let edit = Edit::SetChannel(channel.as_bytes(), *flags);
+            edit_user(users, alloc, handle.as_bytes(), edit)?;
+        }
+        Change::SetBot { handle, flags } => {
+            edit_user(users, alloc, handle.as_bytes(), Edit::SetBot(*flags))?;
+        }
+        Change::AddBan {
+            channel,
+            mask,
+            creator,
+            expires,
+            comment,
+        } => {
+            bans.push(ban_of(alloc, channel, mask, creator, *expires, comment)?)?;
+        }
+        Change::DelBan { channel, mask } => {
+            keep_other_bans(bans, channel.as_bytes(), mask.as_bytes());
+        }
+    }
+    Ok(())
+}
