@@ -6,7 +6,7 @@ use Rattle.std.proofs.lemmas.Bool.{cases_lt, lt-ltb, le-ltb}
 use Rattle.std.proofs.lemmas.List.{length-take, drop-drop, take-append-drop}
 use Rattle.outqueue.specs.declared.limits.TheConstants.{AHEAD, COST}
 use Rattle.outqueue.specs.Lanes.{first_of}
-use Rattle.outqueue.specs.Sending.{Sending, Room, waiting, gone, count_at, sent, after, IsGreatest, next_line, after_line}
+use Rattle.outqueue.specs.Sending.{Sending, waiting, gone, count_at, sent, after, IsGreatest, next_line, after_line}
 use Rattle.outqueue.specs.Sending.{sent_over, after_over, AllUpTo}
 
 -- ---- the first n lines of three queues

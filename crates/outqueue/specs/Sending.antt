@@ -1,6 +1,6 @@
 -- Lines that wait, and the send timer of RFC 1459 section 8.10.
 use Rattle.std.specs.Prelude.{◌≡◌, ℕ, ◌+◌, ◌-◌, ◌*◌, ◌/◌, ◌<◌, ◌≤◌, min, max, nat_lt, if◌then◌else◌}
-use Rattle.std.specs.Prelude.{List, [], ◌∷◌, ◌++◌, length, take, drop, Option, Some, None, is_some}
+use Rattle.std.specs.Prelude.{List, [], ◌∷◌, ◌++◌, length, take, drop, Option, None, is_some}
 use Rattle.outqueue.specs.declared.limits.TheConstants.{AHEAD, COST}
 use Rattle.outqueue.specs.declared.queue.Queue.{Queue}
 use Rattle.outqueue.specs.declared.queue.Queue.TheVariants.{Mode, Server, Help}

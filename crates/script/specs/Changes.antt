@@ -6,7 +6,9 @@ use Rattle.flagexpr.specs.Letters.{set_of}
 use Rattle.flagexpr.specs.Faults.{flags_fault}
 use Rattle.userfile.specs.declared.change.Change.{Change}
 use Rattle.userfile.specs.declared.change.Change.TheVariants.{AddUser, DelUser, AddHost, DelHost, SetGlobal, SetChan, SetBot, AddBan, DelBan}
-use Rattle.script.specs.Words.{is_empty, line_of, number_below}
+use Rattle.script.specs.declared.asking.Pair.{Pair}
+use Rattle.script.specs.declared.asking.Pair.TheVariants.{AddHost as add_host, DelHost as del_host, DelBan as del_ban, Global as set_global, Bot as set_bot}
+use Rattle.script.specs.Words.{is_empty, line_of, number_below, words_of}
 
 -- flags are letters, or - for none
 abbrev pub unless_fault : Option FlagFault → ℕ → Option ℕ
@@ -38,15 +40,25 @@ by_one_word name h =
     else None
 
 -- addhost H M, delhost H M, delban C M, global H F, bot H F
-abbrev pub by_two_words : List ℕ → List ℕ → List ℕ → Option Change
-by_two_words name a b =
-    if is_empty a || is_empty b then None
-    else if bytes_eq name (codes "addhost") then Some (AddHost a b)
-    else if bytes_eq name (codes "delhost") then Some (DelHost a b)
-    else if bytes_eq name (codes "delban") then Some (DelBan (channel_of a) b)
-    else if bytes_eq name (codes "global") then option_map (SetGlobal a) (flags_of b)
-    else if bytes_eq name (codes "bot") then option_map (SetBot a) (flags_of b)
+abbrev pub pair_of : List ℕ → Option Pair
+pair_of name =
+    if bytes_eq name (codes "addhost") then Some add_host
+    else if bytes_eq name (codes "delhost") then Some del_host
+    else if bytes_eq name (codes "delban") then Some del_ban
+    else if bytes_eq name (codes "global") then Some set_global
+    else if bytes_eq name (codes "bot") then Some set_bot
     else None
+
+abbrev pub pair_change : Option Pair → List ℕ → List ℕ → Option Change
+pair_change (Some add_host) a b = Some (AddHost a b)
+pair_change (Some del_host) a b = Some (DelHost a b)
+pair_change (Some del_ban) a b = Some (DelBan (channel_of a) b)
+pair_change (Some set_global) a b = option_map (SetGlobal a) (flags_of b)
+pair_change (Some set_bot) a b = option_map (SetBot a) (flags_of b)
+pair_change None a b = None
+
+abbrev pub by_two_words : List ℕ → List ℕ → List ℕ → Option Change
+by_two_words name a b = if is_empty a || is_empty b then None else pair_change (pair_of name) a b
 
 -- chan H C F
 abbrev pub by_three_words : List ℕ → List ℕ → List ℕ → List ℕ → Option Change
@@ -68,9 +80,17 @@ by_more_words name c m h e words =
     else None
 
 -- each change has its count of words
-abbrev pub change_of : List ℕ → List (List ℕ) → Option Change
-change_of name (a ∷ []) = by_one_word name a
-change_of name (a ∷ b ∷ []) = by_two_words name a b
-change_of name (a ∷ b ∷ c ∷ []) = by_three_words name a b c
-change_of name (a ∷ b ∷ c ∷ d ∷ words) = by_more_words name a b c d words
-change_of name [] = None
+abbrev pub change_named : List ℕ → List (List ℕ) → Option Change
+change_named name (a ∷ []) = by_one_word name a
+change_named name (a ∷ b ∷ []) = by_two_words name a b
+change_named name (a ∷ b ∷ c ∷ []) = by_three_words name a b c
+change_named name (a ∷ b ∷ c ∷ d ∷ words) = by_more_words name a b c d words
+change_named name [] = None
+
+-- a text of words, of which the first is the name
+abbrev pub change_by_words : List (List ℕ) → Option Change
+change_by_words [] = None
+change_by_words (name ∷ words) = change_named name words
+
+abbrev pub change_of : List ℕ → Option Change
+change_of text = change_by_words (words_of text)

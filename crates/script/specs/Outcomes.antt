@@ -3,14 +3,15 @@ use Rattle.std.specs.Prelude.{◌≡◌, ℕ, zero, suc, Bool, true, false, List
 use Rattle.script.specs.declared.saying.Saying.{Saying}
 use Rattle.script.specs.declared.saying.Saying.TheVariants.{Leaves, Told}
 use Rattle.script.specs.declared.reading.Script.{Script}
-use Rattle.script.specs.declared.error.ScriptError.{ScriptError}
-use Rattle.script.specs.declared.error.ScriptError.TheVariants.{Fault, NoMemory}
+use Rattle.bytetext.specs.declared.failure.Failure.{Failure}
+use Rattle.bytetext.specs.declared.failure.Failure.TheVariants.{Refused, NoMemory}
+use Rattle.script.specs.declared.error.ScriptFault.{ScriptFault}
 use Rattle.script.specs.Reading.{Spells, HasFault, BreaksAt, begins_script, onto_said, said}
 
 -- these bytes are read as this
-abbrev pub ReadsAs : List ℕ → Result Script ScriptError → Type 0
+abbrev pub ReadsAs : List ℕ → Result Script (Failure ScriptFault) → Type 0
 ReadsAs bytes (Ok script) = Spells bytes script
-ReadsAs bytes (Err (Fault fault)) = HasFault bytes fault.line
+ReadsAs bytes (Err (Refused fault)) = HasFault bytes fault.line
 ReadsAs bytes (Err NoMemory) = Unit {0}
 
 -- the same of its lines alone
@@ -18,9 +19,9 @@ abbrev pub HasLineFault : List (List ℕ) → ℕ → Type 0
 HasLineFault lines zero = said lines ≡ []
 HasLineFault lines (suc place) = BreaksAt lines place
 
-abbrev pub LinesReadAs : List (List ℕ) → Result Script ScriptError → Type 0
+abbrev pub LinesReadAs : List (List ℕ) → Result Script (Failure ScriptFault) → Type 0
 LinesReadAs lines (Ok script) = said lines ≡ Leaves script.leaves ∷ map Told script.commands
-LinesReadAs lines (Err (Fault fault)) = HasLineFault lines fault.line
+LinesReadAs lines (Err (Refused fault)) = HasLineFault lines fault.line
 LinesReadAs lines (Err NoMemory) = Unit {0}
 
 -- what was said in the lines so far, by the script that they make

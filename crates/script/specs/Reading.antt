@@ -4,13 +4,10 @@ use Rattle.std.specs.List.{slice_split}
 use Rattle.script.specs.declared.saying.Saying.{Saying}
 use Rattle.script.specs.declared.saying.Saying.TheVariants.{Nothing, Leaves, Told, Wrong}
 use Rattle.script.specs.declared.reading.Script.{Script}
+use Rattle.script.specs.declared.TheConstants.{MAX_SCRIPT}
 use Rattle.script.specs.Grammar.{saying_of}
 
--- the most bytes of a script
-abbrev pub max_script : ℕ
-max_script = 1048576
-
--- the lines, which a line feed ends or divides each: behind the last one stands an empty line
+-- the lines, which a line feed ends or divides each: after the last one stands an empty line
 abbrev pub lines_of : List ℕ → List (List ℕ)
 lines_of bytes = slice_split (λ b. b == 10) bytes
 
@@ -43,7 +40,7 @@ begins_script (Wrong ∷ says) = false
 
 -- these bytes are this script: not too many, and they say the number of leaves and then its commands
 pub record Spells (bytes : List ℕ) (script : Script) : Type 0 where
-  pub short : length bytes ≤ max_script
+  pub short : length bytes ≤ MAX_SCRIPT
   pub says : said (lines_of bytes) ≡ Leaves script.leaves ∷ map Told script.commands
 
 -- a script can go on from the lines before this place, and not from those with it
@@ -54,5 +51,5 @@ pub record BreaksAt (lines : List (List ℕ)) (place : ℕ) : Type 0 where
 
 -- this line, from 1, is the first that breaks a rule; 0 where the bytes are too many, or say nothing
 abbrev pub HasFault : List ℕ → ℕ → Type 0
-HasFault bytes zero = (max_script < length bytes) ⊎ (said (lines_of bytes) ≡ [])
-HasFault bytes (suc place) = (length bytes ≤ max_script) × BreaksAt (lines_of bytes) place
+HasFault bytes zero = (MAX_SCRIPT < length bytes) ⊎ (said (lines_of bytes) ≡ [])
+HasFault bytes (suc place) = (length bytes ≤ MAX_SCRIPT) × BreaksAt (lines_of bytes) place

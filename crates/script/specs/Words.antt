@@ -18,7 +18,7 @@ is_empty word = length word == 0
 abbrev pub is_digit : ℕ → Bool
 is_digit b = nat_le 48 b && nat_le b 57
 
--- what digits mean in base ten: each counts ten times the one behind it
+-- what digits mean in base ten: each counts ten times the one after it
 abbrev pub value_of : List ℕ → ℕ
 value_of [] = 0
 value_of (d ∷ ds) = (d - 48) * 10 ^ length ds + value_of ds

@@ -1,20 +1,53 @@
 // The changes that can be asked for.
-ghost use Rattle.std.specs.Prelude.{◌≡◌, ◌∷◌, map, IfOk};
+ghost use Rattle.std.specs.Prelude.{◌≡◌, ◌∷◌, map, option_map, IfOk};
 ghost use Rattle.script.specs.Words.{line_of};
-ghost use Rattle.script.specs.Changes.{by_more_words, by_one_word, by_three_words, by_two_words, change_of, channel_of, comment_of, flags_of};
+ghost use Rattle.script.specs.Changes.{by_more_words, by_one_word, by_three_words, by_two_words, pair_of};
+ghost use Rattle.script.specs.Changes.{change_by_words, change_named, change_of, channel_of, comment_of, flags_of};
 
 use crate::numeral::number;
+use crate::pieces::pieces_of;
 use bytetext::{NoMemory, Text};
 use flagexpr::Flags;
 use std::alloc::Global;
 use userfile::Change;
 
+/// The changes that have two words after their name.
+#[derive(Clone, Copy)]
+pub enum Pair {
+    AddHost,
+    DelHost,
+    DelBan,
+    Global,
+    Bot,
+}
+
+/// The change that these words spell, with one space between each two; none where they are no change.
+///
+/// # Errors
+/// `NoMemory` where room is refused.
+pub fn change_of(alloc: Global, words: &[u8]) -> Result<Option<Change>, NoMemory>
+    ensures { IfOk result (λ change. change ≡ change_of words.now) }
+{
+    let words = pieces_of(alloc, words, b' ')?;
+    change_by_words(alloc, words.as_slice())
+}
+
+// The first word is the name.
+fn change_by_words(alloc: Global, words: &[&[u8]]) -> Result<Option<Change>, NoMemory>
+    ensures { IfOk result (λ change. change ≡ change_by_words (map (λ word. word.now) words.now)) }
+{
+    match words {
+        [] => Ok(None),
+        [name, words @ ..] => change_named(alloc, name, words),
+    }
+}
+
 /// The change of this name and these words; none where they are no change.
 ///
 /// # Errors
 /// `NoMemory` where room is refused.
-pub fn change_of(alloc: Global, name: &[u8], words: &[&[u8]]) -> Result<Option<Change>, NoMemory>
-    ensures { IfOk result (λ change. change ≡ change_of name.now (map (λ word. word.now) words.now)) }
+pub fn change_named(alloc: Global, name: &[u8], words: &[&[u8]]) -> Result<Option<Change>, NoMemory>
+    ensures { IfOk result (λ change. change ≡ change_named name.now (map (λ word. word.now) words.now)) }
 {
     match words {
         [] => Ok(None),
@@ -49,32 +82,77 @@ fn by_two_words(alloc: Global, name: &[u8], a: &[u8], b: &[u8]) -> Result<Option
     if a.is_empty() || b.is_empty() {
         return Ok(None);
     }
+    match pair_of(name) {
+        Some(Pair::AddHost) => add_host(alloc, a, b),
+        Some(Pair::DelHost) => del_host(alloc, a, b),
+        Some(Pair::DelBan) => del_ban(alloc, a, b),
+        Some(Pair::Global) => set_global(alloc, a, flags_of(b)),
+        Some(Pair::Bot) => set_bot(alloc, a, flags_of(b)),
+        None => Ok(None),
+    }
+}
+
+// A change of two words, by its name.
+fn pair_of(name: &[u8]) -> Option<Pair>
+    ensures { result ≡ pair_of name.now }
+{
     if name == b"addhost".as_slice() {
-        let handle = Text::from_slice(alloc, a)?;
-        let mask = Text::from_slice(alloc, b)?;
-        return Ok(Some(Change::AddHost { handle, mask }));
+        Some(Pair::AddHost)
+    } else if name == b"delhost".as_slice() {
+        Some(Pair::DelHost)
+    } else if name == b"delban".as_slice() {
+        Some(Pair::DelBan)
+    } else if name == b"global".as_slice() {
+        Some(Pair::Global)
+    } else if name == b"bot".as_slice() {
+        Some(Pair::Bot)
+    } else {
+        None
     }
-    if name == b"delhost".as_slice() {
-        let handle = Text::from_slice(alloc, a)?;
-        let mask = Text::from_slice(alloc, b)?;
-        return Ok(Some(Change::DelHost { handle, mask }));
-    }
-    if name == b"delban".as_slice() {
-        let channel = Text::from_slice(alloc, channel_of(a))?;
-        let mask = Text::from_slice(alloc, b)?;
-        return Ok(Some(Change::DelBan { channel, mask }));
-    }
-    let Some(flags) = flags_of(b) else {
+}
+
+fn add_host(alloc: Global, h: &[u8], m: &[u8]) -> Result<Option<Change>, NoMemory>
+    ensures { IfOk result (λ change. change ≡ Some (Change.AddHost h.now m.now)) }
+{
+    let handle = Text::from_slice(alloc, h)?;
+    let mask = Text::from_slice(alloc, m)?;
+    Ok(Some(Change::AddHost { handle, mask }))
+}
+
+fn del_host(alloc: Global, h: &[u8], m: &[u8]) -> Result<Option<Change>, NoMemory>
+    ensures { IfOk result (λ change. change ≡ Some (Change.DelHost h.now m.now)) }
+{
+    let handle = Text::from_slice(alloc, h)?;
+    let mask = Text::from_slice(alloc, m)?;
+    Ok(Some(Change::DelHost { handle, mask }))
+}
+
+fn del_ban(alloc: Global, c: &[u8], m: &[u8]) -> Result<Option<Change>, NoMemory>
+    ensures { IfOk result (λ change. change ≡ Some (Change.DelBan (channel_of c.now) m.now)) }
+{
+    let channel = Text::from_slice(alloc, channel_of(c))?;
+    let mask = Text::from_slice(alloc, m)?;
+    Ok(Some(Change::DelBan { channel, mask }))
+}
+
+fn set_global(alloc: Global, h: &[u8], flags: Option<Flags>) -> Result<Option<Change>, NoMemory>
+    ensures { IfOk result (λ change. change ≡ option_map (λ f. Change.SetGlobal h.now f) flags) }
+{
+    let Some(flags) = flags else {
         return Ok(None);
     };
-    let handle = Text::from_slice(alloc, a)?;
-    if name == b"global".as_slice() {
-        Ok(Some(Change::SetGlobal { handle, flags }))
-    } else if name == b"bot".as_slice() {
-        Ok(Some(Change::SetBot { handle, flags }))
-    } else {
-        Ok(None)
-    }
+    let handle = Text::from_slice(alloc, h)?;
+    Ok(Some(Change::SetGlobal { handle, flags }))
+}
+
+fn set_bot(alloc: Global, h: &[u8], flags: Option<Flags>) -> Result<Option<Change>, NoMemory>
+    ensures { IfOk result (λ change. change ≡ option_map (λ f. Change.SetBot h.now f) flags) }
+{
+    let Some(flags) = flags else {
+        return Ok(None);
+    };
+    let handle = Text::from_slice(alloc, h)?;
+    Ok(Some(Change::SetBot { handle, flags }))
 }
 
 // chan H C F

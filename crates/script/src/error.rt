@@ -1,9 +1,5 @@
 // Why a script is not read.
-ghost use Rattle.std.specs.Prelude.{◌≡◌};
-ghost use Rattle.script.specs.declared.error.ScriptError.TheVariants.{NoMemory as no_memory};
-
-use bytetext::NoMemory;
-use std::alloc::{AllocError, AllocFailed};
+use bytetext::Failure;
 use thiserror::Error;
 
 /// Where a script breaks a rule.
@@ -14,37 +10,6 @@ pub struct ScriptFault {
     pub line: u64,
 }
 
-/// Why [`Script::read`](crate::Script::read) gives no script.
-#[derive(Clone, Copy, Debug, PartialEq, Eq, Error)]
-pub enum ScriptError {
-    /// A rule is broken.
-    #[error("{0}")]
-    Fault(ScriptFault),
-    /// A growth was refused.
-    #[error("out of memory: free some and try again")]
-    NoMemory,
-}
-
-impl From<NoMemory> for ScriptError {
-    ghost from_gives = { λ _ e. e ≡ no_memory };
-
-    fn from(_refused: NoMemory) -> ScriptError {
-        ScriptError::NoMemory
-    }
-}
-
-impl From<AllocError> for ScriptError {
-    ghost from_gives = { λ _ e. e ≡ no_memory };
-
-    fn from(_refused: AllocError) -> ScriptError {
-        ScriptError::NoMemory
-    }
-}
-
-impl<T: Drop> From<AllocFailed<T>> for ScriptError {
-    ghost from_gives = { λ _ e. e ≡ no_memory };
-
-    fn from(_refused: AllocFailed<T>) -> ScriptError {
-        ScriptError::NoMemory
-    }
-}
+/// Why [`Script::read`](crate::Script::read) gives no script: a rule is broken, or else a growth was refused before a
+/// broken rule was seen.
+pub type ScriptError = Failure<ScriptFault>;

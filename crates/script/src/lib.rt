@@ -12,6 +12,7 @@
 //! ```text
 //! let script = Script::read(alloc, b"leaves 1\nask 0 adduser alice\npump 0\n")?;
 //! assert!(script.leaves == 1 && script.commands.len() == 2);
+//! let change = change_of(alloc, b"adduser alice")?;      // as after `ask 0 `
 //! ```
 #![tactic(auto)]
 
@@ -23,6 +24,7 @@ mod pieces;
 mod reading;
 mod saying;
 
+pub use crate::asking::change_of;
 pub use crate::command::{Command, Commands};
 pub use crate::error::{ScriptError, ScriptFault};
 pub use crate::reading::Script;

@@ -1,7 +1,6 @@
 // Numbers as words.
-ghost use Rattle.std.specs.Prelude.{◌≡◌};
+ghost use Rattle.std.specs.Prelude.{◌≡◌, ◌^◌};
 ghost use Rattle.std.specs.List.{list_all};
-ghost use Rattle.std.specs.Prelude.{◌^◌};
 ghost use Rattle.script.specs.Words.{below, is_digit, number_below, value_of};
 
 /// The number that a word of digits means, where it is below 2^64.

@@ -8,11 +8,11 @@ use crate::command::{Command, Commands};
 use crate::error::{ScriptError, ScriptFault};
 use crate::pieces::pieces_of;
 use crate::saying::{Saying, saying_of};
-use bytetext::NoMemory;
+use bytetext::{Failure, NoMemory, TryCopy};
 use std::alloc::Global;
 
 /// A script: how many leaves the botnet has, and what is done with it.
-#[derive(Debug, Drop)]
+#[derive(Drop)]
 pub struct Script {
     /// The number of leaves, at most 1,000.
     pub leaves: u16,
@@ -21,21 +21,32 @@ pub struct Script {
 }
 
 impl Script {
+    ghost use Rattle.std.specs.Prelude.{◌≡◌, ◌<◌, length};
     ghost use Rattle.script.specs.Outcomes.{ReadsAs};
 
     /// The script that these bytes spell.
     ///
     /// # Errors
-    /// `Fault` with line 0 above 1,048,576 bytes, else with the first line that breaks a rule, else with line 0 where
-    /// there is no command; `NoMemory` where room is refused.
+    /// `Refused` with line 0 above 1,048,576 bytes, else with the first line that breaks a rule, else with line 0 where
+    /// there is no command; `NoMemory` where room is refused before a broken rule is seen, which is not for the length.
     pub fn read(alloc: Global, bytes: &[u8]) -> Result<Script, ScriptError>
-        ensures { ReadsAs bytes.now result }
+        ensures reads { ReadsAs bytes.now result }
+        ensures too_long { MAX_SCRIPT < length bytes.now → result ≡ Err (Failure.Refused (record { line = 0 })) }
     {
         if bytes.len() > MAX_SCRIPT {
-            return Err(ScriptError::Fault(ScriptFault { line: 0 }));
+            return Err(Failure::Refused(ScriptFault { line: 0 }));
         }
         let lines = pieces_of(alloc, bytes, b'\n')?;
         script_of(alloc, lines.as_slice())
+    }
+}
+
+impl TryCopy for Script {
+    fn copy(&self, alloc: Global) -> Result<Script, NoMemory> {
+        Ok(Script {
+            leaves: self.leaves,
+            commands: self.commands.copy(alloc)?,
+        })
     }
 }
 
@@ -48,16 +59,16 @@ fn script_of(alloc: Global, lines: &[&[u8]]) -> Result<Script, ScriptError>
         let saying = saying_of(alloc, line)?;
         if !go_on(alloc, &mut script, saying)? {
             let line = place as u64 + 1;
-            return Err(ScriptError::Fault(ScriptFault { line }));
+            return Err(Failure::Refused(ScriptFault { line }));
         }
     }
     match script {
         Some(script) => Ok(script),
-        None => Err(ScriptError::Fault(ScriptFault { line: 0 })),
+        None => Err(Failure::Refused(ScriptFault { line: 0 })),
     }
 }
 
-// Adds what the next line says. False where it breaks a rule behind the lines so far.
+// Adds what the next line says. False where it breaks a rule after the lines so far.
 fn go_on(alloc: Global, script: &mut Option<Script>, saying: Saying) -> Result<bool, NoMemory>
     ensures { IfOk result (λ good. GoesOn script.old saying good script.new) }
 {
@@ -81,7 +92,7 @@ fn set_leaves(alloc: Global, script: &mut Option<Script>, leaves: u16) -> bool
     true
 }
 
-// Adds a command, behind the number of leaves. Where room is refused the script is gone: nothing is read on.
+// Adds a command, after the number of leaves. Where room is refused the script is gone: nothing is read on.
 fn add_command(script: &mut Option<Script>, command: Command) -> Result<bool, NoMemory>
     ensures { IfOk result (λ good. GoesOn script.old (Told command) good script.new) }
 {

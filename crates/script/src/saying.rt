@@ -1,16 +1,28 @@
 // What one line says.
-ghost use Rattle.std.specs.Prelude.{◌≡◌, map, IfOk};
-ghost use Rattle.script.specs.Grammar.{two_words, more_words, saying_by_words, saying_of};
+ghost use Rattle.std.specs.Prelude.{◌≡◌, map, option_and_then, IfOk};
+ghost use Rattle.script.specs.Grammar.{asked, counted, few_leaves, told, verb_of, two_words, more_words, saying_by_words, saying_of};
 
-use crate::asking::change_of;
+use crate::asking::change_named;
 use crate::command::Command;
 use crate::numeral::{bot_number, number};
 use crate::pieces::pieces_of;
+use botworld::{Event, Step};
 use bytetext::NoMemory;
+use sharelink::MAX_LEAVES;
 use std::alloc::Global;
 
+/// The first words of lines.
+#[derive(Clone, Copy)]
+pub enum Verb {
+    Leaves,
+    Ask,
+    Pump,
+    Deliver,
+    Show,
+}
+
 /// What a line says by itself, whatever stands before it.
-#[derive(Debug, Drop)]
+#[derive(Drop)]
 pub enum Saying {
     /// Nothing: it is empty or begins with `#`.
     Nothing,
@@ -47,32 +59,68 @@ fn saying_by_words(alloc: Global, words: &[&[u8]]) -> Result<Saying, NoMemory>
     }
 }
 
+// The first word.
+fn verb_of(word: &[u8]) -> Option<Verb>
+    ensures { result ≡ verb_of word.now }
+{
+    if word == b"leaves".as_slice() {
+        Some(Verb::Leaves)
+    } else if word == b"ask".as_slice() {
+        Some(Verb::Ask)
+    } else if word == b"pump".as_slice() {
+        Some(Verb::Pump)
+    } else if word == b"deliver".as_slice() {
+        Some(Verb::Deliver)
+    } else if word == b"show".as_slice() {
+        Some(Verb::Show)
+    } else {
+        None
+    }
+}
+
 // VERB A
 fn two_words(verb: &[u8], a: &[u8]) -> Saying
-    ensures { result ≡ two_words verb.now a.now }
+    ensures { result ≡ two_words (verb_of verb.now) a.now }
 {
-    if verb == b"leaves".as_slice() {
-        return match bot_number(a) {
-            Some(leaves) if leaves <= 1000 => Saying::Leaves(leaves),
-            _ => Saying::Wrong,
-        };
-    }
-    if verb == b"deliver".as_slice() {
-        return match number(a) {
-            Some(packet) => Saying::Told(Command::Deliver { packet }),
+    match verb_of(verb) {
+        Some(Verb::Leaves) => count_leaves(bot_number(a)),
+        Some(Verb::Pump) => match bot_number(a) {
+            Some(bot) => told(Step::At { bot, event: Event::Pump }),
             None => Saying::Wrong,
-        };
+        },
+        Some(Verb::Deliver) => match number(a) {
+            Some(packet) => told(Step::Deliver { packet }),
+            None => Saying::Wrong,
+        },
+        Some(Verb::Show) => match bot_number(a) {
+            Some(bot) => Saying::Told(Command::Show(bot)),
+            None => Saying::Wrong,
+        },
+        Some(Verb::Ask) | None => Saying::Wrong,
     }
-    let Some(bot) = bot_number(a) else {
-        return Saying::Wrong;
-    };
-    if verb == b"pump".as_slice() {
-        Saying::Told(Command::Pump { bot })
-    } else if verb == b"show".as_slice() {
-        Saying::Told(Command::Show { bot })
-    } else {
-        Saying::Wrong
+}
+
+// The number of leaves, unless there are too many.
+fn count_leaves(leaves: Option<u16>) -> Saying
+    ensures { result ≡ counted (option_and_then few_leaves leaves) }
+{
+    match leaves {
+        Some(leaves) => {
+            if leaves <= MAX_LEAVES {
+                Saying::Leaves(leaves)
+            } else {
+                Saying::Wrong
+            }
+        }
+        None => Saying::Wrong,
     }
+}
+
+// A step.
+fn told(step: Step) -> Saying
+    ensures { result ≡ Saying.Told (Command.Step step) }
+{
+    Saying::Told(Command::Step(step))
 }
 
 // ask B NAME, and the words of the change
@@ -83,16 +131,31 @@ fn more_words(
     name: &[u8],
     words: &[&[u8]],
 ) -> Result<Saying, NoMemory>
-    ensures { IfOk result (λ saying. saying ≡ more_words verb.now a.now name.now (map (λ word. word.now) words.now)) }
+    ensures { IfOk result (λ saying. saying ≡ more_words (verb_of verb.now) a.now name.now (map (λ word. word.now) words.now)) }
 {
-    if verb != b"ask".as_slice() {
-        return Ok(Saying::Wrong);
+    match verb_of(verb) {
+        Some(Verb::Ask) => ask(alloc, bot_number(a), name, words),
+        Some(Verb::Leaves | Verb::Pump | Verb::Deliver | Verb::Show) | None => Ok(Saying::Wrong),
     }
-    let Some(bot) = bot_number(a) else {
+}
+
+// An ask of this bot.
+fn ask(
+    alloc: Global,
+    bot: Option<u16>,
+    name: &[u8],
+    words: &[&[u8]],
+) -> Result<Saying, NoMemory>
+    ensures { IfOk result (λ saying. saying ≡ told (asked bot name.now (map (λ word. word.now) words.now))) }
+{
+    let Some(bot) = bot else {
         return Ok(Saying::Wrong);
     };
-    match change_of(alloc, name, words)? {
-        Some(change) => Ok(Saying::Told(Command::Ask { bot, change })),
+    match change_named(alloc, name, words)? {
+        Some(change) => Ok(told(Step::At {
+            bot,
+            event: Event::Ask(change),
+        })),
         None => Ok(Saying::Wrong),
     }
 }
