@@ -7,7 +7,8 @@ use Rattle.botworld.specs.declared.sent.Sent.{Sent}
 use Rattle.botworld.specs.Net.{new_leaves, posted}
 
 -- one more leaf is made
-pub new_leaves-more : (made : List Leaf) (n i : ℕ) (all : List Leaf) → i < n → made ++ new_leaves (i + 1) (n - i) ≡ all → (made ++ new_leaf (i + 1) ∷ []) ++ new_leaves (i + 1 + 1) (n - (i + 1)) ≡ all
+pub new_leaves-more : (made : List Leaf) (n i : ℕ) (all : List Leaf) → i < n → made ++ new_leaves (i + 1) (n - i) ≡ all
+    → (made ++ new_leaf (i + 1) ∷ []) ++ new_leaves (i + 1 + 1) (n - (i + 1)) ≡ all
 new_leaves-more made n i all h e =
     let step : n - i ≡ suc (n - (i + 1)) = omega arith in
     append_assoc made _ _ ∙ ap (λ k. made ++ new_leaves (i + 1) k) (sym step) ∙ e

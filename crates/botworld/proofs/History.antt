@@ -1,5 +1,6 @@
 -- What more accepted changes make of records, and what they leave.
-use Rattle.std.proofs.Common.{◌≡◌, ◌⊎◌, inl, inr, ℕ, zero, suc, ◌+◌, ◌-◌, ◌<◌, ◌≤◌, List, [], ◌∷◌, ◌++◌, length, take, drop, slice_get, slice_set, get_or, Option, None, Some, refl, ap, sym, subst, ◌∙◌, arith, append_assoc, length-append}
+use Rattle.std.proofs.Common.{◌≡◌, ◌⊎◌, inl, inr, ℕ, zero, suc, ◌+◌, ◌-◌, ◌<◌, ◌≤◌, List, [], ◌∷◌, ◌++◌, length, take, drop, slice_get, slice_set, get_or}
+use Rattle.std.proofs.Common.{Option, None, Some, refl, ap, sym, subst, ◌∙◌, arith, append_assoc, length-append}
 use Rattle.std.proofs.lemmas.List.{take-append-le, take_more, append-nil}
 use Rattle.std.proofs.lemmas.Option.{slice_get_within, get_or_from_slice_get}
 use Rattle.std.specs.Option.{option_map}
@@ -26,7 +27,8 @@ slice_get-behind [] ys x = refl
 slice_get-behind (z ∷ xs) ys x = slice_get-behind xs ys x
 
 -- an element of a list with one more is an old one or the new one
-pub slice_get-last : {X : Type 0} (xs : List X) (y : X) (i : ℕ) (x : X) → slice_get (xs ++ y ∷ []) i ≡ Some x → (slice_get xs i ≡ Some x) ⊎ ((i ≡ length xs) × (y ≡ x))
+pub slice_get-last : {X : Type 0} (xs : List X) (y : X) (i : ℕ) (x : X) → slice_get (xs ++ y ∷ []) i ≡ Some x
+    → (slice_get xs i ≡ Some x) ⊎ ((i ≡ length xs) × (y ≡ x))
 slice_get-last [] y zero x e = inr (refl, cc)
 slice_get-last [] y (suc i) x e = cc
 slice_get-last (z ∷ xs) y zero x e = inl e
@@ -100,7 +102,8 @@ length-changes_of (x ∷ xs) = ap suc (length-changes_of xs)
 pub records_of-extended : (xs ys : List AcceptedChange) (v : ℕ) → v ≤ length xs → records_of (xs ++ ys) v ≡ records_of xs v
 records_of-extended xs ys v h =
     let within : v ≤ length (changes_of xs) = omega (arith, h, length-changes_of xs) in
-    ap (λ cs. after_changes no_records (take v cs)) (changes_of-append xs ys) ∙ ap (after_changes no_records) (take-append-le v (changes_of xs) (changes_of ys) within)
+    ap (λ cs. after_changes no_records (take v cs)) (changes_of-append xs ys)
+    ∙ ap (after_changes no_records) (take-append-le v (changes_of xs) (changes_of ys) within)
 
 after_changes-last : (old : Records) (cs : List Change) (c : Change) → after_changes old (cs ++ c ∷ []) ≡ changed (after_changes old cs) c
 after_changes-last old [] c = refl
@@ -112,17 +115,20 @@ changes_of-at (x ∷ xs) zero e h = ap (option_map (λ (e : AcceptedChange). e.c
 changes_of-at (x ∷ xs) (suc v) e h = changes_of-at xs v e h
 
 -- the records one version on are those after the change of that number
-pub records_of-next : (xs : List AcceptedChange) (v : ℕ) (e : AcceptedChange) → slice_get xs v ≡ Some e → records_of xs (v + 1) ≡ changed (records_of xs v) e.change
+pub records_of-next : (xs : List AcceptedChange) (v : ℕ) (e : AcceptedChange) → slice_get xs v ≡ Some e
+    → records_of xs (v + 1) ≡ changed (records_of xs v) e.change
 records_of-next xs v e h =
     let at = changes_of-at xs v e h in
     let within = slice_get_within (changes_of xs) v e.change at in
     let is = get_or_from_slice_get (changes_of xs) v e.change e.change at in
-    ap (after_changes no_records) (take_more (changes_of xs) v e.change within ∙ ap (λ c. take v (changes_of xs) ++ c ∷ []) is) ∙ after_changes-last no_records (take v (changes_of xs)) e.change
+    ap (after_changes no_records) (take_more (changes_of xs) v e.change within ∙ ap (λ c. take v (changes_of xs) ++ c ∷ []) is)
+    ∙ after_changes-last no_records (take v (changes_of xs)) e.change
 
 -- leaves --------------------------------------------------------------------------------------------------------------
 
 -- more accepted changes leave the leaves
-pub leaves_at-extended : (xs ys : List AcceptedChange) (first : ℕ) (vs : List ℕ) → AllAtMost (length xs) vs → leaves_at (xs ++ ys) first vs ≡ leaves_at xs first vs
+pub leaves_at-extended : (xs ys : List AcceptedChange) (first : ℕ) (vs : List ℕ) → AllAtMost (length xs) vs
+    → leaves_at (xs ++ ys) first vs ≡ leaves_at xs first vs
 leaves_at-extended xs ys first [] a = refl
 leaves_at-extended xs ys first (v ∷ vs) a = rw (records_of-extended xs ys v a.0, leaves_at-extended xs ys (first + 1) vs a.1) refl
 
@@ -130,13 +136,15 @@ leaves_at-extended xs ys first (v ∷ vs) a = rw (records_of-extended xs ys v a.
 abbrev pub leaf_of : List AcceptedChange → ℕ → ℕ → Leaf
 leaf_of accepted number v = record { number = number; version = v; records = records_of accepted v }
 
-pub leaves_at-get : (xs : List AcceptedChange) (first : ℕ) (vs : List ℕ) (i : ℕ) → slice_get (leaves_at xs first vs) i ≡ option_map (λ v. leaf_of xs (first + i) v) (slice_get vs i)
+pub leaves_at-get : (xs : List AcceptedChange) (first : ℕ) (vs : List ℕ) (i : ℕ)
+    → slice_get (leaves_at xs first vs) i ≡ option_map (λ v. leaf_of xs (first + i) v) (slice_get vs i)
 leaves_at-get xs first [] i = refl
 leaves_at-get xs first (v ∷ vs) zero = let same : first + 0 ≡ first = omega arith in rw same refl
 leaves_at-get xs first (v ∷ vs) (suc i) = let same : first + suc i ≡ first + 1 + i = omega arith in rw same (leaves_at-get xs (first + 1) vs i)
 
 -- one leaf at another version
-pub leaves_at-set : (xs : List AcceptedChange) (first : ℕ) (vs : List ℕ) (i v : ℕ) → slice_set (leaves_at xs first vs) i (leaf_of xs (first + i) v) ≡ leaves_at xs first (slice_set vs i v)
+pub leaves_at-set : (xs : List AcceptedChange) (first : ℕ) (vs : List ℕ) (i v : ℕ)
+    → slice_set (leaves_at xs first vs) i (leaf_of xs (first + i) v) ≡ leaves_at xs first (slice_set vs i v)
 leaves_at-set xs first [] i v = refl
 leaves_at-set xs first (x ∷ vs) zero v = let same : first + 0 ≡ first = omega arith in rw same refl
 leaves_at-set xs first (x ∷ vs) (suc i) v =

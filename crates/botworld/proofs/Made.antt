@@ -18,15 +18,18 @@ use Rattle.botworld.proofs.Lawful.{Goes, goes, made_gives}
 
 -- what a step gives where memory holds out is one of its outcomes -----------------------------------------------------------
 
-answered-comes : (bot : ℕ) (old : Net) (hub : Hub) (leaves : List Leaf) (r : Result Answer LinkFault) → let given = answered bot old hub leaves r in ComesOf old given given.outcome given.after
+answered-comes : (bot : ℕ) (old : Net) (hub : Hub) (leaves : List Leaf) (r : Result Answer LinkFault)
+    → let given = answered bot old hub leaves r in ComesOf old given given.outcome given.after
 answered-comes bot old hub leaves (Ok answer) = (refl, refl)
 answered-comes bot old hub leaves (Err fault) = (refl, refl)
 
-leaf_met-comes : (old : Net) (place : ℕ) (leaf_row : Leaf → Row Leaf) (found : Option Leaf) → let given = leaf_met old place leaf_row found in ComesOf old given given.outcome given.after
+leaf_met-comes : (old : Net) (place : ℕ) (leaf_row : Leaf → Row Leaf) (found : Option Leaf)
+    → let given = leaf_met old place leaf_row found in ComesOf old given given.outcome given.after
 leaf_met-comes old place leaf_row None = (refl, refl)
 leaf_met-comes old place leaf_row (Some leaf) = answered-comes _ old old.hub _ (leaf_row leaf).answer
 
-at_bot-comes : (old : Net) (bot : ℕ) (hub_row : Hub → Row Hub) (leaf_row : Leaf → Row Leaf) → let given = at_bot old bot hub_row leaf_row in ComesOf old given given.outcome given.after
+at_bot-comes : (old : Net) (bot : ℕ) (hub_row : Hub → Row Hub) (leaf_row : Leaf → Row Leaf)
+    → let given = at_bot old bot hub_row leaf_row in ComesOf old given given.outcome given.after
 at_bot-comes old zero hub_row leaf_row = answered-comes 0 old (hub_row old.hub).after old.leaves (hub_row old.hub).answer
 at_bot-comes old (suc place) hub_row leaf_row = leaf_met-comes old place leaf_row (slice_get old.leaves place)
 

@@ -1,5 +1,6 @@
 -- Each packet that is sent tells the truth, and goes on doing so.
-use Rattle.std.proofs.Common.{◌≡◌, ◌⊎◌, inl, inr, ℕ, zero, suc, ◌+◌, ◌-◌, ◌<◌, ◌≤◌, List, [], ◌∷◌, ◌++◌, length, take, drop, slice_get, Option, None, Some, refl, ap, sym, subst, ◌∙◌, arith, append_assoc, length-append}
+use Rattle.std.proofs.Common.{◌≡◌, ◌⊎◌, inl, inr, ℕ, zero, suc, ◌+◌, ◌-◌, ◌<◌, ◌≤◌, List, [], ◌∷◌, ◌++◌, length, take, drop, slice_get, Option, None, Some}
+use Rattle.std.proofs.Common.{refl, ap, sym, subst, ◌∙◌, arith, append_assoc, length-append}
 use Rattle.std.proofs.lemmas.List.{take-append-drop, length-take-le}
 use Rattle.std.proofs.lemmas.Option.{slice_get_within}
 use Rattle.userfile.specs.Records.{Records}
@@ -69,7 +70,8 @@ served_are_true xs leaf v h =
     (subst (λ (l : List AcceptedChange). AllTrue l (posted 0 (numbered_from leaf (length (take v xs)) (take 16 (drop v xs))))) whole all)
 
 -- each accepted change was taken, the last one too
-pub AllTaken-last : (xs : List AcceptedChange) (e : AcceptedChange) → AllTaken xs → refusal (records_of xs (length xs)) e.change ≡ None → AllTaken (xs ++ e ∷ [])
+pub AllTaken-last : (xs : List AcceptedChange) (e : AcceptedChange) → AllTaken xs → refusal (records_of xs (length xs)) e.change ≡ None
+    → AllTaken (xs ++ e ∷ [])
 AllTaken-last xs e taken last place entry at =
     elim (slice_get-last xs e place entry at) [
       | inl old ↦ let within : place ≤ length xs = omega (arith, slice_get_within xs place entry old) in

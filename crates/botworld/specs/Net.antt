@@ -1,5 +1,6 @@
 -- What a world is to a contract, and what one step makes of it.
-use Rattle.std.specs.Prelude.{◌≡◌, ℕ, zero, suc, ◌+◌, nat_le, if◌then◌else◌, List, [], ◌∷◌, ◌++◌, length, slice_get, slice_set, Option, None, Some, Result, Ok, Err}
+use Rattle.std.specs.Prelude.{◌≡◌, ℕ, zero, suc, ◌+◌, nat_le, if◌then◌else◌, List, [], ◌∷◌, ◌++◌, length, slice_get, slice_set, Option, None, Some, Result}
+use Rattle.std.specs.Prelude.{Ok, Err}
 use Rattle.userfile.specs.declared.change.Change.{Change}
 use Rattle.sharelink.specs.Meets.{Row, TakesMemory}
 use Rattle.sharelink.specs.HubRules.{Hub, new_hub, hub_asked, hub_pumped, hub_received}

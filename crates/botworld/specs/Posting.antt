@@ -14,7 +14,8 @@ use Rattle.botworld.specs.Net.{posted}
 -- the outcome that tells of an answer, and the packets after it
 abbrev pub Finishes : List Sent → ℕ → Result Answer (Failure LinkFault) → Outcome → List Sent → Type 0
 Finishes old bot (Ok answer) outcome new =
-    (outcome ≡ reported (record { bot = bot; end = ended answer.note; first = length old + 1; count = length answer.packets })) × (new ≡ old ++ posted bot answer.packets)
+    (outcome ≡ reported (record { bot = bot; end = ended answer.note; first = length old + 1; count = length answer.packets }))
+    × (new ≡ old ++ posted bot answer.packets)
 Finishes old bot (Err (Refused fault)) outcome new =
     (outcome ≡ reported (record { bot = bot; end = ended_refused fault; first = length old + 1; count = 0 })) × (new ≡ old)
 Finishes old bot (Err NoMemory) outcome new =

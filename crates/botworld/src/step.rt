@@ -31,7 +31,7 @@ pub enum Step {
         /// What it is told.
         event: Event,
     },
-    /// The packet of this number, from 1 in the order of sending, reaches its addressee, perhaps not for the first time.
+    /// The packet of this number, from 1 in the order of sending, reaches its addressee, perhaps once more.
     Deliver {
         /// The packet's number.
         packet: u64,

@@ -34,15 +34,18 @@ impl Model for World {
 }
 
 impl World {
-    ghost use Rattle.std.specs.Prelude.{◌≡◌, ◌<◌, ◌≤◌, ◌↔◌, ◌⊎◌, ℕ, Some, None, nat_lt, true, length, take, IfOk, IfSome, IsErrOf, MatchResult};
+    ghost use Rattle.std.specs.Prelude.{◌≡◌, ◌<◌, ◌≤◌, ◌↔◌, ◌⊎◌, ℕ, Some, None, nat_lt, true, length, take, IfOk};
+    ghost use Rattle.std.specs.Prelude.{IfSome, IsErrOf, MatchResult};
     ghost use Rattle.std.specs.Option.{option_copied, option_map};
     ghost use Rattle.userfile.specs.Versions.{records_at};
     ghost use Rattle.sharelink.specs.HubRules.{hub_asked, hub_pumped};
     ghost use Rattle.sharelink.specs.LeafRules.{leaf_asked, leaf_pumped};
     ghost use Rattle.sharelink.specs.declared.TheConstants.{MAX_LEAVES};
-    ghost use Rattle.botworld.specs.Net.{new_net, packet_at, at_bot, delivered, ComesOf, NetStep, missing, missing_bot, TakesPartAt};
+    ghost use Rattle.botworld.specs.Net.{new_net, packet_at, at_bot, delivered, ComesOf, NetStep, missing};
+    ghost use Rattle.botworld.specs.Net.{missing_bot, TakesPartAt};
     ghost use Rattle.botworld.specs.Network.{State, start, records_of};
-    ghost use Rattle.botworld.specs.Standing.{Stands, LeadsTo, IsTrueChange, SameRecords, NeverBack, shown_version, shown_records};
+    ghost use Rattle.botworld.specs.Standing.{Stands, LeadsTo, IsTrueChange, SameRecords, NeverBack, shown_version};
+    ghost use Rattle.botworld.specs.Standing.{shown_records};
 
     /// A hub and this many leaves, none of which has a change.
     ///
@@ -78,7 +81,8 @@ impl World {
     /// The userfile of a bot at its version; none where there is no such bot. Takes no memory.
     pub fn userfile(&self, bot: u16) -> Option<&Userfile>
         ensures shown { option_copied result ≡ shown_records self.now bot }
-        ensures at_version { (s : State) → Stands self.now s → (v : ℕ) → shown_version self.now bot ≡ Some v → option_copied result ≡ Some (records_of s.accepted v) }
+        ensures at_version { (s : State) → Stands self.now s → (v : ℕ) → shown_version self.now bot ≡ Some v
+            → option_copied result ≡ Some (records_of s.accepted v) }
     {
         self.shown(bot)
     }
@@ -86,22 +90,25 @@ impl World {
     /// The packet of this number, from 1 in the order of sending; none where there is none. Takes no memory.
     pub fn packet(&self, number: u64) -> Option<&Sent>
         ensures lent { option_copied result ≡ packet_at self.now.packets number }
-        ensures true_change { (s : State) → Stands self.now s → IfSome (option_copied result) (λ sent. IsTrueChange s.accepted sent.packet) }
+        ensures true_change { (s : State) → Stands self.now s
+            → IfSome (option_copied result) (λ sent. IsTrueChange s.accepted sent.packet) }
     {
         self.lent(number)
     }
 
     /// Makes steps in order, and tells the outcome of each. Where room for the next step is refused, it is not made,
-    /// the run is `cut` there, and the steps before it stand. Room for all outcomes is made before the first step; a step
-    /// in which no bot takes part needs no more.
+    /// the run is `cut` there, and the steps before it stand. Room for all outcomes is made before the first step; a
+    /// step in which no bot takes part needs no more.
     pub fn run(&mut self, alloc: Global, steps: &[Step]) -> Transcript
         // The steps and outcomes are a run of the network.
-        ensures leads { (s : State) → Stands self.old s → LeadsTo s (take (length result.outcomes) steps.now) result.outcomes self.new }
+        ensures leads { (s : State) → Stands self.old s
+            → LeadsTo s (take (length result.outcomes) steps.now) result.outcomes self.new }
         // It is cut exactly where outcomes are fewer than steps, and they are never more.
         ensures whole { result.cut ≡ nat_lt (length result.outcomes) (length steps.now) }
         ensures at_most { length result.outcomes ≤ length steps.now }
         // It is cut before the first step, or at a step in which a bot takes part.
-        ensures cut_at { result.cut ≡ true → (length result.outcomes ≡ 0) ⊎ TakesPartAt self.new steps.now (length result.outcomes) }
+        ensures cut_at { result.cut ≡ true
+            → (length result.outcomes ≡ 0) ⊎ TakesPartAt self.new steps.now (length result.outcomes) }
         // Two bots that show one version, the one before the run and the other after it, hold the same records.
         ensures same_records { (s : State) → Stands self.old s → SameRecords self.old self.new }
         // So do two bots that show one version after the run.
@@ -135,10 +142,12 @@ impl World {
 
     // As `run`: the steps and outcomes are a run of the network.
     fn run_all(&mut self, alloc: Global, steps: &[Step]) -> Transcript
-        ensures leads { (s : State) → Stands self.old s → LeadsTo s (take (length result.outcomes) steps.now) result.outcomes self.new }
+        ensures leads { (s : State) → Stands self.old s
+            → LeadsTo s (take (length result.outcomes) steps.now) result.outcomes self.new }
         ensures whole { result.cut ≡ nat_lt (length result.outcomes) (length steps.now) }
         ensures at_most { length result.outcomes ≤ length steps.now }
-        ensures cut_at { result.cut ≡ true → (length result.outcomes ≡ 0) ⊎ TakesPartAt self.new steps.now (length result.outcomes) }
+        ensures cut_at { result.cut ≡ true
+            → (length result.outcomes ≡ 0) ⊎ TakesPartAt self.new steps.now (length result.outcomes) }
     {
         let Ok(mut outcomes) = Vec::with_capacity(alloc, steps.len()) else {
             return Transcript {
@@ -165,7 +174,8 @@ impl World {
 
     // Makes a step, or nothing where room for it is refused. A step in which no bot takes part needs none.
     fn make(&mut self, alloc: Global, step: &Step) -> Result<Outcome, NoMemory>
-        ensures { MatchResult result (λ o. NetStep self.old step.now o self.new) (λ _. (missing self.old step.now ≡ None) × (self.new ≡ self.old)) }
+        ensures { MatchResult result (λ o. NetStep self.old step.now o self.new)
+            (λ _. (missing self.old step.now ≡ None) × (self.new ≡ self.old)) }
     {
         match self.missing(step) {
             Some(outcome) => Ok(outcome),
@@ -216,7 +226,9 @@ impl World {
 
     // An ask of a bot.
     fn ask(&mut self, alloc: Global, bot: u16, change: &Change) -> Result<Outcome, NoMemory>
-        ensures { MatchResult result (λ o. ComesOf self.old (at_bot self.old bot (λ hub. hub_asked hub change.now) (λ leaf. leaf_asked leaf change.now)) o self.new) (λ _. self.new ≡ self.old) }
+        ensures { MatchResult result (λ o. ComesOf self.old
+            (at_bot self.old bot (λ hub. hub_asked hub change.now) (λ leaf. leaf_asked leaf change.now)) o self.new)
+            (λ _. self.new ≡ self.old) }
     {
         let change = change.copy(alloc)?;
         self.packets.reserve(MOST_SENT)?;
@@ -234,7 +246,8 @@ impl World {
 
     // A pump of a bot.
     fn pump(&mut self, alloc: Global, bot: u16) -> Result<Outcome, NoMemory>
-        ensures { MatchResult result (λ o. ComesOf self.old (at_bot self.old bot hub_pumped leaf_pumped) o self.new) (λ _. self.new ≡ self.old) }
+        ensures { MatchResult result (λ o. ComesOf self.old (at_bot self.old bot hub_pumped leaf_pumped) o self.new)
+            (λ _. self.new ≡ self.old) }
     {
         self.packets.reserve(MOST_SENT)?;
         if bot == 0 {
@@ -251,7 +264,8 @@ impl World {
 
     // A delivery of a packet to its addressee.
     fn deliver(&mut self, alloc: Global, packet: u64) -> Result<Outcome, NoMemory>
-        ensures { MatchResult result (λ o. ComesOf self.old (delivered self.old (packet_at self.old.packets packet)) o self.new) (λ _. self.new ≡ self.old) }
+        ensures { MatchResult result (λ o. ComesOf self.old (delivered self.old (packet_at self.old.packets packet)) o
+            self.new) (λ _. self.new ≡ self.old) }
     {
         self.packets.reserve(MOST_SENT)?;
         if packet == 0 || packet > self.packets.len() as u64 {

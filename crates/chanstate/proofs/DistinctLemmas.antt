@@ -1,13 +1,13 @@
--- Lists in which no two elements have alike names.
+-- Lists in which no two elements have is_same names.
 use Rattle.std.proofs.Common.{◌≡◌, ℕ, Bool, true, false, cond, ◌||◌, List, [], ◌∷◌, ◌++◌, map, refl, ap, ◌∙◌}
 use Rattle.std.specs.List.{list_any}
-use Rattle.chanstate.specs.Names.{alike}
+use Rattle.rfccase.specs.Casemapping.{is_same}
 use Rattle.chanstate.specs.Firsts.{first_removed, first_changed}
-use Rattle.chanstate.proofs.FindLemmas.{alike-left, alike-sym, or-parts, any-agree, any-removed, any-changed, any-end, AtMostOne, Within}
+use Rattle.chanstate.proofs.FindLemmas.{is_same-left, is_same-sym, or-parts, any-agree, any-removed, any-changed, any-end, AtMostOne, Within}
 
 -- the test for a name
 abbrev pub by : {X : Type 0} → (X → List ℕ) → List ℕ → X → Bool
-by key name x = alike name (key x)
+by key name x = is_same name (key x)
 
 abbrev pub Distinct : {X : Type 0} → (X → List ℕ) → List X → Type 0
 Distinct key [] = Unit {0}
@@ -16,7 +16,7 @@ Distinct key (x ∷ xs) = (list_any (by key (key x)) xs ≡ false) × Distinct k
 pub at_most_one : {X : Type 0} (key : X → List ℕ) (name : List ℕ) (xs : List X) → Distinct key xs → AtMostOne (by key name) xs
 at_most_one key name [] distinct = tt
 at_most_one key name (x ∷ xs) distinct =
-    (λ is. any-agree (by key name) (by key (key x)) (λ y. alike-left name (key x) (key y) is) xs ∙ distinct.0, at_most_one key name xs distinct.1)
+    (λ is. any-agree (by key name) (by key (key x)) (λ y. is_same-left name (key x) (key y) is) xs ∙ distinct.0, at_most_one key name xs distinct.1)
 
 removed_step : {X : Type 0} (key : X → List ℕ) (b : Bool) (x : X) (xs ys : List X) → Distinct key xs → (list_any (by key (key x)) ys ≡ false) × Distinct key ys → Distinct key (cond b xs (x ∷ ys))
 removed_step key true x xs ys distinct rest = distinct
@@ -37,13 +37,13 @@ distinct-changed key q f keeps [] distinct = tt
 distinct-changed key q f keeps (x ∷ xs) distinct =
     changed_step key (q x) (f x) x xs (first_changed q f xs)
     (λ _. (ap (λ name. list_any (by key name) xs) (keeps x) ∙ distinct.0, distinct.1))
-    (λ _. (any-changed (by key (key x)) q f xs distinct.0 (λ y none. ap (alike (key x)) (keeps y) ∙ none), distinct-changed key q f keeps xs distinct.1))
+    (λ _. (any-changed (by key (key x)) q f xs distinct.0 (λ y none. ap (is_same (key x)) (keeps y) ∙ none), distinct-changed key q f keeps xs distinct.1))
 
 pub distinct-end : {X : Type 0} (key : X → List ℕ) (xs : List X) (y : X) → Distinct key xs → list_any (by key (key y)) xs ≡ false → Distinct key (xs ++ y ∷ [])
 distinct-end key [] y distinct none = (refl, tt)
 distinct-end key (x ∷ xs) y distinct none =
-    let parts = or-parts (alike (key y) (key x)) (list_any (by key (key y)) xs) none in
-    (any-end (by key (key x)) xs y distinct.0 (alike-sym (key x) (key y) ∙ parts.0), distinct-end key xs y distinct.1 parts.1)
+    let parts = or-parts (is_same (key y) (key x)) (list_any (by key (key y)) xs) none in
+    (any-end (by key (key x)) xs y distinct.0 (is_same-sym (key x) (key y) ∙ parts.0), distinct-end key xs y distinct.1 parts.1)
 
 -- what passes p passes q
 pub within-all : {X : Type 0} (p q : X → Bool) → ((x : X) → q x ≡ false → p x ≡ false) → (xs : List X) → Within p q xs
@@ -65,7 +65,7 @@ distinct-renamed key f old new made (x ∷ xs) distinct within =
     changed_step key (by key old x) (f x) x xs (first_changed (by key old) f xs)
     (λ is. (ap (λ name. list_any (by key name) xs) (made x) ∙ none_within (by key new) (by key old) xs within.1 ((at_most_one key old (x ∷ xs) distinct).0 is), distinct.1))
     (λ is. (
-      any-changed (by key (key x)) (by key old) f xs distinct.0 (λ y none. ap (alike (key x)) (made y) ∙ (alike-sym (key x) new ∙ within.0 is)),
+      any-changed (by key (key x)) (by key old) f xs distinct.0 (λ y none. ap (is_same (key x)) (made y) ∙ (is_same-sym (key x) new ∙ within.0 is)),
       distinct-renamed key f old new made xs distinct.1 within.1,
     ))
 
@@ -76,6 +76,6 @@ any-map p q f same (x ∷ xs) = ap (λ b. b || list_any p (map f xs)) (same x) �
 pub distinct-map : {X : Type 0} (key : X → List ℕ) (f : X → X) → ((x : X) → key (f x) ≡ key x) → (xs : List X) → Distinct key xs → Distinct key (map f xs)
 distinct-map key f keeps [] distinct = tt
 distinct-map key f keeps (x ∷ xs) distinct = (
-  ap (λ name. list_any (by key name) (map f xs)) (keeps x) ∙ (any-map (by key (key x)) (by key (key x)) f (λ y. ap (alike (key x)) (keeps y)) xs ∙ distinct.0),
+  ap (λ name. list_any (by key name) (map f xs)) (keeps x) ∙ (any-map (by key (key x)) (by key (key x)) f (λ y. ap (is_same (key x)) (keeps y)) xs ∙ distinct.0),
   distinct-map key f keeps xs distinct.1,
 )

@@ -6,16 +6,16 @@ use Rattle.std.specs.List.{list_any}
 use Rattle.std.specs.Cmp.Lexicographic.{pointwise}
 use Rattle.std.proofs.lemmas.Bool.{cond-true, cond-false, eqb-true, eq-eqb}
 use Rattle.rfccase.specs.Casemapping.{folded}
-use Rattle.chanstate.specs.Names.{alike}
+use Rattle.rfccase.specs.Casemapping.{is_same}
 use Rattle.chanstate.specs.Firsts.{first_removed, first_changed}
 
--- names that are alike
+-- names that are is_same
 
 both-true : (a b : Bool) → (a && b) ≡ true → (a ≡ true) × (b ≡ true)
 both-true true b is = (refl, is)
 both-true false b is = cc
 
-pointwise-same : (xs ys : List ℕ) → pointwise nat_eq xs ys ≡ true → xs ≡ ys
+pub pointwise-same : (xs ys : List ℕ) → pointwise nat_eq xs ys ≡ true → xs ≡ ys
 pointwise-same [] [] is = refl
 pointwise-same [] (y ∷ ys) is = cc
 pointwise-same (x ∷ xs) [] is = cc
@@ -25,22 +25,22 @@ pointwise-same (x ∷ xs) (y ∷ ys) is =
     let tails = pointwise-same xs ys parts.1 in
     cc
 
-pointwise-refl : (xs : List ℕ) → pointwise nat_eq xs xs ≡ true
+pub pointwise-refl : (xs : List ℕ) → pointwise nat_eq xs xs ≡ true
 pointwise-refl [] = refl
 pointwise-refl (x ∷ xs) = rw (eq-eqb x x refl) (pointwise-refl xs)
 
-pub alike-refl : (a : List ℕ) → alike a a ≡ true
-alike-refl a = pointwise-refl (folded a)
+pub is_same-refl : (a : List ℕ) → is_same a a ≡ true
+is_same-refl a = pointwise-refl (folded a)
 
-pub folds-same : (a b : List ℕ) → alike a b ≡ true → folded a ≡ folded b
+pub folds-same : (a b : List ℕ) → is_same a b ≡ true → folded a ≡ folded b
 folds-same a b is = pointwise-same (folded a) (folded b) is
 
--- alike names are alike to the same names
-pub alike-left : (a b x : List ℕ) → alike a b ≡ true → alike a x ≡ alike b x
-alike-left a b x is = ap (λ f. pointwise nat_eq f (folded x)) (folds-same a b is)
+-- is_same names are is_same to the same names
+pub is_same-left : (a b x : List ℕ) → is_same a b ≡ true → is_same a x ≡ is_same b x
+is_same-left a b x is = ap (λ f. pointwise nat_eq f (folded x)) (folds-same a b is)
 
-pub alike-right : (a b x : List ℕ) → alike a b ≡ true → alike x a ≡ alike x b
-alike-right a b x is = ap (λ f. pointwise nat_eq (folded x) f) (folds-same a b is)
+pub is_same-right : (a b x : List ℕ) → is_same a b ≡ true → is_same x a ≡ is_same x b
+is_same-right a b x is = ap (λ f. pointwise nat_eq (folded x) f) (folds-same a b is)
 
 same-truth : (a b : Bool) → (a ≡ true → b ≡ true) → (b ≡ true → a ≡ true) → a ≡ b
 same-truth true true f g = refl
@@ -48,14 +48,14 @@ same-truth true false f g = sym (f refl)
 same-truth false true f g = g refl
 same-truth false false f g = refl
 
-pub alike-sym : (a b : List ℕ) → alike a b ≡ alike b a
-alike-sym a b = same-truth (alike a b) (alike b a)
-    (λ is. sym (alike-left a b a is) ∙ alike-refl a)
-    (λ is. sym (alike-left b a b is) ∙ alike-refl b)
+pub is_same-sym : (a b : List ℕ) → is_same a b ≡ is_same b a
+is_same-sym a b = same-truth (is_same a b) (is_same b a)
+    (λ is. sym (is_same-left a b a is) ∙ is_same-refl a)
+    (λ is. sym (is_same-left b a b is) ∙ is_same-refl b)
 
--- two that are alike to a third are alike
-pub alike-apart : (x y k : List ℕ) → alike x y ≡ false → alike y k ≡ true → alike x k ≡ false
-alike-apart x y k apart is = sym (alike-right y k x is) ∙ apart
+-- two that are is_same to a third are is_same
+pub is_same-apart : (x y k : List ℕ) → is_same x y ≡ false → is_same y k ≡ true → is_same x k ≡ false
+is_same-apart x y k apart is = sym (is_same-right y k x is) ∙ apart
 
 -- first elements
 

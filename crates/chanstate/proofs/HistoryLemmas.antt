@@ -7,7 +7,7 @@ use Rattle.chanstate.specs.declared.member.Mark.TheVariants.{Op, Voice, HalfOp}
 use Rattle.chanstate.specs.declared.channel.Channel.{Channel}
 use Rattle.chanstate.specs.declared.state.ChanState.{ChanState}
 use Rattle.ircline.specs.declared.message.Message.{Message}
-use Rattle.chanstate.specs.Names.{alike}
+use Rattle.rfccase.specs.Casemapping.{is_same}
 use Rattle.chanstate.specs.Members.{is_called, with_nick}
 use Rattle.chanstate.specs.Channels.{with_topic, with_members}
 use Rattle.chanstate.specs.Items.{Item, Welcomed, Joined, Left, Departed, Renamed, Marked, Titled, Listed, Addressed, items_of}
@@ -16,7 +16,7 @@ use Rattle.chanstate.specs.Views.{connected, channel_in, members_of, member_in}
 use Rattle.chanstate.specs.History.{own, own_said, held, channel_said, topic, topic_said, spelling, name_said, on, nick_said, known, member_said, has_mark, marked, mark_begins, mark_says, user_begins, user_says, host_begins, host_says, nick_begins, nick_says, IsAsSaid, Agrees, before, history_from, history, after_all, arrival, joins, opening}
 use Rattle.chanstate.proofs.FindLemmas.{list_any-find}
 use Rattle.chanstate.proofs.DistinctLemmas.{Distinct}
-use Rattle.chanstate.proofs.OrderLemmas.{Ordered, at, on_name, arrival-alike, order-after, channels-in-order}
+use Rattle.chanstate.proofs.OrderLemmas.{Ordered, at, on_name, arrival-is_same, order-after, channels-in-order}
 use Rattle.chanstate.proofs.LookLemmas.{rename_as, rename_as-none, rename_as-some}
 use Rattle.chanstate.proofs.ItemLemmas.{nick_of_member, name_of, channel_after, channel_in-step, distinct-step, members-after, member_after, member-after}
 use Rattle.chanstate.proofs.PartLemmas.{Has, Part, known-after, nick_part, user_part, host_part, op_part, voice_part, half_op_part}
@@ -33,10 +33,10 @@ one_nick false s t is = refl
 
 own-step : (item : Item) (s : ChanState) → (step item s).nick ≡ unwrap_or (own_said item s.nick) s.nick
 own-step (Welcomed nick) s = refl
-own-step (Joined nick user host d) s = one_nick (alike nick s.nick) _ _ refl
-own-step (Left nick d) s = one_nick (alike nick s.nick) _ _ refl
-own-step (Departed nick) s = one_nick (alike nick s.nick) _ _ refl
-own-step (Renamed old new) s = chosen (alike old s.nick) new s.nick
+own-step (Joined nick user host d) s = one_nick (is_same nick s.nick) _ _ refl
+own-step (Left nick d) s = one_nick (is_same nick s.nick) _ _ refl
+own-step (Departed nick) s = one_nick (is_same nick s.nick) _ _ refl
+own-step (Renamed old new) s = chosen (is_same old s.nick) new s.nick
 own-step (Marked d mark set nick) s = refl
 own-step (Titled d topic) s = refl
 own-step (Listed d one) s = refl
@@ -64,14 +64,14 @@ h_left false b2 w o is = refl
 
 held-after : (item : Item) (me c : List ℕ) (o : Option Channel) → is_some (channel_after item me c o) ≡ unwrap_or (channel_said item me c) (is_some o)
 held-after (Welcomed nick) me c o = refl
-held-after (Joined nick user host d) me c o = h_joined (alike c d) (alike nick me) _ _ o (some-map _ o)
-held-after (Left nick d) me c o = h_left (alike c d) (alike nick me) _ o (some-map _ o)
-held-after (Departed nick) me c o = h_left true (alike nick me) _ o (some-map _ o)
+held-after (Joined nick user host d) me c o = h_joined (is_same c d) (is_same nick me) _ _ o (some-map _ o)
+held-after (Left nick d) me c o = h_left (is_same c d) (is_same nick me) _ o (some-map _ o)
+held-after (Departed nick) me c o = h_left true (is_same nick me) _ o (some-map _ o)
 held-after (Renamed old new) me c o = some-map _ o
-held-after (Marked d mark set nick) me c o = some_same (alike c d) o _ (some-map _ o)
-held-after (Titled d topic) me c o = some_same (alike c d) o _ (some-map _ o)
-held-after (Listed d one) me c o = some_same (alike c d) o _ (some-map _ o)
-held-after (Addressed d nick user host) me c o = some_same (alike c d) o _ (some-map _ o)
+held-after (Marked d mark set nick) me c o = some_same (is_same c d) o _ (some-map _ o)
+held-after (Titled d topic) me c o = some_same (is_same c d) o _ (some-map _ o)
+held-after (Listed d one) me c o = some_same (is_same c d) o _ (some-map _ o)
+held-after (Addressed d nick user host) me c o = some_same (is_same c d) o _ (some-map _ o)
 
 -- ---- topics
 
@@ -103,14 +103,14 @@ t_titled false t new o is = is
 
 topic-after : (item : Item) (me c t : List ℕ) (o : Option Channel) → HasTopic t o → HasTopic (unwrap_or (topic_said item me c) t) (channel_after item me c o)
 topic-after (Welcomed nick) me c t o is = tt
-topic-after (Joined nick user host d) me c t o is = t_joined (alike c d) (alike nick me) t _ _ o refl (t_members t _ o is) is
-topic-after (Left nick d) me c t o is = t_left (alike c d) (alike nick me) t _ o (t_members t _ o is) is
-topic-after (Departed nick) me c t o is = t_left true (alike nick me) t _ o (t_members t _ o is) is
+topic-after (Joined nick user host d) me c t o is = t_joined (is_same c d) (is_same nick me) t _ _ o refl (t_members t _ o is) is
+topic-after (Left nick d) me c t o is = t_left (is_same c d) (is_same nick me) t _ o (t_members t _ o is) is
+topic-after (Departed nick) me c t o is = t_left true (is_same nick me) t _ o (t_members t _ o is) is
 topic-after (Renamed old new) me c t o is = t_members t _ o is
-topic-after (Marked d mark set nick) me c t o is = t_same (alike c d) t _ o (t_members t _ o is) is
-topic-after (Titled d new) me c t o is = t_titled (alike c d) t new o is
-topic-after (Listed d one) me c t o is = t_same (alike c d) t _ o (t_members t _ o is) is
-topic-after (Addressed d nick user host) me c t o is = t_same (alike c d) t _ o (t_members t _ o is) is
+topic-after (Marked d mark set nick) me c t o is = t_same (is_same c d) t _ o (t_members t _ o is) is
+topic-after (Titled d new) me c t o is = t_titled (is_same c d) t new o is
+topic-after (Listed d one) me c t o is = t_same (is_same c d) t _ o (t_members t _ o is) is
+topic-after (Addressed d nick user host) me c t o is = t_same (is_same c d) t _ o (t_members t _ o is) is
 
 -- ---- spellings
 
@@ -137,14 +137,14 @@ n_left false b2 t w o one two = two
 
 name-after : (item : Item) (me c t : List ℕ) (o : Option Channel) → HasName t o → HasName (unwrap_or (name_said item me c) t) (channel_after item me c o)
 name-after (Welcomed nick) me c t o is = tt
-name-after (Joined nick user host d) me c t o is = n_joined (alike c d) (alike nick me) t d _ _ o refl (n_mapped t _ (λ ch. refl) o is) is
-name-after (Left nick d) me c t o is = n_left (alike c d) (alike nick me) t _ o (n_mapped t _ (λ ch. refl) o is) is
-name-after (Departed nick) me c t o is = n_left true (alike nick me) t _ o (n_mapped t _ (λ ch. refl) o is) is
+name-after (Joined nick user host d) me c t o is = n_joined (is_same c d) (is_same nick me) t d _ _ o refl (n_mapped t _ (λ ch. refl) o is) is
+name-after (Left nick d) me c t o is = n_left (is_same c d) (is_same nick me) t _ o (n_mapped t _ (λ ch. refl) o is) is
+name-after (Departed nick) me c t o is = n_left true (is_same nick me) t _ o (n_mapped t _ (λ ch. refl) o is) is
 name-after (Renamed old new) me c t o is = n_mapped t _ (λ ch. refl) o is
-name-after (Marked d mark set nick) me c t o is = n_same (alike c d) t _ o (n_mapped t _ (λ ch. refl) o is) is
-name-after (Titled d new) me c t o is = n_same (alike c d) t _ o (n_mapped t _ (λ ch. refl) o is) is
-name-after (Listed d one) me c t o is = n_same (alike c d) t _ o (n_mapped t _ (λ ch. refl) o is) is
-name-after (Addressed d nick user host) me c t o is = n_same (alike c d) t _ o (n_mapped t _ (λ ch. refl) o is) is
+name-after (Marked d mark set nick) me c t o is = n_same (is_same c d) t _ o (n_mapped t _ (λ ch. refl) o is) is
+name-after (Titled d new) me c t o is = n_same (is_same c d) t _ o (n_mapped t _ (λ ch. refl) o is) is
+name-after (Listed d one) me c t o is = n_same (is_same c d) t _ o (n_mapped t _ (λ ch. refl) o is) is
+name-after (Addressed d nick user host) me c t o is = n_same (is_same c d) t _ o (n_mapped t _ (λ ch. refl) o is) is
 
 -- ---- who is on a channel
 
@@ -172,21 +172,21 @@ o_renamed_some false true m o = refl
 o_renamed_some false false m o = refl
 
 o_renamed : (old new x : List ℕ) (w o : Option Member) →
-    is_some (rename_as old new x w o) ≡ unwrap_or (cond (is_some w) (cond (alike x new) (Some true) (cond (alike x old) (Some false) None)) None) (is_some o)
+    is_some (rename_as old new x w o) ≡ unwrap_or (cond (is_some w) (cond (is_same x new) (Some true) (cond (is_same x old) (Some false) None)) None) (is_some o)
 o_renamed old new x None o = ap is_some (rename_as-none old new x o)
-o_renamed old new x (Some m) o = ap is_some (rename_as-some old new x m o) ∙ o_renamed_some (alike x new) (alike x old) (with_nick new m) o
+o_renamed old new x (Some m) o = ap is_some (rename_as-some old new x m o) ∙ o_renamed_some (is_same x new) (is_same x old) (with_nick new m) o
 
 on-after : (item : Item) (me : List ℕ) (here : Bool) (c x : List ℕ) (look : List ℕ → Option Member) →
     is_some (member_after item me here c look x) ≡ unwrap_or (nick_said item me here c (λ y. is_some (look y)) x) (is_some (look x))
 on-after (Welcomed nick) me here c x look = refl
-on-after (Joined nick user host d) me here c x look = o_joined (alike c d) (alike nick me) (alike x nick) here _ _ (look x)
-on-after (Left nick d) me here c x look = o_gone (alike c d && (alike nick me || alike x nick)) (look x)
-on-after (Departed nick) me here c x look = o_gone (alike nick me || alike x nick) (look x)
+on-after (Joined nick user host d) me here c x look = o_joined (is_same c d) (is_same nick me) (is_same x nick) here _ _ (look x)
+on-after (Left nick d) me here c x look = o_gone (is_same c d && (is_same nick me || is_same x nick)) (look x)
+on-after (Departed nick) me here c x look = o_gone (is_same nick me || is_same x nick) (look x)
 on-after (Renamed old new) me here c x look = o_renamed old new x (look old) (look x)
-on-after (Marked d mark set nick) me here c x look = some_same (alike c d && alike x nick) (look x) _ (some-map _ (look x))
+on-after (Marked d mark set nick) me here c x look = some_same (is_same c d && is_same x nick) (look x) _ (some-map _ (look x))
 on-after (Titled d topic) me here c x look = refl
-on-after (Listed d one) me here c x look = o_listed (alike c d && (here && alike x one.nick)) _ (look x)
-on-after (Addressed d nick user host) me here c x look = some_same (alike c d && alike x nick) (look x) _ (some-map _ (look x))
+on-after (Listed d one) me here c x look = o_listed (is_same c d && (here && is_same x one.nick)) _ (look x)
+on-after (Addressed d nick user host) me here c x look = some_same (is_same c d && is_same x nick) (look x) _ (some-map _ (look x))
 
 -- ---- all of it
 
@@ -195,7 +195,7 @@ nick_said-same (Welcomed nick) me here c x was now same = refl
 nick_said-same (Joined nick user host d) me here c x was now same = refl
 nick_said-same (Left nick d) me here c x was now same = refl
 nick_said-same (Departed nick) me here c x was now same = refl
-nick_said-same (Renamed old new) me here c x was now same = ap (λ b. cond b (cond (alike x new) (Some true) (cond (alike x old) (Some false) None)) None) (same old)
+nick_said-same (Renamed old new) me here c x was now same = ap (λ b. cond b (cond (is_same x new) (Some true) (cond (is_same x old) (Some false) None)) None) (same old)
 nick_said-same (Marked d mark set nick) me here c x was now same = refl
 nick_said-same (Titled d topic) me here c x was now same = refl
 nick_said-same (Listed d one) me here c x was now same = refl
@@ -205,14 +205,14 @@ member_said-same : {A : Type 0} (begins : Item → A) (says : Item → Option A)
     member_said begins says item me c was old_values x ≡ member_said begins says item me c now old_values x
 member_said-same begins says (Welcomed nick) me c x was now vs same = refl
 member_said-same begins says (Joined nick user host d) me c x was now vs same =
-    ap (λ b. cond (alike c d && alike x nick) (cond (alike nick me || not b) (begins (Joined nick user host d)) (unwrap_or (says (Joined nick user host d)) (vs x))) (vs x)) (same x)
+    ap (λ b. cond (is_same c d && is_same x nick) (cond (is_same nick me || not b) (begins (Joined nick user host d)) (unwrap_or (says (Joined nick user host d)) (vs x))) (vs x)) (same x)
 member_said-same begins says (Left nick d) me c x was now vs same = refl
 member_said-same begins says (Departed nick) me c x was now vs same = refl
-member_said-same begins says (Renamed old new) me c x was now vs same = ap (λ b. cond (b && alike x new) (unwrap_or (says (Renamed old new)) (vs old)) (vs x)) (same old)
+member_said-same begins says (Renamed old new) me c x was now vs same = ap (λ b. cond (b && is_same x new) (unwrap_or (says (Renamed old new)) (vs old)) (vs x)) (same old)
 member_said-same begins says (Marked d mark set nick) me c x was now vs same = refl
 member_said-same begins says (Titled d topic) me c x was now vs same = refl
 member_said-same begins says (Listed d one) me c x was now vs same =
-    ap (λ b. cond (alike c d && alike x one.nick) (cond b (unwrap_or (says (Listed d one)) (vs x)) (begins (Listed d one))) (vs x)) (same x)
+    ap (λ b. cond (is_same c d && is_same x one.nick) (cond b (unwrap_or (says (Listed d one)) (vs x)) (begins (Listed d one))) (vs x)) (same x)
 member_said-same begins says (Addressed d nick user host) me c x was now vs same = refl
 
 if_some : {X : Type 0} (P Q : X → Type 0) (o : Option X) → ((x : X) → P x → Q x) → IfSome o P → IfSome o Q
@@ -263,7 +263,7 @@ places-step item s first c past stands =
     (subst (λ me. Ordered (suc (length past)) (map (at (member_said (λ _. length past) (λ _. None) item me c (on first c past) (arrival first c past))) (members_of (channel_after item s.nick c (channel_in c s))))) stands.agrees.own_nick
     (order-after item s.nick c (channel_in c s) (on first c past) (arrival first c past) (length past) (stands.nicks c)
     (λ x. sym (stands.agrees.members c x) ∙ sym (list_any-find (is_called x) (members_of (channel_in c s))))
-    (λ x y is. arrival-alike first c x y past is) (stands.places c)))
+    (λ x y is. arrival-is_same first c x y past is) (stands.places c)))
 
 joined-step : (item : Item) (s : ChanState) (first : List ℕ) (past : List Item) → Stands first past s → Ordered (suc (length past)) (map (on_name (opening first (item ∷ past))) (step item s).channels)
 joined-step item s first past stands =

@@ -9,6 +9,5 @@ pub mod PartLemmas
 pub mod HistoryLemmas
 pub mod SeatLemmas
 pub mod TakenLemmas
-pub mod RenameLemmas
 pub mod OrderLemmas
 pub mod UndoLemmas

@@ -5,7 +5,7 @@ use Rattle.std.specs.Option.{option_map}
 use Rattle.chanstate.specs.declared.member.Member.{Member}
 use Rattle.chanstate.specs.declared.member.Mark.{Mark}
 use Rattle.chanstate.specs.declared.member.Mark.TheVariants.{Op, Voice, HalfOp}
-use Rattle.chanstate.specs.Names.{alike}
+use Rattle.rfccase.specs.Casemapping.{is_same}
 use Rattle.chanstate.specs.Members.{unmarked, with_mark, with_address, with_marks_of, with_nick}
 use Rattle.chanstate.specs.Items.{Item, Welcomed, Joined, Left, Departed, Renamed, Marked, Titled, Listed, Addressed}
 use Rattle.chanstate.specs.History.{topic, member_said, has_mark, mark_begins, mark_says, if_same_mark, user_begins, user_says, host_begins, host_says, nick_begins, nick_says, before}
@@ -70,31 +70,31 @@ d_renamed_some get new now a o false true made is = tt
 d_renamed_some get new now a o false false made is = is
 
 d_renamed : {A : Type 0} (get : Member → A) (old new x : List ℕ) (says : Option A) (a e : A) (w o : Option Member) → ((m : Member) → get (with_nick new m) ≡ unwrap_or says (get m)) → Has get e w → Has get a o →
-    Has get (cond (is_some w && alike x new) (unwrap_or says e) a) (rename_as old new x w o)
+    Has get (cond (is_some w && is_same x new) (unwrap_or says e) a) (rename_as old new x w o)
 d_renamed get old new x says a e None o made before is = subst (λ z. Has get a z) (sym (rename_as-none old new x o)) is
 d_renamed get old new x says a e (Some m) o made before is =
-    subst (λ z. Has get (cond (alike x new) (unwrap_or says e) a) z) (sym (rename_as-some old new x m o))
-    (d_renamed_some get (with_nick new m) (unwrap_or says e) a o (alike x new) (alike x old) (made m ∙ ap (unwrap_or says) before) is)
+    subst (λ z. Has get (cond (is_same x new) (unwrap_or says e) a) z) (sym (rename_as-some old new x m o))
+    (d_renamed_some get (with_nick new m) (unwrap_or says e) a o (is_same x new) (is_same x old) (made m ∙ ap (unwrap_or says) before) is)
 
 pub known-after : {A : Type 0} (get : Member → A) (begins : Item → A) (says : Item → Option A) → Part get begins says →
     (item : Item) (me : List ℕ) (here : Bool) (c x : List ℕ) (look : List ℕ → Option Member) (before : List ℕ → A) → (here ≡ false → look x ≡ None) → ((y : List ℕ) → Has get (before y) (look y)) →
     Has get (member_said begins says item me c (λ y. is_some (look y)) before x) (member_after item me here c look x)
 known-after get begins says part (Welcomed nick) me here c x look before away is = tt
 known-after get begins says part (Joined nick user host d) me here c x look before away is =
-    d_joined get (unmarked nick user host) (with_address user host) (begins (Joined nick user host d)) (says (Joined nick user host d)) (before x) (look x) (alike c d) (alike nick me) (alike x nick) here
+    d_joined get (unmarked nick user host) (with_address user host) (begins (Joined nick user host d)) (says (Joined nick user host d)) (before x) (look x) (is_same c d) (is_same nick me) (is_same x nick) here
     (part.joins nick user host d) (part.rejoins nick user host d) away (is x)
-known-after get begins says part (Left nick d) me here c x look before away is = d_gone get (before x) (look x) (alike c d && (alike nick me || alike x nick)) (is x)
-known-after get begins says part (Departed nick) me here c x look before away is = d_gone get (before x) (look x) (alike nick me || alike x nick) (is x)
+known-after get begins says part (Left nick d) me here c x look before away is = d_gone get (before x) (look x) (is_same c d && (is_same nick me || is_same x nick)) (is x)
+known-after get begins says part (Departed nick) me here c x look before away is = d_gone get (before x) (look x) (is_same nick me || is_same x nick) (is x)
 known-after get begins says part (Renamed old new) me here c x look before away is =
     d_renamed get old new x (says (Renamed old new)) (before x) (before old) (look old) (look x) (part.renames old new) (is old) (is x)
 known-after get begins says part (Marked d mark set nick) me here c x look before away is =
-    d_changed get (with_mark mark set) (says (Marked d mark set nick)) (before x) (look x) (alike c d && alike x nick) (part.marks d mark set nick) (is x)
+    d_changed get (with_mark mark set) (says (Marked d mark set nick)) (before x) (look x) (is_same c d && is_same x nick) (part.marks d mark set nick) (is x)
 known-after get begins says part (Titled d topic) me here c x look before away is = is x
 known-after get begins says part (Listed d one) me here c x look before away is =
-    d_listed get one (with_marks_of one) (begins (Listed d one)) (says (Listed d one)) (before x) (look x) (alike c d) (alike x one.nick) here
+    d_listed get one (with_marks_of one) (begins (Listed d one)) (says (Listed d one)) (before x) (look x) (is_same c d) (is_same x one.nick) here
     (part.lists d one) (part.relists d one) away (is x)
 known-after get begins says part (Addressed d nick user host) me here c x look before away is =
-    d_changed get (with_address user host) (says (Addressed d nick user host)) (before x) (look x) (alike c d && alike x nick) (part.addresses d nick user host) (is x)
+    d_changed get (with_address user host) (says (Addressed d nick user host)) (before x) (look x) (is_same c d && is_same x nick) (part.addresses d nick user host) (is x)
 
 -- ---- the parts of a member
 

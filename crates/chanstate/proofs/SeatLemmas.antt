@@ -1,416 +1,541 @@
--- What look-ups and edits of seats mean for those who sit on them.
-use Rattle.std.proofs.Common.{◌≡◌, ℕ, zero, suc, ◌+◌, ◌<◌, Bool, true, false, not, cond, ◌||◌, List, [], ◌∷◌, ◌++◌, length, get_or, set, slice_get, take, nat_eq, nat_lt, refl, sym, ap, ◌∙◌, Option, None, Some, Result, Ok, Err, OnOk, IsOk, is_some, filter, vec_len, arith, rules}
+-- Seats and their index: what edits of both mean for those who sit there.
+use Rattle.std.proofs.Common.{◌≡◌, ◌≢◌, ◌⊎◌, inl, inr, ⊎_elim, ℕ, zero, suc, ◌+◌, ◌<◌, Bool, true, false, cond, ◌||◌, List, [], ◌∷◌, ◌++◌, length, get_or, set, take, map, filter, nat_eq, eqb, refl, sym, ap, subst, ◌∙◌, Option, None, Some, is_some, Result, Ok, Err, IsOk, OnOk, true≢false, if◌then◌else◌, arith, rules}
 use Rattle.std.specs.Prelude.{find}
-use Rattle.std.specs.List.{position, position_or_len, list_any, filter_map, cons_option, AllZip, AllByRecursion, IsDistinct}
+use Rattle.std.specs.List.{list_any, filter_map, cons_option, position}
 use Rattle.std.specs.Option.{option_to_list, option_copied}
 use Rattle.std.specs.Borrow.{Bor}
-use Rattle.std.proofs.lemmas.List.{take_more}
-use Rattle.std.proofs.lemmas.List.Elements.{filter_map-append}
-use Rattle.std.specs.Map.{keys_of, values_of, lookup, remove_entry}
+use Rattle.std.specs.Map.{lookup, values_of, IsKeyTest, AreApart, KeepsOthers}
 use Rattle.std.specs.Cmp.Lexicographic.{pointwise}
 use Rattle.std.specs.declared.vec.Vec.{Vec}
 use Rattle.std.specs.declared.alloc.Global.{Global}
-use Rattle.std.proofs.lemmas.Bool.{cond-true, cond-false}
-use Rattle.std.proofs.lemmas.Option.{get_or_from_slice_get}
-use Rattle.rfccase.specs.Casemapping.{folded}
-use Rattle.indexmap.specs.Layout.{set_value_at}
-use Rattle.indexmap.specs.IndexMap.{insert_entry}
-use Rattle.indexmap.proofs.SetLemmas.{zip_same}
-use Rattle.indexmap.proofs.MapLemmas.{absent_from_lookup, insert_entry-absent}
-use Rattle.std.proofs.lemmas.Bool.Decides.{nat_tests}
+use Rattle.std.proofs.lemmas.Bool.{cond-true, cond-false, eqb-true, eqb-false}
+use Rattle.std.proofs.lemmas.List.{take_more, set-set, length-set}
+use Rattle.std.proofs.lemmas.List.Elements.{filter_map-append}
+use Rattle.rfccase.specs.Casemapping.{folded, is_same}
 use Rattle.chanstate.specs.declared.member.Member.{Member}
-use Rattle.chanstate.specs.declared.member.Mark.{Mark}
+use Rattle.chanstate.specs.Seats.{SitsAt, AreIndexed, IsChanged, IsIndexedNext, Entries, place_under, has_key, seated, taken, is_seat_of, IsUnder, AreUnder}
+use Rattle.chanstate.specs.declared.edit.Edit.{Edit}
+use Rattle.chanstate.specs.declared.edit.Edit.TheVariants.{Marked, Listed, Addressed}
 use Rattle.chanstate.specs.declared.member.Mark.TheVariants.{Op, Voice, HalfOp}
-use Rattle.chanstate.specs.Keys.{IsUnder, IsSeat, AreUnder, AreSeats, seated, is_seat_of, has_key, key_eq}
-use Rattle.chanstate.specs.Members.{is_called, with_mark}
+use Rattle.chanstate.specs.Members.{is_called, with_nick, edited}
 use Rattle.chanstate.specs.Firsts.{first_removed, first_changed}
-use Rattle.chanstate.proofs.FindLemmas.{or-parts}
-use Rattle.chanstate.proofs.FirstsLemmas.{IsFirst, first-from_position, list_any-no_position, somewhere, tail-first}
+use Rattle.chanstate.proofs.FindLemmas.{pointwise-same, pointwise-refl}
+use Rattle.chanstate.proofs.FirstsLemmas.{first-from_position, list_any-no_position}
 
-abbrev pub Seat : Type 0
-Seat = Vec ℕ Global × Option Member
+abbrev pub Places : Type 0
+Places = List (Option Member)
 
--- seats without their keys
-
--- where the seat of a nick becomes empty
-pub emptied : (nick : List ℕ) (vs : List (Option Member)) (i : ℕ) (d : Option Member) → IsFirst (is_seat_of nick) vs i d → seated (set vs i None) ≡ first_removed (is_called nick) (seated vs)
-emptied nick [] i d first = absurd (let within : i < 0 = first.within in omega arith)
-emptied nick (None ∷ vs) zero d first = let passes : false ≡ true = first.passes in cc
-emptied nick (Some m ∷ vs) zero d first = sym (cond-true (is_called nick m) _ _ first.passes)
-emptied nick (None ∷ vs) (suc i) d first = emptied nick vs i d (tail-first _ None vs i d first)
-emptied nick (Some m ∷ vs) (suc i) d first =
-    ap (λ ms. m ∷ ms) (emptied nick vs i d (tail-first _ (Some m) vs i d first)) ∙ sym (cond-false (is_called nick m) _ _ (first.before 0 (omega arith)))
-
--- where who sits there is changed
-pub edited : (nick : List ℕ) (f : Member → Member) (vs : List (Option Member)) (i : ℕ) (d : Option Member) (x : Member) → IsFirst (is_seat_of nick) vs i d → get_or vs i d ≡ Some x → seated (set vs i (Some (f x))) ≡ first_changed (is_called nick) f (seated vs)
-edited nick f [] i d x first is = absurd (let within : i < 0 = first.within in omega arith)
-edited nick f (None ∷ vs) zero d x first is = cc
-edited nick f (Some m ∷ vs) zero d x first is =
-    let same : Some x ≡ Some m = sym is in
-    ap (λ (o : Option Member). seated (set (o ∷ vs) 0 (Some (f x)))) is ∙ here (f x) (f m) (changed x m same) ∙ sym (cond-true (is_called nick m) _ _ first.passes)
-  where
-    changed : (a b : Member) → Some a ≡ Some b → f a ≡ f b
-    changed a b e = cc
-
-    here : (a b : Member) → a ≡ b → a ∷ seated vs ≡ b ∷ seated vs
-    here a b e = ap (λ c. c ∷ seated vs) e
-edited nick f (None ∷ vs) (suc i) d x first is = edited nick f vs i d x (tail-first _ None vs i d first) is
-edited nick f (Some m ∷ vs) (suc i) d x first is =
-    ap (λ ms. m ∷ ms) (edited nick f vs i d x (tail-first _ (Some m) vs i d first) is) ∙ sym (cond-false (is_called nick m) _ _ (first.before 0 (omega arith)))
-
--- who sits there is who is found
-found : (nick : List ℕ) (vs : List (Option Member)) (i : ℕ) (d : Option Member) → IsFirst (is_seat_of nick) vs i d → get_or vs i d ≡ find (is_called nick) (seated vs)
-found nick [] i d first = absurd (let within : i < 0 = first.within in omega arith)
-found nick (None ∷ vs) zero d first = let passes : false ≡ true = first.passes in cc
-found nick (Some m ∷ vs) zero d first = sym (cond-true (is_called nick m) _ _ first.passes)
-found nick (None ∷ vs) (suc i) d first = found nick vs i d (tail-first _ None vs i d first)
-found nick (Some m ∷ vs) (suc i) d first =
-    found nick vs i d (tail-first _ (Some m) vs i d first) ∙ sym (cond-false (is_called nick m) _ _ (first.before 0 (omega arith)))
-
-pub any_seated : (nick : List ℕ) (vs : List (Option Member)) → list_any (is_called nick) (seated vs) ≡ list_any (is_seat_of nick) vs
-any_seated nick [] = refl
-any_seated nick (None ∷ vs) = any_seated nick vs
-any_seated nick (Some m ∷ vs) = ap (λ b. is_called nick m || b) (any_seated nick vs)
-
--- what one more of a list gives
-one_of : {Y : Type 0} (o : Option Y) → cons_option o [] ≡ option_to_list o
-one_of None = refl
-one_of (Some y) = refl
-
-pub seated-last : (vs : List (Option Member)) (o : Option Member) → seated (vs ++ o ∷ []) ≡ seated vs ++ option_to_list o
-seated-last vs o = filter_map-append (λ x. x) vs (o ∷ []) ∙ ap (λ ms. seated vs ++ ms) (one_of o)
-
-pub filter_map-more : {X Y : Type 0} (f : X → Option Y) (xs : List X) (i : ℕ) (d : X) → i < length xs → filter_map f (take (i + 1) xs) ≡ filter_map f (take i xs) ++ option_to_list (f (get_or xs i d))
-filter_map-more f xs i d less =
-    ap (filter_map f) (take_more xs i d less) ∙ filter_map-append f (take i xs) (get_or xs i d ∷ []) ∙ ap (λ ys. filter_map f (take i xs) ++ ys) (one_of (f (get_or xs i d)))
+pub is_some-copied : {X : Type 0} (o : Option (Bor X)) → is_some o ≡ is_some (option_copied o)
+is_some-copied None = refl
+is_some-copied (Some b) = refl
 
 -- what follows from a call that succeeds
 pub at_ok : {T E : Type 0} (r : Result T E) (P : Type 0) → IsOk r → OnOk r P → P
 at_ok (Ok x) P ok holds = holds
 at_ok (Err e) P ok holds = cc
 
--- a list of no length has no element
-pub nothing_left : {X : Type 0} (xs : List X) → length xs ≡ 0 → xs ≡ []
-nothing_left [] none = refl
-nothing_left (x ∷ xs) none = absurd (omega arith)
-
--- a mark leaves the nick
-pub marked-nick : (mark : Mark) (on : Bool) (m : Member) → (with_mark mark on m).nick ≡ m.nick
-marked-nick Op on m = refl
-marked-nick Voice on m = refl
-marked-nick HalfOp on m = refl
-
--- keys and who sits under them
-
--- a key passes where its member has the nick
-pub same_test : (nick lower : List ℕ) (k : Vec ℕ Global) (m : Member) → lower ≡ folded nick → IsUnder k m → has_key lower k ≡ is_called nick m
-same_test nick lower k m same under = rw (same, under) refl
-
-pub lengths : {K X : Type 0} (es : List (K × X)) → length (keys_of es) ≡ length (values_of es)
-lengths [] = refl
-lengths (x ∷ xs) = ap suc (lengths xs)
-
-one_more : (n : ℕ) → suc n ≡ 1 + n
-one_more n = omega arith
-
--- a search of the keys that ends at somebody's seat ends where a search for the nick does
-or_len-seat : (nick lower : List ℕ) (es : List Seat) (x : Member) → lower ≡ folded nick → AreSeats es → slice_get (values_of es) (position_or_len (has_key lower) (keys_of es)) ≡ Some (Some x)
-    → position_or_len (has_key lower) (keys_of es) ≡ position_or_len (is_seat_of nick) (values_of es)
-or_len-seat nick lower [] x same seats is = refl
-or_len-seat nick lower (e ∷ es) x same seats is =
-    by e.1 (has_key lower e.0) refl seats.0 (ap (λ k. slice_get (e.1 ∷ values_of es) (cond (not (has_key lower e.0)) k 0)) (one_more n) ∙ is) (or_len-seat nick lower es x same seats.1)
-  where
-    n : ℕ
-    n = position_or_len (has_key lower) (keys_of es)
-
-    by : (o : Option Member) (b : Bool) → has_key lower e.0 ≡ b → IsSeat e.0 o → slice_get (o ∷ values_of es) (cond (not b) (suc n) 0) ≡ Some (Some x)
-        → (slice_get (values_of es) n ≡ Some (Some x) → n ≡ position_or_len (is_seat_of nick) (values_of es))
-        → cond (not b) (1 + n) 0 ≡ cond (not (is_seat_of nick o)) (1 + position_or_len (is_seat_of nick) (values_of es)) 0
-    by None true test seat at rest = cc
-    by None false test seat at rest = ap (λ k. 1 + k) (rest at)
-    by (Some m) true test seat at rest =
-        ap (λ t. cond (not t) (1 + position_or_len (is_seat_of nick) (values_of es)) 0) (sym test ∙ same_test nick lower e.0 m same seat)
-    by (Some m) false test seat at rest =
-        ap (λ k. 1 + k) (rest at) ∙ ap (λ t. cond (not t) (1 + position_or_len (is_seat_of nick) (values_of es)) 0) (sym test ∙ same_test nick lower e.0 m same seat)
-
-pub at_len : (n l i : ℕ) → cond (nat_lt n l) (Some n) None ≡ Some i → n ≡ i
-at_len n l i is = by (nat_lt n l) is
-  where
-    by : (b : Bool) → cond b (Some n) None ≡ Some i → n ≡ i
-    by true is = cc
-    by false is = cc
-
-pub seat_found : (nick lower : List ℕ) (es : List Seat) (i : ℕ) (x : Member) → lower ≡ folded nick → AreSeats es → Some i ≡ position (has_key lower) (keys_of es) → slice_get (values_of es) i ≡ Some (Some x)
-    → Some i ≡ position (is_seat_of nick) (values_of es)
-seat_found nick lower es i x same seats is read =
-    let n = position_or_len (has_key lower) (keys_of es) in
-    let here = ap (slice_get (values_of es)) (at_len n (length (keys_of es)) i (sym is)) ∙ read in
-    is ∙ ap (λ l. cond (nat_lt n l) (Some n) None) (lengths es)
-    ∙ ap (λ k. cond (nat_lt k (length (values_of es))) (Some k) None) (or_len-seat nick lower es x same seats here)
-
--- a key that is nowhere is nobody's
-pub nobody_under : (nick lower : List ℕ) (es : List Seat) → lower ≡ folded nick → AreSeats es → list_any (has_key lower) (keys_of es) ≡ false → list_any (is_seat_of nick) (values_of es) ≡ false
-nobody_under nick lower [] same seats none = refl
-nobody_under nick lower (e ∷ es) same seats none =
-    let parts = or-parts (has_key lower e.0) (list_any (has_key lower) (keys_of es)) none in
-    by e.1 seats.0 parts.0 (nobody_under nick lower es same seats.1 parts.1)
-  where
-    by : (o : Option Member) → IsSeat e.0 o → has_key lower e.0 ≡ false → list_any (is_seat_of nick) (values_of es) ≡ false → (is_seat_of nick o || list_any (is_seat_of nick) (values_of es)) ≡ false
-    by None seat test rest = rest
-    by (Some m) seat test rest = ap (λ b. b || list_any (is_seat_of nick) (values_of es)) (sym (same_test nick lower e.0 m same seat) ∙ test) ∙ rest
-
-pub bytes_same : (xs ys : List ℕ) → pointwise nat_eq xs ys ≡ true → xs ≡ ys
-bytes_same xs ys is = search rules
-
-others_apart : (lower : List ℕ) (k : Vec ℕ Global) (ks : List (Vec ℕ Global)) → lower ≡ k.items → AllByRecursion (λ y. key_eq k y ≡ false) ks → list_any (has_key lower) ks ≡ false
-others_apart lower k [] same apart = refl
-others_apart lower k (y ∷ ys) same apart =
-    ap (λ b. b || list_any (has_key lower) ys) (ap (λ l. pointwise nat_eq l y.items) same ∙ apart.0) ∙ others_apart lower k ys same apart.1
-
--- nobody has the nick whose seat is empty
-pub nobody_left : (nick lower : List ℕ) (es : List Seat) → lower ≡ folded nick → AreSeats es → IsDistinct key_eq (keys_of es) → slice_get (values_of es) (position_or_len (has_key lower) (keys_of es)) ≡ Some None
-    → list_any (is_seat_of nick) (values_of es) ≡ false
-unfolding IsDistinct
-nobody_left nick lower [] same seats distinct is = refl
-nobody_left nick lower (e ∷ es) same seats distinct is =
-    by e.1 (has_key lower e.0) refl seats.0 (ap (λ k. slice_get (e.1 ∷ values_of es) (cond (not (has_key lower e.0)) k 0)) (one_more n) ∙ is) (nobody_left nick lower es same seats.1 distinct.1)
-  where
-    n : ℕ
-    n = position_or_len (has_key lower) (keys_of es)
-
-    by : (o : Option Member) (b : Bool) → has_key lower e.0 ≡ b → IsSeat e.0 o → slice_get (o ∷ values_of es) (cond (not b) (suc n) 0) ≡ Some None
-        → (slice_get (values_of es) n ≡ Some None → list_any (is_seat_of nick) (values_of es) ≡ false)
-        → (is_seat_of nick o || list_any (is_seat_of nick) (values_of es)) ≡ false
-    by None true test seat at rest = nobody_under nick lower es same seats.1 (others_apart lower e.0 (keys_of es) (bytes_same lower e.0.items test) distinct.0)
-    by None false test seat at rest = rest at
-    by (Some m) true test seat at rest = cc
-    by (Some m) false test seat at rest = ap (λ b. b || list_any (is_seat_of nick) (values_of es)) (sym (same_test nick lower e.0 m same seat) ∙ test) ∙ rest at
-
--- edits of seats with their keys
-
 pub AreUnder-append : (es : List (Vec ℕ Global × Member)) (e : Vec ℕ Global × Member) → AreUnder es → IsUnder e.0 e.1 → AreUnder (es ++ e ∷ [])
 AreUnder-append [] e under is = (is, tt)
 AreUnder-append (x ∷ xs) e under is = (under.0, AreUnder-append xs e under.1 is)
 
-AreSeats-append : (es : List Seat) (e : Seat) → AreSeats es → IsSeat e.0 e.1 → AreSeats (es ++ e ∷ [])
-AreSeats-append [] e seats is = (is, tt)
-AreSeats-append (x ∷ xs) e seats is = (seats.0, AreSeats-append xs e seats.1 is)
+-- who sits at a place
 
-values_of-append : (es : List Seat) (e : Seat) → values_of (es ++ e ∷ []) ≡ values_of es ++ e.1 ∷ []
-values_of-append [] e = refl
-values_of-append (x ∷ xs) e = ap (λ vs. x.1 ∷ vs) (values_of-append xs e)
+pub SitsAt-within : (ps : Places) (i : ℕ) (m : Member) → SitsAt ps i m → i < length ps
+SitsAt-within [] i m at = absurd at
+SitsAt-within (p ∷ ps) zero m at = omega arith
+SitsAt-within (p ∷ ps) (suc i) m at = let rest = SitsAt-within ps i m at in omega (arith, rest)
 
-pub values_of-set_value_at : (es : List Seat) (i : ℕ) (o : Option Member) → values_of (set_value_at es i o) ≡ set (values_of es) i o
-values_of-set_value_at [] i o = refl
-values_of-set_value_at (x ∷ xs) zero o = refl
-values_of-set_value_at (x ∷ xs) (suc i) o = ap (λ vs. x.1 ∷ vs) (values_of-set_value_at xs i o)
+pub SitsAt-get_or : (ps : Places) (i : ℕ) (m : Member) (d : Option Member) → SitsAt ps i m → get_or ps i d ≡ Some m
+SitsAt-get_or [] i m d at = absurd at
+SitsAt-get_or (p ∷ ps) zero m d at = at
+SitsAt-get_or (p ∷ ps) (suc i) m d at = SitsAt-get_or ps i m d at
 
-pub keys_of-set_value_at : (es : List Seat) (i : ℕ) (o : Option Member) → keys_of (set_value_at es i o) ≡ keys_of es
-keys_of-set_value_at [] i o = refl
-keys_of-set_value_at (x ∷ xs) zero o = refl
-keys_of-set_value_at (x ∷ xs) (suc i) o = ap (λ ks. x.0 ∷ ks) (keys_of-set_value_at xs i o)
+pub SitsAt-from : (ps : Places) (i : ℕ) (m : Member) (d : Option Member) → i < length ps → get_or ps i d ≡ Some m → SitsAt ps i m
+SitsAt-from [] i m d less is = absurd (let within : i < 0 = less in omega arith)
+SitsAt-from (p ∷ ps) zero m d less is = is
+SitsAt-from (p ∷ ps) (suc i) m d less is = SitsAt-from ps i m d (let within : suc i < suc (length ps) = less in omega arith) is
 
--- where a seat is written and its key is that of who sits there now
-pub AreSeats-set_value_at : (es : List Seat) (i : ℕ) (o : Option Member) → AreSeats es → ((k : Vec ℕ Global) → slice_get (keys_of es) i ≡ Some k → IsSeat k o) → AreSeats (set_value_at es i o)
-AreSeats-set_value_at [] i o seats is = tt
-AreSeats-set_value_at (x ∷ xs) zero o seats is = (is x.0 refl, seats.1)
-AreSeats-set_value_at (x ∷ xs) (suc i) o seats is = (seats.0, AreSeats-set_value_at xs i o seats.1 is)
+pub SitsAt-same : (ps : Places) (i : ℕ) (m n : Member) → SitsAt ps i m → SitsAt ps i n → m ≡ n
+SitsAt-same ps i m n here there = let both = sym (SitsAt-get_or ps i m None here) ∙ SitsAt-get_or ps i n None there in cc
 
--- the key of a seat is that of who sits there
-pub under_at : (es : List Seat) (i : ℕ) (k : Vec ℕ Global) (x : Member) → AreSeats es → slice_get (keys_of es) i ≡ Some k → slice_get (values_of es) i ≡ Some (Some x) → IsUnder k x
-under_at [] i k x seats key read = cc
-under_at (e ∷ es) zero k x seats key read = by e.0 e.1 seats.0 key read
+-- edits of a place
+
+abbrev pub IsSet : Places → ℕ → ℕ → Option Member → Member → Type 0
+IsSet ps i j o m = ((j ≡ i) × (o ≡ Some m)) ⊎ ((j ≢ i) × SitsAt ps j m)
+
+next_set : (ps : Places) (p : Option Member) (i j : ℕ) (o : Option Member) (m : Member) → IsSet ps i j o m → IsSet (p ∷ ps) (suc i) (suc j) o m
+next_set ps p i j o m is = ⊎_elim (λ here. inl (ap suc here.0, here.1)) (λ there. inr ((λ (e : suc j ≡ suc i). there.0 (omega (arith, e))), there.1)) is
+
+pub SitsAt-set : (ps : Places) (i j : ℕ) (o : Option Member) (m : Member) → SitsAt (set ps i o) j m → IsSet ps i j o m
+SitsAt-set [] i j o m at = absurd at
+SitsAt-set (p ∷ ps) zero zero o m at = inl (refl, at)
+SitsAt-set (p ∷ ps) zero (suc j) o m at = inr ((λ (e : suc j ≡ 0). omega (arith, e)), at)
+SitsAt-set (p ∷ ps) (suc i) zero o m at = inr ((λ (e : 0 ≡ suc i). omega (arith, e)), at)
+SitsAt-set (p ∷ ps) (suc i) (suc j) o m at = next_set ps p i j o m (SitsAt-set ps i j o m at)
+
+pub SitsAt-set_same : (ps : Places) (i : ℕ) (m : Member) → i < length ps → SitsAt (set ps i (Some m)) i m
+SitsAt-set_same [] i m less = absurd (let within : i < 0 = less in omega arith)
+SitsAt-set_same (p ∷ ps) zero m less = refl
+SitsAt-set_same (p ∷ ps) (suc i) m less = SitsAt-set_same ps i m (let within : suc i < suc (length ps) = less in omega arith)
+
+pub SitsAt-set_other : (ps : Places) (i j : ℕ) (o : Option Member) (m : Member) → j ≢ i → SitsAt ps j m → SitsAt (set ps i o) j m
+SitsAt-set_other [] i j o m apart at = absurd at
+SitsAt-set_other (p ∷ ps) zero zero o m apart at = absurd (apart refl)
+SitsAt-set_other (p ∷ ps) zero (suc j) o m apart at = at
+SitsAt-set_other (p ∷ ps) (suc i) zero o m apart at = at
+SitsAt-set_other (p ∷ ps) (suc i) (suc j) o m apart at = SitsAt-set_other ps i j o m (λ (e : j ≡ i). apart (ap suc e)) at
+
+-- one more place
+
+pub SitsAt-last : (ps : Places) (m : Member) → SitsAt (ps ++ Some m ∷ []) (length ps) m
+SitsAt-last [] m = refl
+SitsAt-last (p ∷ ps) m = SitsAt-last ps m
+
+pub SitsAt-before : (ps : Places) (o : Option Member) (j : ℕ) (m : Member) → SitsAt ps j m → SitsAt (ps ++ o ∷ []) j m
+SitsAt-before [] o j m at = absurd at
+SitsAt-before (p ∷ ps) o zero m at = at
+SitsAt-before (p ∷ ps) o (suc j) m at = SitsAt-before ps o j m at
+
+abbrev pub IsLast : Places → ℕ → Option Member → Member → Type 0
+IsLast ps j o m = ((j ≡ length ps) × (o ≡ Some m)) ⊎ SitsAt ps j m
+
+pub SitsAt-append : (ps : Places) (o : Option Member) (j : ℕ) (m : Member) → SitsAt (ps ++ o ∷ []) j m → IsLast ps j o m
+SitsAt-append [] o zero m at = inl (refl, at)
+SitsAt-append [] o (suc j) m at = absurd at
+SitsAt-append (p ∷ ps) o zero m at = inr at
+SitsAt-append (p ∷ ps) o (suc j) m at = ⊎_elim (λ here. inl (ap suc here.0, here.1)) (λ there. inr there) (SitsAt-append ps o j m at)
+
+-- lower cases as keys
+
+abbrev pub keys_alike : Vec ℕ Global → Vec ℕ Global → Bool
+keys_alike a b = has_key a.items b
+
+is_key_test : (lower : List ℕ) → IsKeyTest keys_alike (has_key lower)
+is_key_test lower x y is = ap (λ l. pointwise nat_eq l y.items) (pointwise-same lower x.items is)
+
+are_apart : (lower other : List ℕ) → pointwise nat_eq other lower ≡ false → AreApart (has_key lower) (has_key other)
+are_apart lower other apart k is = ap (pointwise nat_eq other) (sym (pointwise-same lower k.items is)) ∙ apart
+
+-- an update of the index, as the map tells it
+pub changed-by : (lower : List ℕ) (w : Option ℕ) (old new : Entries) → place_under lower new ≡ w → KeepsOthers keys_alike (has_key lower) old new → IsChanged lower w old new
+unfolding KeepsOthers
+changed-by lower w old new own keeps = record {
+  own = own;
+  others = λ other apart. keeps (has_key other) (is_key_test other) (are_apart lower other apart);
+}
+
+-- a lower case is the changed one, or has what it had
+by_lower : (lower other : List ℕ) (w : Option ℕ) (old new : Entries) → IsChanged lower w old new →
+    ((other ≡ lower) × (place_under other new ≡ w)) ⊎ (place_under other new ≡ place_under other old)
+by_lower lower other w old new change = by (pointwise nat_eq other lower) refl
   where
-    by : (l : Vec ℕ Global) (o : Option Member) → IsSeat l o → Some l ≡ Some k → Some o ≡ Some (Some x) → IsUnder k x
-    by l None seat key read = cc
-    by l (Some m) seat key read = cc
-under_at (e ∷ es) (suc i) k x seats key read = under_at es i k x seats.1 key read
+    by : (b : Bool) → pointwise nat_eq other lower ≡ b → ((other ≡ lower) × (place_under other new ≡ w)) ⊎ (place_under other new ≡ place_under other old)
+    by true is = let same = pointwise-same other lower is in inl (same, ap (λ l. place_under l new) same ∙ change.own)
+    by false is = inr (change.others other is)
 
--- where who sits there is changed and keeps the nick
-pub AreSeats-changed : (es : List Seat) (i : ℕ) (x m : Member) → AreSeats es → slice_get (values_of es) i ≡ Some (Some x) → x.nick ≡ m.nick → AreSeats (set_value_at es i (Some m))
-AreSeats-changed es i x m seats read same = AreSeats-set_value_at es i (Some m) seats (λ k key. under_at es i k x seats key read ∙ ap folded same)
+some_apart : {X : Type 0} (x : X) → None ≡ Some x → ⊥
+some_apart x is = cc
 
-pub AreSeats-emptied : (es : List Seat) (i : ℕ) → AreSeats es → AreSeats (set_value_at es i None)
-AreSeats-emptied es i seats = AreSeats-set_value_at es i None seats (λ k key. tt)
+same_place : (i j : ℕ) → Some i ≡ Some j → i ≡ j
+same_place i j is = cc
 
--- what the edits make of those who sit; vs are the seats as the search saw them
+-- the index after edits
 
-pub gone_at : (nick : List ℕ) (es : List Seat) (vs : List (Option Member)) (i : ℕ) → values_of es ≡ vs → Some i ≡ position (is_seat_of nick) vs → seated (values_of (set_value_at es i None)) ≡ first_removed (is_called nick) (seated vs)
-gone_at nick es vs i same is =
-    ap seated (values_of-set_value_at es i None ∙ ap (λ ws. set ws i None) same) ∙ emptied nick vs i None (first-from_position (is_seat_of nick) vs i None (sym is))
-
-pub changed_at : (nick : List ℕ) (f : Member → Member) (es : List Seat) (vs : List (Option Member)) (i : ℕ) (x m : Member) → values_of es ≡ vs → Some i ≡ position (is_seat_of nick) vs → slice_get vs i ≡ Some (Some x) → f x ≡ m
-    → seated (values_of (set_value_at es i (Some m))) ≡ first_changed (is_called nick) f (seated vs)
-changed_at nick f es vs i x m same is read made =
-    ap seated (values_of-set_value_at es i (Some m) ∙ ap (λ ws. set ws i (Some m)) same) ∙ ap (λ y. seated (set vs i (Some y))) (sym made)
-    ∙ edited nick f vs i None x (first-from_position (is_seat_of nick) vs i None (sym is)) (get_or_from_slice_get vs i (Some x) None read)
-
-pub found_at : (nick : List ℕ) (vs : List (Option Member)) (i : ℕ) (o : Option Member) → Some i ≡ position (is_seat_of nick) vs → slice_get vs i ≡ Some o → o ≡ find (is_called nick) (seated vs)
-found_at nick vs i o is read = sym (get_or_from_slice_get vs i o None read) ∙ found nick vs i None (first-from_position (is_seat_of nick) vs i None (sym is))
-
--- nobody has the nick where no seat is found
-pub nobody : (nick : List ℕ) (vs : List (Option Member)) (o : Option ℕ) → o ≡ position (is_seat_of nick) vs → o ≡ None → list_any (is_called nick) (seated vs) ≡ false
-nobody nick vs o is none = any_seated nick vs ∙ list_any-no_position (is_seat_of nick) vs (sym is ∙ none)
-
--- and somebody where one is
-pub somebody : (nick : List ℕ) (vs : List (Option Member)) (i : ℕ) → Some i ≡ position (is_seat_of nick) vs → list_any (is_called nick) (seated vs) ≡ true
-somebody nick vs i is = any_seated nick vs ∙ somewhere (is_seat_of nick) vs i None is
-
--- no seat is found where nobody has the nick
-pub no_place : {X : Type 0} (p : X → Bool) (xs : List X) → list_any p xs ≡ false → None ≡ position p xs
-no_place p [] none = refl
-no_place p (x ∷ xs) none = by (position p (x ∷ xs)) refl
+-- a member leaves the seat empty
+pub indexed-gone : (ps : Places) (es fs : Entries) (i : ℕ) (m : Member) → AreIndexed ps es → SitsAt ps i m → IsChanged (folded m.nick) None es fs → AreIndexed (set ps i None) fs
+indexed-gone ps es fs i m indexed at change = record { found = found; named = named }
   where
-    by : (o : Option ℕ) → position p (x ∷ xs) ≡ o → None ≡ position p (x ∷ xs)
-    by None is = sym is
-    by (Some i) is = let both : true ≡ false = sym (somewhere p (x ∷ xs) i x (sym is)) ∙ none in cc
+    found : (j : ℕ) (x : Member) → SitsAt (set ps i None) j x → place_under (folded x.nick) fs ≡ Some j
+    found j x sits = ⊎_elim
+        (λ here. absurd (some_apart x here.1))
+        (λ there. ⊎_elim
+        (λ own. absurd (there.0 (same_place j i (sym (indexed.found j x there.1) ∙ ap (λ l. place_under l es) own.0 ∙ indexed.found i m at))))
+        (λ kept. kept ∙ indexed.found j x there.1)
+        (by_lower (folded m.nick) (folded x.nick) None es fs change))
+        (SitsAt-set ps i j None x sits)
 
--- where empty seats go
+    named : (lower : List ℕ) (j : ℕ) → place_under lower fs ≡ Some j → (x : Member) × SitsAt (set ps i None) j x × (folded x.nick ≡ lower)
+    named lower j is = ⊎_elim
+        (λ own. absurd (some_apart j (sym own.1 ∙ is)))
+        (λ kept.
+        let was = indexed.named lower j (sym kept ∙ is) in
+        let x = was.0 in
+        let other : j ≢ i = λ (e : j ≡ i).
+        let same = SitsAt-same ps i x m (subst (λ k. SitsAt ps k x) e was.1) at in
+        let lowers : lower ≡ folded m.nick = sym was.2 ∙ ap (λ (y : Member). folded y.nick) same in
+        some_apart j (sym change.own ∙ ap (λ l. place_under l fs) (sym lowers) ∙ is) in
+        (x, SitsAt-set_other ps i j None x other was.1, was.2))
+        (by_lower (folded m.nick) lower None es fs change)
 
-pub AreSeats-filter : (t : Seat → Bool) (es : List Seat) → AreSeats es → AreSeats (filter t es)
-AreSeats-filter t [] seats = tt
-AreSeats-filter t (x ∷ xs) seats = by (t x) (AreSeats-filter t xs seats.1)
+-- someone takes an empty seat
+pub indexed-filled : (ps : Places) (es fs : Entries) (i : ℕ) (m : Member) → AreIndexed ps es → i < length ps → ((x : Member) → SitsAt ps i x → ⊥) → place_under (folded m.nick) es ≡ None
+    → IsChanged (folded m.nick) (Some i) es fs → AreIndexed (set ps i (Some m)) fs
+indexed-filled ps es fs i m indexed less free none change = record { found = found; named = named }
   where
-    by : (b : Bool) → AreSeats (filter t xs) → AreSeats (cond b (x ∷ filter t xs) (filter t xs))
-    by true rest = (seats.0, rest)
-    by false rest = rest
+    found : (j : ℕ) (x : Member) → SitsAt (set ps i (Some m)) j x → place_under (folded x.nick) fs ≡ Some j
+    found j x sits = ⊎_elim
+        (λ here.
+        let same : x ≡ m = cc in
+        ap (λ (y : Member). place_under (folded y.nick) fs) same ∙ change.own ∙ ap (λ k. Some k) (sym here.0))
+        (λ there. ⊎_elim
+        (λ own. absurd (some_apart j (sym none ∙ ap (λ l. place_under l es) (sym own.0) ∙ indexed.found j x there.1)))
+        (λ kept. kept ∙ indexed.found j x there.1)
+        (by_lower (folded m.nick) (folded x.nick) (Some i) es fs change))
+        (SitsAt-set ps i j (Some m) x sits)
 
-pub seated-filter : (es : List Seat) → seated (values_of (filter (λ e. is_some e.1) es)) ≡ seated (values_of es)
-seated-filter [] = refl
-seated-filter (x ∷ xs) = by x.1 (seated-filter xs)
+    named : (lower : List ℕ) (j : ℕ) → place_under lower fs ≡ Some j → (x : Member) × SitsAt (set ps i (Some m)) j x × (folded x.nick ≡ lower)
+    named lower j is = ⊎_elim
+        (λ own. (m, subst (λ k. SitsAt (set ps i (Some m)) k m) (same_place i j (sym own.1 ∙ is)) (SitsAt-set_same ps i m less), sym own.0))
+        (λ kept.
+        let was = indexed.named lower j (sym kept ∙ is) in
+        let other : j ≢ i = λ (e : j ≡ i). free was.0 (subst (λ k. SitsAt ps k was.0) e was.1) in
+        (was.0, SitsAt-set_other ps i j (Some m) was.0 other was.1, was.2))
+        (by_lower (folded m.nick) lower (Some i) es fs change)
+
+-- someone takes a new seat
+pub indexed-last : (ps : Places) (es fs : Entries) (m : Member) → AreIndexed ps es → place_under (folded m.nick) es ≡ None → IsChanged (folded m.nick) (Some (length ps)) es fs
+    → AreIndexed (ps ++ Some m ∷ []) fs
+indexed-last ps es fs m indexed none change = record { found = found; named = named }
   where
-    rest : List Seat
-    rest = filter (λ e. is_some e.1) xs
+    found : (j : ℕ) (x : Member) → SitsAt (ps ++ Some m ∷ []) j x → place_under (folded x.nick) fs ≡ Some j
+    found j x sits = ⊎_elim
+        (λ here.
+        let same : x ≡ m = cc in
+        ap (λ (y : Member). place_under (folded y.nick) fs) same ∙ change.own ∙ ap (λ k. Some k) (sym here.0))
+        (λ there. ⊎_elim
+        (λ own. absurd (some_apart j (sym none ∙ ap (λ l. place_under l es) (sym own.0) ∙ indexed.found j x there)))
+        (λ kept. kept ∙ indexed.found j x there)
+        (by_lower (folded m.nick) (folded x.nick) (Some (length ps)) es fs change))
+        (SitsAt-append ps (Some m) j x sits)
 
-    by : (o : Option Member) → seated (values_of rest) ≡ seated (values_of xs) → seated (values_of (cond (is_some o) ((x.0, o) ∷ rest) rest)) ≡ seated (o ∷ values_of xs)
-    by None same = same
-    by (Some m) same = ap (λ ms. m ∷ ms) same
+    named : (lower : List ℕ) (j : ℕ) → place_under lower fs ≡ Some j → (x : Member) × SitsAt (ps ++ Some m ∷ []) j x × (folded x.nick ≡ lower)
+    named lower j is = ⊎_elim
+        (λ own. (m, subst (λ k. SitsAt (ps ++ Some m ∷ []) k m) (same_place (length ps) j (sym own.1 ∙ is)) (SitsAt-last ps m), sym own.0))
+        (λ kept. let was = indexed.named lower j (sym kept ∙ is) in (was.0, SitsAt-before ps (Some m) j was.0 was.1, was.2))
+        (by_lower (folded m.nick) lower (Some (length ps)) es fs change)
 
-pub lookup-filter : (lower : List ℕ) (t : Seat → Bool) (es : List Seat) → lookup (has_key lower) es ≡ None → lookup (has_key lower) (filter t es) ≡ None
-lookup-filter lower t [] none = refl
-lookup-filter lower t (x ∷ xs) none = by (t x) (has_key lower x.0) refl none (lookup-filter lower t xs)
+-- someone is changed, and keeps the nick
+pub indexed-edited : (ps : Places) (es : Entries) (i : ℕ) (m n : Member) → AreIndexed ps es → SitsAt ps i m → n.nick ≡ m.nick → AreIndexed (set ps i (Some n)) es
+indexed-edited ps es i m n indexed at same = record { found = found; named = named }
   where
-    by : (b c : Bool) → has_key lower x.0 ≡ c → cond c (Some x.1) (lookup (has_key lower) xs) ≡ None → (lookup (has_key lower) xs ≡ None → lookup (has_key lower) (filter t xs) ≡ None)
-        → lookup (has_key lower) (cond b (x ∷ filter t xs) (filter t xs)) ≡ None
-    by true true test none rest = cc
-    by false true test none rest = cc
-    by true false test none rest = cond-false (has_key lower x.0) _ _ test ∙ rest none
-    by false false test none rest = rest none
+    found : (j : ℕ) (x : Member) → SitsAt (set ps i (Some n)) j x → place_under (folded x.nick) es ≡ Some j
+    found j x sits = ⊎_elim
+        (λ here.
+        let is : x ≡ n = cc in
+        ap (λ (y : Member). place_under (folded y.nick) es) is ∙ ap (λ l. place_under (folded l) es) same ∙ indexed.found i m at ∙ ap (λ k. Some k) (sym here.0))
+        (λ there. indexed.found j x there.1)
+        (SitsAt-set ps i j (Some n) x sits)
 
--- what a look-up by the key says, once the seat is looked at
+    named : (lower : List ℕ) (j : ℕ) → place_under lower es ≡ Some j → (x : Member) × SitsAt (set ps i (Some n)) j x × (folded x.nick ≡ lower)
+    named lower j is = by (eqb j i) refl
+      where
+        was : (x : Member) × SitsAt ps j x × (folded x.nick ≡ lower)
+        was = indexed.named lower j is
 
-pub seat_taken : (nick lower : List ℕ) (es : List Seat) (i : ℕ) (o : Option Member) → lower ≡ folded nick → AreSeats es → Some i ≡ position (has_key lower) (keys_of es) → slice_get (values_of es) i ≡ Some o → true ≡ is_some o
-    → Some i ≡ position (is_seat_of nick) (values_of es)
-seat_taken nick lower es i None same seats is read taken = cc
-seat_taken nick lower es i (Some x) same seats is read taken = seat_found nick lower es i x same seats is read
+        by : (b : Bool) → eqb j i ≡ b → (x : Member) × SitsAt (set ps i (Some n)) j x × (folded x.nick ≡ lower)
+        by true e =
+            let here : j ≡ i = eqb-true j i e in
+            let old : was.0 ≡ m = SitsAt-same ps i was.0 m (subst (λ k. SitsAt ps k was.0) here was.1) at in
+            (n, subst (λ k. SitsAt (set ps i (Some n)) k n) (sym here) (SitsAt-set_same ps i n (SitsAt-within ps i m at)), ap folded same ∙ ap (λ (y : Member). folded y.nick) (sym old) ∙ was.2)
+        by false e = (was.0, SitsAt-set_other ps i j (Some n) was.0 (eqb-false j i e) was.1, was.2)
 
-pub seat_vacant : (nick lower : List ℕ) (es : List Seat) (i : ℕ) (o : Option Member) → lower ≡ folded nick → AreSeats es → IsDistinct key_eq (keys_of es) → Some i ≡ position (has_key lower) (keys_of es) → slice_get (values_of es) i ≡ Some o → false ≡ is_some o
-    → None ≡ position (is_seat_of nick) (values_of es)
-seat_vacant nick lower es i (Some x) same seats distinct is read vacant = cc
-seat_vacant nick lower es i None same seats distinct is read vacant =
-    no_place (is_seat_of nick) (values_of es) (nobody_left nick lower es same seats distinct (ap (slice_get (values_of es)) (at_len _ (length (keys_of es)) i (sym is)) ∙ read))
+-- those who sit there, after edits
 
-pub seat_nowhere : (nick lower : List ℕ) (es : List Seat) (o : Option ℕ) → lower ≡ folded nick → AreSeats es → o ≡ position (has_key lower) (keys_of es) → o ≡ None → None ≡ position (is_seat_of nick) (values_of es)
-seat_nowhere nick lower es o same seats is none =
-    no_place (is_seat_of nick) (values_of es) (nobody_under nick lower es same seats (list_any-no_position (has_key lower) (keys_of es) (sym is ∙ none)))
+-- nobody else has this nick
+abbrev pub IsOnly : List ℕ → Places → ℕ → Type 0
+IsOnly nick ps i = (j : ℕ) (x : Member) → SitsAt ps j x → is_called nick x ≡ true → j ≡ i
 
--- a seat that is found isn't empty
-pub not_empty : (nick : List ℕ) (vs : List (Option Member)) (i : ℕ) → Some i ≡ position (is_seat_of nick) vs → slice_get vs i ≡ Some None → ⊥
-not_empty nick vs i is read =
-    let passes = (first-from_position (is_seat_of nick) vs i None (sym is)).passes in
-    let both : false ≡ true = ap (is_seat_of nick) (sym (get_or_from_slice_get vs i None None read)) ∙ passes in cc
+pub only-from : (nick : List ℕ) (ps : Places) (es : Entries) (i : ℕ) → AreIndexed ps es → place_under (folded nick) es ≡ Some i → IsOnly nick ps i
+only-from nick ps es i indexed is j x sits called =
+    same_place j i (sym (indexed.found j x sits) ∙ ap (λ l. place_under l es) (sym (pointwise-same (folded nick) (folded x.nick) called)) ∙ is)
 
-pub is_some-copied : {X : Type 0} (o : Option (Bor X)) → is_some o ≡ is_some (option_copied o)
-is_some-copied None = refl
-is_some-copied (Some b) = refl
+pub called-from : (nick : List ℕ) (m : Member) → folded m.nick ≡ folded nick → is_called nick m ≡ true
+called-from nick m same = ap (pointwise nat_eq (folded nick)) same ∙ pointwise-refl (folded nick)
 
--- where the seat under a key goes, and nobody has the nick
+only-tail : (nick : List ℕ) (p : Option Member) (ps : Places) (i : ℕ) → IsOnly nick (p ∷ ps) (suc i) → IsOnly nick ps i
+only-tail nick p ps i only j x sits called = let e = only (suc j) x sits called in omega (arith, e)
 
-pub AreSeats-remove_entry : (lower : List ℕ) (es : List Seat) → AreSeats es → AreSeats (remove_entry (has_key lower) es)
-AreSeats-remove_entry lower [] seats = tt
-AreSeats-remove_entry lower (x ∷ xs) seats = by (has_key lower x.0) (AreSeats-remove_entry lower xs seats.1)
+only-head : (nick : List ℕ) (x : Member) (ps : Places) (i : ℕ) → IsOnly nick (Some x ∷ ps) (suc i) → is_called nick x ≡ false
+only-head nick x ps i only = by (is_called nick x) refl
   where
-    by : (b : Bool) → AreSeats (remove_entry (has_key lower) xs) → AreSeats (cond b xs (x ∷ remove_entry (has_key lower) xs))
-    by true rest = seats.1
-    by false rest = (seats.0, rest)
+    by : (b : Bool) → is_called nick x ≡ b → b ≡ false
+    by true is = absurd (let e : 0 ≡ suc i = only 0 x refl is in omega (arith, e))
+    by false is = refl
 
-pub seated-remove_entry : (nick lower : List ℕ) (es : List Seat) → lower ≡ folded nick → AreSeats es → list_any (is_called nick) (seated (values_of es)) ≡ false → seated (values_of (remove_entry (has_key lower) es)) ≡ seated (values_of es)
-seated-remove_entry nick lower [] same seats none = refl
-seated-remove_entry nick lower (x ∷ xs) same seats none = by x.1 (has_key lower x.0) refl seats.0 none (seated-remove_entry nick lower xs same seats.1)
+pub seated-gone : (nick : List ℕ) (ps : Places) (i : ℕ) (m : Member) → SitsAt ps i m → is_called nick m ≡ true → IsOnly nick ps i → seated (set ps i None) ≡ first_removed (is_called nick) (seated ps)
+seated-gone nick [] i m at called only = absurd at
+seated-gone nick (None ∷ ps) zero m at called only = cc
+seated-gone nick (Some x ∷ ps) zero m at called only =
+    sym (cond-true (is_called nick x) _ _ (ap (is_called nick) (same_one x m at) ∙ called))
   where
-    by : (o : Option Member) (b : Bool) → has_key lower x.0 ≡ b → IsSeat x.0 o → list_any (is_called nick) (seated (o ∷ values_of xs)) ≡ false
-        → (list_any (is_called nick) (seated (values_of xs)) ≡ false → seated (values_of (remove_entry (has_key lower) xs)) ≡ seated (values_of xs))
-        → seated (values_of (cond b xs ((x.0, o) ∷ remove_entry (has_key lower) xs))) ≡ seated (o ∷ values_of xs)
-    by None true test seat none rest = refl
-    by None false test seat none rest = rest none
-    by (Some m) false test seat none rest = ap (λ ms. m ∷ ms) (rest (or-parts (is_called nick m) (list_any (is_called nick) (seated (values_of xs))) none).1)
-    by (Some m) true test seat none rest =
-        let here : true ≡ false = sym test ∙ same_test nick lower x.0 m same seat ∙ (or-parts (is_called nick m) (list_any (is_called nick) (seated (values_of xs))) none).0 in cc
+    same_one : (x m : Member) → Some x ≡ Some m → x ≡ m
+    same_one x m e = cc
+seated-gone nick (None ∷ ps) (suc i) m at called only = seated-gone nick ps i m at called (only-tail nick None ps i only)
+seated-gone nick (Some x ∷ ps) (suc i) m at called only =
+    ap (λ ms. x ∷ ms) (seated-gone nick ps i m at called (only-tail nick (Some x) ps i only)) ∙ sym (cond-false (is_called nick x) _ _ (only-head nick x ps i only))
 
--- a new seat comes last
-
-pub inserted_last : (k : Vec ℕ Global) (o : Option Member) (es : List Seat) → lookup (has_key k.items) es ≡ None → insert_entry key_eq es k o ≡ es ++ (k, o) ∷ []
-inserted_last k o es none = insert_entry-absent key_eq k o es (absent_from_lookup (key_eq k) es none)
-
-pub AreSeats-last : (es : List Seat) (k : Vec ℕ Global) (o : Option Member) → AreSeats es → IsSeat k o → AreSeats (es ++ (k, o) ∷ [])
-AreSeats-last es k o seats is = AreSeats-append es (k, o) seats is
-
-pub seated-append : (es : List Seat) (k : Vec ℕ Global) (o : Option Member) → seated (values_of (es ++ (k, o) ∷ [])) ≡ seated (values_of es) ++ option_to_list o
-seated-append es k o = ap seated (values_of-append es (k, o)) ∙ seated-last (values_of es) o
-
-pub none_of : {X : Type 0} (o : Option ℕ) (p : Option X) → o ≡ None → is_some o ≡ is_some p → p ≡ None
-none_of o None none same = refl
-none_of o (Some x) none same = let both : false ≡ true = sym (ap is_some none) ∙ same in cc
-
-pub same_bytes : (xs : List ℕ) → pointwise nat_eq xs xs ≡ true
-same_bytes xs = search rules
-
-last_len : (k : Vec ℕ Global) (es : List Seat) → lookup (has_key k.items) es ≡ None → position_or_len (has_key k.items) (keys_of (es ++ (k, None) ∷ [])) ≡ length es
-last_len k [] none = ap (λ b. cond (not b) (1 + 0) 0) (same_bytes k.items)
-last_len k (e ∷ es) none = by (has_key k.items e.0) none (last_len k es)
+pub seated-edited : (nick : List ℕ) (f : Member → Member) (ps : Places) (i : ℕ) (m n : Member) → SitsAt ps i m → n ≡ f m → is_called nick m ≡ true → IsOnly nick ps i
+    → seated (set ps i (Some n)) ≡ first_changed (is_called nick) f (seated ps)
+seated-edited nick f [] i m n at made called only = absurd at
+seated-edited nick f (None ∷ ps) zero m n at made called only = cc
+seated-edited nick f (Some x ∷ ps) zero m n at made called only =
+    let same : x ≡ m = same_one x m at in
+    ap (λ y. y ∷ seated ps) (made ∙ ap f (sym same)) ∙ sym (cond-true (is_called nick x) _ _ (ap (is_called nick) same ∙ called))
   where
-    n : ℕ
-    n = position_or_len (has_key k.items) (keys_of (es ++ (k, None) ∷ []))
+    same_one : (x m : Member) → Some x ≡ Some m → x ≡ m
+    same_one x m e = cc
+seated-edited nick f (None ∷ ps) (suc i) m n at made called only = seated-edited nick f ps i m n at made called (only-tail nick None ps i only)
+seated-edited nick f (Some x ∷ ps) (suc i) m n at made called only =
+    ap (λ ms. x ∷ ms) (seated-edited nick f ps i m n at made called (only-tail nick (Some x) ps i only)) ∙ sym (cond-false (is_called nick x) _ _ (only-head nick x ps i only))
 
-    by : (b : Bool) → cond b (Some e.1) (lookup (has_key k.items) es) ≡ None → (lookup (has_key k.items) es ≡ None → n ≡ length es) → cond (not b) (1 + n) 0 ≡ suc (length es)
-    by true none rest = cc
-    by false none rest = ap (λ m. 1 + m) (rest none) ∙ sym (one_more (length es))
+pub seated-found : (nick : List ℕ) (ps : Places) (i : ℕ) (m : Member) → SitsAt ps i m → is_called nick m ≡ true → IsOnly nick ps i → find (is_called nick) (seated ps) ≡ Some m
+seated-found nick [] i m at called only = absurd at
+seated-found nick (None ∷ ps) zero m at called only = cc
+seated-found nick (Some x ∷ ps) zero m at called only = cond-true (is_called nick x) _ _ (ap (is_called nick) (same_one x m at) ∙ called) ∙ at
+  where
+    same_one : (x m : Member) → Some x ≡ Some m → x ≡ m
+    same_one x m e = cc
+seated-found nick (None ∷ ps) (suc i) m at called only = seated-found nick ps i m at called (only-tail nick None ps i only)
+seated-found nick (Some x ∷ ps) (suc i) m at called only =
+    cond-false (is_called nick x) _ _ (only-head nick x ps i only) ∙ seated-found nick ps i m at called (only-tail nick (Some x) ps i only)
 
-longer : (es : List Seat) (e : Seat) → length (keys_of (es ++ e ∷ [])) ≡ suc (length es)
-longer [] e = refl
-longer (x ∷ xs) e = ap suc (longer xs e)
+-- nobody has the nick
+abbrev pub IsNobody : List ℕ → Places → Type 0
+IsNobody nick ps = (j : ℕ) (x : Member) → SitsAt ps j x → is_called nick x ≡ false
 
-pub last_place : (k : Vec ℕ Global) (es : List Seat) → lookup (has_key k.items) es ≡ None → position (has_key k.items) (keys_of (es ++ (k, None) ∷ [])) ≡ Some (length es)
-last_place k es none =
-    let n = length es in
-    let within : nat_lt n (suc n) ≡ true = grind (arith, nat_tests) in
-    ap (λ m. cond (nat_lt m (length (keys_of (es ++ (k, None) ∷ [])))) (Some m) None) (last_len k es none)
-    ∙ ap (λ l. cond (nat_lt n l) (Some n) None) (longer es (k, None)) ∙ ap (λ b. cond b (Some n) None) within
+pub seated-nobody : (nick : List ℕ) (ps : Places) → IsNobody nick ps → list_any (is_called nick) (seated ps) ≡ false
+seated-nobody nick [] none = refl
+seated-nobody nick (None ∷ ps) none = seated-nobody nick ps (λ j x sits. none (suc j) x sits)
+seated-nobody nick (Some y ∷ ps) none = rw (none 0 y refl) (seated-nobody nick ps (λ j x sits. none (suc j) x sits))
 
--- clones of the seats, where a clone of a key has its bytes and R is equality
-module _ (R : Option Member → Option Member → Type 0) (same : (o p : Option Member) → R o p → p ≡ o) where
-  abbrev IsCloned : Seat → Seat → Type 0
-  IsCloned p q = (AllZip (λ x y. y ≡ x) p.0.items q.0.items × (vec_len q.0 ≡ vec_len p.0)) × R p.1 q.1
+pub nobody-from : (nick : List ℕ) (ps : Places) (es : Entries) → AreIndexed ps es → place_under (folded nick) es ≡ None → IsNobody nick ps
+nobody-from nick ps es indexed none j x sits = by (is_called nick x) refl
+  where
+    by : (b : Bool) → is_called nick x ≡ b → b ≡ false
+    by true is = absurd (some_apart j (sym none ∙ ap (λ l. place_under l es) (pointwise-same (folded nick) (folded x.nick) is) ∙ indexed.found j x sits))
+    by false is = refl
 
-  pub values_of-clones : (es fs : List Seat) → AllZip IsCloned es fs → values_of fs ≡ values_of es
-  values_of-clones [] [] h = refl
-  values_of-clones [] (f ∷ fs) h = absurd h
-  values_of-clones (e ∷ es) [] h = absurd h
-  values_of-clones (e ∷ es) (f ∷ fs) h = cong₂ f.1 e.1 (values_of fs) (values_of es) (same e.1 f.1 h.0.1) (values_of-clones es fs h.1)
-    where
-      cong₂ : (a b : Option Member) (as' bs : List (Option Member)) → a ≡ b → as' ≡ bs → a ∷ as' ≡ b ∷ bs
-      cong₂ a b as' bs p q = cc
+-- by the index
 
-  pub AreSeats-clones : (es fs : List Seat) → AllZip IsCloned es fs → AreSeats es → AreSeats fs
-  AreSeats-clones [] [] h seats = tt
-  AreSeats-clones [] (f ∷ fs) h seats = absurd h
-  AreSeats-clones (e ∷ es) [] h seats = absurd h
-  AreSeats-clones (e ∷ es) (f ∷ fs) h seats = (by e.1 f.1 (same e.1 f.1 h.0.1) seats.0 (zip_same (λ x y. y ≡ x) (λ x y same. same) e.0.items f.0.items h.0.0.0), AreSeats-clones es fs h.1 seats.1)
-    where
-      by : (o p : Option Member) → p ≡ o → IsSeat e.0 o → f.0.items ≡ e.0.items → IsSeat f.0 p
-      by o None is seat key = tt
-      by None (Some m) is seat key = cc
-      by (Some n) (Some m) is seat key = key ∙ seat ∙ folds n m is
-        where
-          folds : (a b : Member) → Some b ≡ Some a → folded a.nick ≡ folded b.nick
-          folds a b e = cc
+pub has-none : (nick : List ℕ) (ps : Places) (es : Entries) → AreIndexed ps es → place_under (folded nick) es ≡ None → list_any (is_called nick) (seated ps) ≡ false
+has-none nick ps es indexed none = seated-nobody nick ps (nobody-from nick ps es indexed none)
+
+any_step : (a b : Bool) → (a ≡ true) ⊎ (b ≡ true) → (a || b) ≡ true
+any_step true b is = refl
+any_step false b is = ⊎_elim (λ e. absurd (true≢false (sym e))) (λ e. e) is
+
+found_step : {X : Type 0} (b : Bool) (x y : X) (o : Option X) → cond b (Some y) o ≡ Some x → (b ≡ true) ⊎ (o ≡ Some x)
+found_step true x y o is = inl refl
+found_step false x y o is = inr is
+
+any-found : {X : Type 0} (p : X → Bool) (xs : List X) (x : X) → find p xs ≡ Some x → list_any p xs ≡ true
+any-found p [] x is = cc
+any-found p (y ∷ ys) x is = any_step (p y) (list_any p ys) (⊎_elim (λ e. inl e) (λ rest. inr (any-found p ys x rest)) (found_step (p y) x y (find p ys) is))
+
+pub has-some : (nick : List ℕ) (ps : Places) (es : Entries) (i : ℕ) → AreIndexed ps es → place_under (folded nick) es ≡ Some i → list_any (is_called nick) (seated ps) ≡ true
+has-some nick ps es i indexed is =
+    let who = indexed.named (folded nick) i is in
+    any-found (is_called nick) (seated ps) who.0 (seated-found nick ps i who.0 who.1 (called-from nick who.0 who.2) (only-from nick ps es i indexed is))
+
+-- who has no seat has no place
+pub none-from : (nick : List ℕ) (ps : Places) (es : Entries) → AreIndexed ps es → list_any (is_called nick) (seated ps) ≡ false → place_under (folded nick) es ≡ None
+none-from nick ps es indexed absent = by (place_under (folded nick) es) refl
+  where
+    by : (o : Option ℕ) → place_under (folded nick) es ≡ o → o ≡ None
+    by None is = refl
+    by (Some i) is = let there = has-some nick ps es i indexed is in cc
+
+-- lists of seats
+
+one_of : {Y : Type 0} (o : Option Y) → cons_option o [] ≡ option_to_list o
+one_of None = refl
+one_of (Some y) = refl
+
+pub seated-append : (ps : Places) (o : Option Member) → seated (ps ++ o ∷ []) ≡ seated ps ++ option_to_list o
+seated-append ps o = filter_map-append (λ x. x) ps (o ∷ []) ∙ ap (λ ms. seated ps ++ ms) (one_of o)
+
+pub filter_map-more : {X Y : Type 0} (f : X → Option Y) (xs : List X) (i : ℕ) (d : X) → i < length xs → filter_map f (take (i + 1) xs) ≡ filter_map f (take i xs) ++ option_to_list (f (get_or xs i d))
+filter_map-more f xs i d less =
+    ap (filter_map f) (take_more xs i d less) ∙ filter_map-append f (take i xs) (get_or xs i d ∷ []) ∙ ap (λ ys. filter_map f (take i xs) ++ ys) (one_of (f (get_or xs i d)))
+
+pub seated-taken : (ps : Places) → seated (taken ps) ≡ seated ps
+seated-taken [] = refl
+seated-taken (None ∷ ps) = seated-taken ps
+seated-taken (Some m ∷ ps) = ap (λ ms. m ∷ ms) (seated-taken ps)
+
+pub seats-taken : (ps : Places) → map (λ m. Some m) (seated ps) ≡ taken ps
+seats-taken [] = refl
+seats-taken (None ∷ ps) = seats-taken ps
+seats-taken (Some m ∷ ps) = ap (λ qs. Some m ∷ qs) (seats-taken ps)
+
+-- a walk ends where the index says
+
+any_seated : (nick : List ℕ) (ps : Places) → list_any (is_called nick) (seated ps) ≡ list_any (is_seat_of nick) ps
+any_seated nick [] = refl
+any_seated nick (None ∷ ps) = any_seated nick ps
+any_seated nick (Some m ∷ ps) = ap (λ b. is_called nick m || b) (any_seated nick ps)
+
+seat_sits : (nick : List ℕ) (ps : Places) (i : ℕ) (d : Option Member) → i < length ps → is_seat_of nick (get_or ps i d) ≡ true → (m : Member) × SitsAt ps i m × (is_called nick m ≡ true)
+seat_sits nick ps i d less passes = by (get_or ps i d) refl passes
+  where
+    by : (o : Option Member) → get_or ps i d ≡ o → is_seat_of nick o ≡ true → (m : Member) × SitsAt ps i m × (is_called nick m ≡ true)
+    by None is p = cc
+    by (Some m) is p = (m, SitsAt-from ps i m d less is, p)
+
+pub walked : (nick : List ℕ) (ps : Places) (es : Entries) (o : Option ℕ) → AreIndexed ps es → o ≡ position (is_seat_of nick) ps → o ≡ place_under (folded nick) es
+walked nick ps es None indexed is = sym (none-from nick ps es indexed (any_seated nick ps ∙ list_any-no_position (is_seat_of nick) ps (sym is)))
+walked nick ps es (Some i) indexed is =
+    let first = first-from_position (is_seat_of nick) ps i None (sym is) in
+    let who = seat_sits nick ps i None first.within first.passes in
+    sym (ap (λ l. place_under l es) (pointwise-same (folded nick) (folded who.0.nick) who.2) ∙ indexed.found i who.0 who.1)
+
+-- an index that is made anew
+
+taken-none : (ps : Places) → taken (ps ++ None ∷ []) ≡ taken ps
+taken-none [] = refl
+taken-none (None ∷ ps) = taken-none ps
+taken-none (Some m ∷ ps) = ap (λ qs. Some m ∷ qs) (taken-none ps)
+
+taken-some : (ps : Places) (m : Member) → taken (ps ++ Some m ∷ []) ≡ taken ps ++ Some m ∷ []
+taken-some [] m = refl
+taken-some (None ∷ ps) m = taken-some ps m
+taken-some (Some x ∷ ps) m = ap (λ qs. Some x ∷ qs) (taken-some ps m)
+
+sits-taken : (ps : Places) (j : ℕ) (x : Member) → SitsAt (taken ps) j x → (k : ℕ) × SitsAt ps k x
+sits-taken [] j x at = absurd at
+sits-taken (None ∷ ps) j x at = let rest = sits-taken ps j x at in (suc rest.0, rest.1)
+sits-taken (Some y ∷ ps) zero x at = (0, at)
+sits-taken (Some y ∷ ps) (suc j) x at = let rest = sits-taken ps j x at in (suc rest.0, rest.1)
+
+sits-take : (i : ℕ) (ps : Places) (k : ℕ) (x : Member) → SitsAt (take i ps) k x → (k < i) × SitsAt ps k x
+sits-take zero ps k x at = absurd at
+sits-take (suc i) [] k x at = absurd at
+sits-take (suc i) (p ∷ ps) zero x at = (omega arith, at)
+sits-take (suc i) (p ∷ ps) (suc k) x at = let rest = sits-take i ps k x at in (let less : k < i = rest.0 in omega (arith, less), rest.1)
+
+length-last : (ps : Places) (o : Option Member) → length (ps ++ o ∷ []) ≡ length ps + 1
+length-last [] o = refl
+length-last (p ∷ ps) o = let rest = length-last ps o in omega (arith, rest)
+
+pub made-next : (ps : Places) (all : Entries) (i : ℕ) (d : Option Member) (es fs : Entries) (n k : ℕ) → AreIndexed ps all → i < length ps
+    → AreIndexed (taken (take i ps)) es → n ≡ length (taken (take i ps)) → IsIndexedNext (get_or ps i d) n es k fs
+    → AreIndexed (taken (take (i + 1) ps)) fs × (k ≡ length (taken (take (i + 1) ps)))
+made-next ps all i d es fs n k indexed less so_far count next = by (get_or ps i d) refl next
+  where
+    before : Places
+    before = taken (take i ps)
+
+    more : take (i + 1) ps ≡ take i ps ++ get_or ps i d ∷ []
+    more = take_more ps i d less
+
+    by : (o : Option Member) → get_or ps i d ≡ o → IsIndexedNext o n es k fs → AreIndexed (taken (take (i + 1) ps)) fs × (k ≡ length (taken (take (i + 1) ps)))
+    by None is step =
+        let whole : taken (take (i + 1) ps) ≡ before = ap taken (more ∙ ap (λ o. take i ps ++ o ∷ []) is) ∙ taken-none (take i ps) in
+        (subst (λ es. AreIndexed (taken (take (i + 1) ps)) es) (sym step.0) (subst (λ qs. AreIndexed qs es) (sym whole) so_far), step.1 ∙ count ∙ ap length (sym whole))
+    by (Some m) is step =
+        let whole : taken (take (i + 1) ps) ≡ before ++ Some m ∷ [] = ap taken (more ∙ ap (λ o. take i ps ++ o ∷ []) is) ∙ taken-some (take i ps) m in
+        let absent = none (place_under (folded m.nick) es) refl m is in (
+          subst (λ qs. AreIndexed qs fs) (sym whole) (indexed-last before es fs m so_far absent (subst (λ c. IsChanged (folded m.nick) (Some c) es fs) count step.0)),
+          (let total = step.1 absent in let long = length-last before (Some m) in let same = ap length whole in omega (arith, total, long, same, count)),
+        )
+      where
+        none : (o : Option ℕ) → place_under (folded m.nick) es ≡ o → (y : Member) → get_or ps i d ≡ Some y → o ≡ None
+        none None e y at = refl
+        none (Some j) e y at =
+            let who = so_far.named (folded m.nick) j e in
+            let somewhere = sits-taken (take i ps) j who.0 who.1 in
+            let early = sits-take i ps somewhere.0 who.0 somewhere.1 in
+            let own = indexed.found i m (SitsAt-from ps i m d less is) in
+            let other = indexed.found somewhere.0 who.0 early.1 ∙ refl in
+            let same : somewhere.0 ≡ i = same_place somewhere.0 i (sym other ∙ ap (λ l. place_under l all) who.2 ∙ own) in
+            let below : somewhere.0 < i = early.0 in
+            absurd (omega (arith, same, below))
+
+-- edits as the code makes them: the seat at `at` is read as `o`, and the index is changed under `lower`
+
+-- a place of the index is taken
+pub not_vacant : (nick : List ℕ) (ps : Places) (es : Entries) (at : ℕ) (d : Option Member) → AreIndexed ps es → place_under (folded nick) es ≡ Some at → get_or ps at d ≡ None → ⊥
+not_vacant nick ps es at d indexed is vacant =
+    let who = indexed.named (folded nick) at is in
+    some_apart who.0 (sym vacant ∙ SitsAt-get_or ps at who.0 d who.1)
+
+one_member : (m n : Member) → Some m ≡ Some n → m ≡ n
+one_member m n is = cc
+
+pub vacated : (nick lower : List ℕ) (ps : Places) (es fs : Entries) (at : ℕ) (m : Member) (o d : Option Member) → AreIndexed ps es → place_under (folded nick) es ≡ Some at → get_or ps at d ≡ Some m → o ≡ None
+    → lower ≡ folded m.nick → place_under lower fs ≡ None → KeepsOthers keys_alike (has_key lower) es fs
+    → AreIndexed (set ps at o) fs × (place_under (folded nick) fs ≡ None) × (seated (set ps at o) ≡ first_removed (is_called nick) (seated ps)) × IsChanged (folded nick) None es fs
+vacated nick lower ps es fs at m o d indexed is read none lower-is own keeps =
+    let who = indexed.named (folded nick) at is in
+    let same : m ≡ who.0 = one_member m who.0 (sym read ∙ SitsAt-get_or ps at who.0 d who.1) in
+    let lowers : lower ≡ folded who.0.nick = lower-is ∙ ap (λ (y : Member). folded y.nick) same in
+    let change : IsChanged (folded who.0.nick) None es fs = subst (λ l. IsChanged l None es fs) lowers (changed-by lower None es fs own keeps) in (
+      subst (λ p. AreIndexed (set ps at p) fs) (sym none) (indexed-gone ps es fs at who.0 indexed who.1 change),
+      ap (λ l. place_under l fs) (sym who.2) ∙ change.own,
+      ap (λ p. seated (set ps at p)) none ∙ seated-gone nick ps at who.0 who.1 (called-from nick who.0 who.2) (only-from nick ps es at indexed is),
+      subst (λ l. IsChanged l None es fs) who.2 change,
+    )
+
+none_still : (o : Option ℕ) (i : ℕ) → o ≡ None → o ≡ Some i → ⊥
+none_still o i none some = cc
+
+pub respelled : (old nick lower : List ℕ) (key : Vec ℕ Global) (ps : Places) (es fs gs : Entries) (at : ℕ) (m n : Member) (o d : Option Member) → AreIndexed ps es → place_under (folded old) es ≡ Some at → get_or ps at d ≡ Some m → o ≡ None
+    → lower ≡ folded m.nick → place_under lower fs ≡ None → KeepsOthers keys_alike (has_key lower) es fs
+    → key.items ≡ folded nick → place_under key.items gs ≡ Some at → KeepsOthers keys_alike (has_key key.items) fs gs
+    → ((i : ℕ) → place_under (folded nick) es ≡ Some i → is_same old nick ≡ true) → n ≡ with_nick nick m
+    → AreIndexed (set (set ps at o) at (Some n)) gs × (seated (set (set ps at o) at (Some n)) ≡ first_changed (is_called old) (with_nick nick) (seated ps))
+respelled old nick lower key ps es fs gs at m n o d indexed is read none lower-is own keeps key-is put others apart made =
+    let who = indexed.named (folded old) at is in
+    let same : m ≡ who.0 = one_member m who.0 (sym read ∙ SitsAt-get_or ps at who.0 d who.1) in
+    let gone = vacated old lower ps es fs at m o d indexed is read none lower-is own keeps in
+    let within : at < length ps = SitsAt-within ps at who.0 who.1 in
+    let long : length (set ps at o) ≡ length ps = length-set ps at o in
+    let called : n.nick ≡ nick = ap (λ (y : Member). y.nick) made in
+    let change : IsChanged (folded n.nick) (Some at) fs gs = subst (λ l. IsChanged l (Some at) fs gs) (key-is ∙ ap folded (sym called)) (changed-by key.items (Some at) fs gs put others) in
+    let absent : place_under (folded n.nick) fs ≡ None = ap (λ l. place_under (folded l) fs) called ∙ vacant (place_under (folded nick) fs) refl gone.1 gone.3 in (
+      indexed-filled (set ps at o) fs gs at n gone.0 (omega (arith, within, long)) free absent change,
+      ap seated (set-set ps at o (Some n)) ∙ seated-edited old (with_nick nick) ps at who.0 n who.1 (made ∙ ap (with_nick nick) same) (called-from old who.0 who.2) (only-from old ps es at indexed is),
+    )
+  where
+    free : (x : Member) → SitsAt (set ps at o) at x → ⊥
+    free x sits = ⊎_elim (λ here. some_apart x (sym none ∙ here.1)) (λ there. there.0 refl) (SitsAt-set ps at at o x sits)
+
+    vacant : (p : Option ℕ) → place_under (folded nick) fs ≡ p → place_under (folded old) fs ≡ None → IsChanged (folded old) None es fs → p ≡ None
+    vacant None e left change = refl
+    vacant (Some i) e left change = ⊎_elim
+        (λ here. sym e ∙ here.1)
+        (λ kept. absurd (none_still (place_under (folded nick) fs) i (ap (λ l. place_under l fs) (sym (pointwise-same (folded old) (folded nick) (apart i (sym kept ∙ e)))) ∙ left) e))
+        (by_lower (folded old) (folded nick) None es fs change)
+
+-- an edit leaves the nick
+pub edited-nick : (edit : Edit) (m : Member) → (edited edit m).nick ≡ m.nick
+edited-nick (Marked Op on) m = refl
+edited-nick (Marked Voice on) m = refl
+edited-nick (Marked HalfOp on) m = refl
+edited-nick (Listed more) m = refl
+edited-nick (Addressed user host) m = refl
+
+pub edited-indexed : (edit : Edit) (ps : Places) (es : Entries) (at : ℕ) (m n : Member) (o : Option Member) → at < length ps → o ≡ get_or ps at o → o ≡ Some m → n ≡ edited edit m → AreIndexed ps es → AreIndexed (set ps at (Some n)) es
+edited-indexed edit ps es at m n o within read is made indexed =
+    indexed-edited ps es at m n indexed (SitsAt-from ps at m o within (sym read ∙ is)) (ap (λ (y : Member). y.nick) made ∙ edited-nick edit m)
+
+pub edited-seated : (edit : Edit) (nick : List ℕ) (ps : Places) (es : Entries) (at : ℕ) (m n : Member) (o : Option Member) → o ≡ get_or ps at o → o ≡ Some m → n ≡ edited edit m → AreIndexed ps es
+    → place_under (folded nick) es ≡ Some at → seated (set ps at (Some n)) ≡ first_changed (is_called nick) (edited edit) (seated ps)
+edited-seated edit nick ps es at m n o read is made indexed place =
+    let who = indexed.named (folded nick) at place in
+    let same : m ≡ who.0 = one_member m who.0 (sym is ∙ read ∙ SitsAt-get_or ps at who.0 o who.1) in
+    seated-edited nick (edited edit) ps at who.0 n who.1 (made ∙ ap (edited edit) same) (called-from nick who.0 who.2) (only-from nick ps es at indexed place)
+
+pub next_len : (o p : Option ℕ) (n k : ℕ) → k ≡ n + (if is_some o then 0 else 1) → o ≡ p → p ≡ None → k ≡ n + 1
+next_len o p n k is same none = is ∙ ap (λ q. n + (if is_some q then 0 else 1)) (same ∙ none)
+
+pub none-is : {X : Type 0} (o : Option X) → is_some o ≡ false → o ≡ None
+none-is None is = refl
+none-is (Some x) is = cc
+
+pub has-is : (nick : List ℕ) (ps : Places) (es : Entries) (o : Option ℕ) → AreIndexed ps es → o ≡ place_under (folded nick) es → is_some o ≡ true → list_any (is_called nick) (seated ps) ≡ true
+has-is nick ps es None indexed same is = cc
+has-is nick ps es (Some i) indexed same is = has-some nick ps es i indexed (sym same)
+
+pub index_within : (lower : List ℕ) (ps : Places) (es : Entries) (i : ℕ) → AreIndexed ps es → place_under lower es ≡ Some i → i < length ps
+index_within lower ps es i indexed is = let who = indexed.named lower i is in SitsAt-within ps i who.0 who.1

@@ -7,14 +7,14 @@ use Rattle.chanstate.specs.declared.member.Member.{Member}
 use Rattle.chanstate.specs.declared.channel.Channel.{Channel}
 use Rattle.chanstate.specs.declared.state.ChanState.{ChanState}
 use Rattle.chanstate.specs.declared.undo.Undo.{Undo}
-use Rattle.chanstate.specs.Names.{alike}
+use Rattle.rfccase.specs.Casemapping.{is_same}
 use Rattle.chanstate.specs.Firsts.{first_removed, first_changed}
 use Rattle.chanstate.specs.Members.{is_called, unmarked, with_address, arrived}
 use Rattle.chanstate.specs.Channels.{is_named, with_members, on_channel, opened, put_last}
 use Rattle.chanstate.specs.Items.{Joined}
 use Rattle.chanstate.specs.Steps.{joined, steps}
 use Rattle.chanstate.specs.Undos.{before_of, before_by, before_in, undone_by, undone, put_each_last}
-use Rattle.chanstate.proofs.FindLemmas.{alike-refl, list_any-find, or-parts}
+use Rattle.chanstate.proofs.FindLemmas.{is_same-refl, list_any-find, or-parts}
 use Rattle.chanstate.proofs.StepLemmas.{first_changed-twice}
 
 -- a change that leaves the first that passes as it is
@@ -44,7 +44,7 @@ members_back nick (Some m) ms = first_changed (is_called nick) (with_address m.u
 arrived-back : (nick user host : List ℕ) (ms : List Member) (found : Option Member) → find (is_called nick) ms ≡ found → members_back nick found (arrived (unmarked nick user host) ms) ≡ ms
 arrived-back nick user host ms None is =
     let absent : list_any (is_called nick) ms ≡ false = list_any-find (is_called nick) ms ∙ ap is_some is in
-    ap (first_removed (is_called nick)) (cond-false _ _ _ absent) ∙ removed_last (is_called nick) ms (unmarked nick user host) absent (alike-refl nick)
+    ap (first_removed (is_called nick)) (cond-false _ _ _ absent) ∙ removed_last (is_called nick) ms (unmarked nick user host) absent (is_same-refl nick)
 arrived-back nick user host ms (Some m) is =
     let present : list_any (is_called nick) ms ≡ true = list_any-find (is_called nick) ms ∙ ap is_some is in
     ap (first_changed (is_called nick) (with_address m.user m.host)) (cond-true _ _ _ present)
@@ -71,7 +71,7 @@ channels-none channel change cs none = first_changed-kept (is_named channel) (wi
     none_is_some e = cc
 
 -- what was known before a join takes it back
-pub joined-back : (nick user host channel : List ℕ) (s : ChanState) → alike nick s.nick ≡ false → undone_by nick channel (before_in nick channel s) (joined nick user host channel s) ≡ s
+pub joined-back : (nick user host channel : List ℕ) (s : ChanState) → is_same nick s.nick ≡ false → undone_by nick channel (before_in nick channel s) (joined nick user host channel s) ≡ s
 joined-back nick user host channel s other =
     ap (undone_by nick channel (before_in nick channel s)) (cond-false _ _ _ other) ∙ by (find (is_named channel) s.channels) refl
   where
@@ -100,7 +100,7 @@ undone-append nick [] u s = refl
 undone-append nick (x ∷ xs) u s = ap (undone_by nick x.channel.now x.before) (undone-append nick xs u s)
 
 -- a join, and the undo of it behind those before, as the code writes them
-pub noted : (nick user host channel : List ℕ) (us vs new : List Undo) (u : Undo) (s t : ChanState) → alike nick s.nick ≡ false → new ≡ vs ++ u ∷ [] → vs ≡ us → u.channel.now ≡ channel → u.before ≡ before_in nick channel s
+pub noted : (nick user host channel : List ℕ) (us vs new : List Undo) (u : Undo) (s t : ChanState) → is_same nick s.nick ≡ false → new ≡ vs ++ u ∷ [] → vs ≡ us → u.channel.now ≡ channel → u.before ≡ before_in nick channel s
     → t ≡ joined nick user host channel s → undone nick new t ≡ undone nick us s
 noted nick user host channel us vs new u s t other is same at before after =
     let back : undone_by nick u.channel.now u.before t ≡ s =
@@ -110,14 +110,14 @@ noted nick user host channel us vs new u s t other is same at before after =
 
 -- a join of someone else leaves the bot's nick
 pub joined-nick : (nick user host channel : List ℕ) (s : ChanState) → (joined nick user host channel s).nick ≡ s.nick
-joined-nick nick user host channel s = by (alike nick s.nick)
+joined-nick nick user host channel s = by (is_same nick s.nick)
   where
     by : (b : Bool) → (cond b (record s { channels = put_last (opened channel (unmarked nick user host)) s.channels }) (record s { channels = on_channel channel (arrived (unmarked nick user host)) s.channels })).nick ≡ s.nick
     by true = refl
     by false = refl
 
 -- the bot's joins put each of its channels last
-pub steps-own : (nick user host : List ℕ) (names : List (List ℕ)) (s : ChanState) → alike nick s.nick ≡ true
+pub steps-own : (nick user host : List ℕ) (names : List (List ℕ)) (s : ChanState) → is_same nick s.nick ≡ true
     → steps (map (Joined nick user host) names) s ≡ record s { channels = put_each_last (map (λ name. opened name (unmarked nick user host)) names) s.channels }
 steps-own nick user host [] s own = refl
 steps-own nick user host (n ∷ ns) s own =

@@ -3,13 +3,13 @@ use Rattle.std.specs.Prelude.{ℕ, Bool, List, [], ◌∷◌, ◌++◌, map}
 use Rattle.std.specs.List.{list_any}
 use Rattle.chanstate.specs.declared.member.Member.{Member}
 use Rattle.chanstate.specs.declared.channel.Channel.{Channel}
-use Rattle.chanstate.specs.Names.{alike}
+use Rattle.rfccase.specs.Casemapping.{is_same}
 use Rattle.chanstate.specs.Firsts.{first_removed, first_changed}
 use Rattle.chanstate.specs.Members.{is_called, renamed}
 
 -- whether the channel has this name
 abbrev pub is_named : List ℕ → Channel → Bool
-is_named name channel = alike name channel.name
+is_named name channel = is_same name channel.name
 
 -- whether a channel of this name is held
 abbrev pub is_held : List ℕ → List Channel → Bool

@@ -2,12 +2,12 @@
 use Rattle.std.specs.Prelude.{ℕ, Bool, not, ◌==◌, List, [], ◌∷◌, ◌++◌, take, drop, length, if◌then◌else◌, codes, Option, Some, None, slice_get, slice_index}
 use Rattle.std.specs.List.{position_or_len}
 use Rattle.ircline.specs.declared.message.Message.{Message}
-use Rattle.ircline.specs.Source.{Origin, Person, origin_of}
+use Rattle.ircline.specs.Sources.{Source, Person, source_of}
 use Rattle.chanstate.specs.declared.event.Event.{Event}
 use Rattle.chanstate.specs.declared.event.Kind.TheVariants.{Raw, Msg, Msgm, Notc, Pub, Pubm}
 use Rattle.chanstate.specs.declared.channel.Channel.{Channel}
 use Rattle.chanstate.specs.declared.state.ChanState.{ChanState}
-use Rattle.chanstate.specs.Names.{alike}
+use Rattle.rfccase.specs.Casemapping.{is_same}
 use Rattle.chanstate.specs.Items.{is_command}
 use Rattle.chanstate.specs.Views.{channel_in}
 use Rattle.chanstate.specs.EventShape.{event_with}
@@ -26,9 +26,9 @@ word_len text = position_or_len (λ b. b == 32) text
 abbrev pub first_word : List ℕ → List ℕ
 first_word text = take (word_len text) text
 
--- what stands behind it and the spaces after it
-abbrev pub behind_word : List ℕ → List ℕ
-behind_word text = trimmed (drop (word_len text) text)
+-- what follows it and the spaces after it
+abbrev pub after_word : List ℕ → List ℕ
+after_word text = trimmed (drop (word_len text) text)
 
 -- one event by the whole text, and one by its first word, if the text begins with a word
 abbrev pub by_text_and_word : Event → Event → List ℕ → List Event
@@ -38,14 +38,14 @@ abbrev pub to_bot : List ℕ → List ℕ → List ℕ → List Event
 to_bot nick address text =
     by_text_and_word
     (event_with Msgm text None (nick ∷ address ∷ text ∷ []))
-    (event_with Msg (first_word text) None (nick ∷ address ∷ behind_word text ∷ []))
+    (event_with Msg (first_word text) None (nick ∷ address ∷ after_word text ∷ []))
     text
 
 abbrev pub to_channel : List ℕ → List ℕ → List ℕ → List ℕ → List Event
 to_channel nick address channel text =
     by_text_and_word
     (event_with Pubm (channel ++ 32 ∷ text) (Some channel) (nick ∷ address ∷ channel ∷ text ∷ []))
-    (event_with Pub (first_word text) (Some channel) (nick ∷ address ∷ channel ∷ behind_word text ∷ []))
+    (event_with Pub (first_word text) (Some channel) (nick ∷ address ∷ channel ∷ after_word text ∷ []))
     text
 
 -- a notice has one event, which names where it went
@@ -68,12 +68,12 @@ noticed_on nick address text (Some channel) = noticed nick address (Some channel
 abbrev pub said : List ℕ → List ℕ → List ℕ → List ℕ → ChanState → List Event
 said nick address target text s =
     if is_hidden text then []
-    else (if alike target s.nick then to_bot nick address text else said_on nick address text (channel_in target s))
+    else (if is_same target s.nick then to_bot nick address text else said_on nick address text (channel_in target s))
 
 abbrev pub noted : List ℕ → List ℕ → List ℕ → List ℕ → ChanState → List Event
 noted nick address target text s =
     if is_hidden text then []
-    else (if alike target s.nick then noticed nick address None text target else noticed_on nick address text (channel_in target s))
+    else (if is_same target s.nick then noticed nick address None text target else noticed_on nick address text (channel_in target s))
 
 abbrev pub when_given : Option (List ℕ) → (List ℕ → List Event) → List Event
 when_given None events = []
@@ -83,19 +83,19 @@ when_given (Some text) events = events text
 abbrev pub address_of : List ℕ → List ℕ → List ℕ
 address_of user host = user ++ 64 ∷ host
 
-abbrev pub said_by : Origin → List (List ℕ) → ChanState → List Event
+abbrev pub said_by : Source → List (List ℕ) → ChanState → List Event
 said_by (Person nick user host) ps s = when_given (slice_get ps 0) (λ target. when_given (slice_get ps 1) (λ text. said nick (address_of user host) target text s))
 said_by who ps s = []
 
-abbrev pub noted_by : Origin → List (List ℕ) → ChanState → List Event
+abbrev pub noted_by : Source → List (List ℕ) → ChanState → List Event
 noted_by (Person nick user host) ps s = when_given (slice_get ps 0) (λ target. when_given (slice_get ps 1) (λ text. noted nick (address_of user host) target text s))
 noted_by who ps s = []
 
 -- those events that depend on the command
 abbrev pub typed : Message → ChanState → List Event
 typed m s =
-    if is_command m.command (codes "PRIVMSG") then said_by (origin_of m.prefix) m.params s
-    else (if is_command m.command (codes "NOTICE") then noted_by (origin_of m.prefix) m.params s
+    if is_command m.command (codes "PRIVMSG") then said_by (source_of m.prefix) m.params s
+    else (if is_command m.command (codes "NOTICE") then noted_by (source_of m.prefix) m.params s
     else [])
 
 -- every message has a raw event first

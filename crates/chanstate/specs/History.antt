@@ -7,7 +7,7 @@ use Rattle.chanstate.specs.declared.member.Mark.{Mark}
 use Rattle.chanstate.specs.declared.member.Mark.TheVariants.{Op, Voice, HalfOp}
 use Rattle.chanstate.specs.declared.state.ChanState.{ChanState}
 use Rattle.ircline.specs.declared.message.Message.{Message}
-use Rattle.chanstate.specs.Names.{alike}
+use Rattle.rfccase.specs.Casemapping.{is_same}
 use Rattle.chanstate.specs.Items.{Item, Welcomed, Joined, Left, Departed, Renamed, Marked, Titled, Listed, Addressed, items_of}
 use Rattle.chanstate.specs.Steps.{after}
 use Rattle.chanstate.specs.Views.{channel_in, members_in, member_in}
@@ -15,7 +15,7 @@ use Rattle.chanstate.specs.Views.{channel_in, members_in, member_in}
 -- the bot's nick: what the last welcome says, or the last change of that nick
 abbrev pub own_said : Item → List ℕ → Option (List ℕ)
 own_said (Welcomed nick) me = Some nick
-own_said (Renamed old new) me = if alike old me then Some new else None
+own_said (Renamed old new) me = if is_same old me then Some new else None
 own_said item me = None
 
 abbrev pub own : List ℕ → List Item → List ℕ
@@ -25,9 +25,9 @@ own first (item ∷ past) = unwrap_or (own_said item (own first past)) (own firs
 -- whether a channel is held: a join of the bot puts it on, its leaving, its departure and a welcome take it off
 abbrev pub channel_said : Item → List ℕ → List ℕ → Option Bool
 channel_said (Welcomed nick) me c = Some false
-channel_said (Joined nick user host d) me c = if alike c d && alike nick me then Some true else None
-channel_said (Left nick d) me c = if alike c d && alike nick me then Some false else None
-channel_said (Departed nick) me c = if alike nick me then Some false else None
+channel_said (Joined nick user host d) me c = if is_same c d && is_same nick me then Some true else None
+channel_said (Left nick d) me c = if is_same c d && is_same nick me then Some false else None
+channel_said (Departed nick) me c = if is_same nick me then Some false else None
 channel_said item me c = None
 
 abbrev pub held : List ℕ → List ℕ → List Item → Bool
@@ -36,8 +36,8 @@ held first c (item ∷ past) = unwrap_or (channel_said item (own first past) c) 
 
 -- the topic of a held channel: what the last topic says, none if the bot joined after it
 abbrev pub topic_said : Item → List ℕ → List ℕ → Option (List ℕ)
-topic_said (Joined nick user host d) me c = if alike c d && alike nick me then Some [] else None
-topic_said (Titled d topic) me c = if alike c d then Some topic else None
+topic_said (Joined nick user host d) me c = if is_same c d && is_same nick me then Some [] else None
+topic_said (Titled d topic) me c = if is_same c d then Some topic else None
 topic_said item me c = None
 
 abbrev pub topic : List ℕ → List ℕ → List Item → List ℕ
@@ -46,7 +46,7 @@ topic first c (item ∷ past) = unwrap_or (topic_said item (own first past) c) (
 
 -- the spelling of a held channel: as the bot's last join of it spells it
 abbrev pub name_said : Item → List ℕ → List ℕ → Option (List ℕ)
-name_said (Joined nick user host d) me c = if alike c d && alike nick me then Some d else None
+name_said (Joined nick user host d) me c = if is_same c d && is_same nick me then Some d else None
 name_said item me c = None
 
 abbrev pub spelling : List ℕ → List ℕ → List Item → List ℕ
@@ -58,12 +58,12 @@ spelling first c (item ∷ past) = unwrap_or (name_said item (own first past) c)
 abbrev pub nick_said : Item → List ℕ → Bool → List ℕ → (List ℕ → Bool) → List ℕ → Option Bool
 nick_said (Welcomed nick) me here c was x = Some false
 nick_said (Joined nick user host d) me here c was x =
-    if alike c d then (if alike nick me then Some (alike x nick) else (if here && alike x nick then Some true else None)) else None
-nick_said (Left nick d) me here c was x = if alike c d && (alike nick me || alike x nick) then Some false else None
-nick_said (Departed nick) me here c was x = if alike nick me || alike x nick then Some false else None
+    if is_same c d then (if is_same nick me then Some (is_same x nick) else (if here && is_same x nick then Some true else None)) else None
+nick_said (Left nick d) me here c was x = if is_same c d && (is_same nick me || is_same x nick) then Some false else None
+nick_said (Departed nick) me here c was x = if is_same nick me || is_same x nick then Some false else None
 nick_said (Renamed old new) me here c was x =
-    if was old then (if alike x new then Some true else (if alike x old then Some false else None)) else None
-nick_said (Listed d one) me here c was x = if alike c d && (here && alike x one.nick) then Some true else None
+    if was old then (if is_same x new then Some true else (if is_same x old then Some false else None)) else None
+nick_said (Listed d one) me here c was x = if is_same c d && (here && is_same x one.nick) then Some true else None
 nick_said item me here c was x = None
 
 abbrev pub on : List ℕ → List ℕ → List Item → List ℕ → Bool
@@ -74,19 +74,19 @@ on first c (item ∷ past) x = unwrap_or (nick_said item (own first past) (held 
 -- that concerns it what it is now. Behind a change of nick one looks further back under the old one.
 abbrev pub member_said : {A : Type 0} → (Item → A) → (Item → Option A) → Item → List ℕ → List ℕ → (List ℕ → Bool) → (List ℕ → A) → List ℕ → A
 member_said begins says (Joined nick user host d) me c was before x =
-    if alike c d && alike x nick
-    then (if alike nick me || not (was x) then begins (Joined nick user host d) else unwrap_or (says (Joined nick user host d)) (before x))
+    if is_same c d && is_same x nick
+    then (if is_same nick me || not (was x) then begins (Joined nick user host d) else unwrap_or (says (Joined nick user host d)) (before x))
     else before x
 member_said begins says (Listed d one) me c was before x =
-    if alike c d && alike x one.nick
+    if is_same c d && is_same x one.nick
     then (if was x then unwrap_or (says (Listed d one)) (before x) else begins (Listed d one))
     else before x
 member_said begins says (Renamed old new) me c was before x =
-    if was old && alike x new then unwrap_or (says (Renamed old new)) (before old) else before x
+    if was old && is_same x new then unwrap_or (says (Renamed old new)) (before old) else before x
 member_said begins says (Marked d mark set nick) me c was before x =
-    if alike c d && alike x nick then unwrap_or (says (Marked d mark set nick)) (before x) else before x
+    if is_same c d && is_same x nick then unwrap_or (says (Marked d mark set nick)) (before x) else before x
 member_said begins says (Addressed d nick user host) me c was before x =
-    if alike c d && alike x nick then unwrap_or (says (Addressed d nick user host)) (before x) else before x
+    if is_same c d && is_same x nick then unwrap_or (says (Addressed d nick user host)) (before x) else before x
 member_said begins says item me c was before x = before x
 
 abbrev pub known : {A : Type 0} → (Item → A) → (Item → Option A) → A → List ℕ → List ℕ → List Item → List ℕ → A
@@ -156,7 +156,7 @@ arrival first c (item ∷ past) x = member_said (λ _. length past) (λ _. None)
 
 -- when the bot joined a channel
 abbrev pub joins : Item → List ℕ → List ℕ → Bool
-joins (Joined nick user host d) me c = alike c d && alike nick me
+joins (Joined nick user host d) me c = is_same c d && is_same nick me
 joins item me c = false
 
 abbrev pub opening : List ℕ → List Item → List ℕ → ℕ

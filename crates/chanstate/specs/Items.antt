@@ -6,7 +6,8 @@ use Rattle.std.specs.Prelude.{ℕ, ◌-◌, unwrap_or, Bool, true, false, ◌||�
 use Rattle.std.specs.List.{list_any, list_all, filter_map, slice_split, position_or_len}
 use Rattle.std.specs.Cmp.Lexicographic.{pointwise}
 use Rattle.ircline.specs.declared.message.Message.{Message}
-use Rattle.ircline.specs.Source.{Origin, Person, origin_of}
+use Rattle.rfccase.specs.Channels.{is_channel_name}
+use Rattle.ircline.specs.Sources.{Source, Person, source_of}
 use Rattle.chanstate.specs.declared.member.Member.{Member}
 use Rattle.chanstate.specs.declared.member.Mark.{Mark}
 use Rattle.chanstate.specs.declared.member.Mark.TheVariants.{Op, Voice, HalfOp}
@@ -37,16 +38,6 @@ pub data Item : Type 0 where
 abbrev pub if_given : Option (List ℕ) → (List ℕ → List Item) → List Item
 if_given None items = []
 if_given (Some text) items = items text
-
--- a channel's name begins with & # + or !, has 1 to 100 bytes, and no space, comma or control G
-abbrev pub is_channel_byte : ℕ → Bool
-is_channel_byte b = not (b == 32) && (not (b == 44) && not (b == 7))
-
-abbrev pub is_channel_start : ℕ → Bool
-is_channel_start b = b == 38 || (b == 35 || (b == 43 || b == 33))
-
-abbrev pub is_channel_name : List ℕ → Bool
-is_channel_name text = is_channel_start (slice_index text 0) && (nat_le (length text) 100 && list_all is_channel_byte text)
 
 -- the channels of a list with commas between; a piece that is no channel's name names none
 abbrev pub channels_in : List ℕ → List (List ℕ)
@@ -129,7 +120,7 @@ is_command command name = pointwise nat_eq command name
 
 abbrev pub verb_of : List ℕ → Verb
 verb_of c =
-    if is_command c (codes "001") then verb.Welcome
+    if is_command c (codes "001") then verb.RplWelcome
     else (if is_command c (codes "JOIN") then verb.Join
     else (if is_command c (codes "PART") then verb.Part
     else (if is_command c (codes "KICK") then verb.Kick
@@ -137,22 +128,22 @@ verb_of c =
     else (if is_command c (codes "NICK") then verb.Nick
     else (if is_command c (codes "MODE") then verb.Mode
     else (if is_command c (codes "TOPIC") then verb.Topic
-    else (if is_command c (codes "332") then verb.TopicIs
-    else (if is_command c (codes "331") then verb.NoTopic
-    else (if is_command c (codes "353") then verb.Names
-    else (if is_command c (codes "352") then verb.Who
+    else (if is_command c (codes "332") then verb.RplTopic
+    else (if is_command c (codes "331") then verb.RplNoTopic
+    else (if is_command c (codes "353") then verb.RplNamReply
+    else (if is_command c (codes "352") then verb.RplWhoReply
     else verb.Other)))))))))))
 
 -- 001: the first parameter is the bot's nick
-abbrev pub welcome_items : List (List ℕ) → List Item
-welcome_items ps = if_given (slice_get ps 0) (λ nick. Welcomed nick ∷ [])
+abbrev pub rpl_welcome_items : List (List ℕ) → List Item
+rpl_welcome_items ps = if_given (slice_get ps 0) (λ nick. Welcomed nick ∷ [])
 
 -- JOIN and PART of a person
-abbrev pub join_items : Origin → List (List ℕ) → List Item
+abbrev pub join_items : Source → List (List ℕ) → List Item
 join_items (Person nick user host) ps = if_given (slice_get ps 0) (λ list. map (Joined nick user host) (channels_in list))
 join_items who ps = []
 
-abbrev pub part_items : Origin → List (List ℕ) → List Item
+abbrev pub part_items : Source → List (List ℕ) → List Item
 part_items (Person nick user host) ps = if_given (slice_get ps 0) (λ list. map (Left nick) (channels_in list))
 part_items who ps = []
 
@@ -161,11 +152,11 @@ abbrev pub kick_items : List (List ℕ) → List Item
 kick_items ps = if_given (slice_get ps 0) (λ channel. if_given (slice_get ps 1) (λ target. Left target channel ∷ []))
 
 -- QUIT and NICK of a person
-abbrev pub quit_items : Origin → List Item
+abbrev pub quit_items : Source → List Item
 quit_items (Person nick user host) = Departed nick ∷ []
 quit_items who = []
 
-abbrev pub nick_items : Origin → List (List ℕ) → List Item
+abbrev pub nick_items : Source → List (List ℕ) → List Item
 nick_items (Person nick user host) ps = if_given (slice_get ps 0) (λ new. Renamed nick new ∷ [])
 nick_items who ps = []
 
@@ -180,23 +171,23 @@ last_of ps = slice_get ps (length ps - 1)
 abbrev pub topic_items : List (List ℕ) → List Item
 topic_items ps = if_given (slice_get ps 0) (λ channel. if_given (slice_get ps 1) (λ text. if_given (last_of ps) (λ topic. Titled channel topic ∷ [])))
 
-abbrev pub topic_is_items : List (List ℕ) → List Item
-topic_is_items ps = if_given (slice_get ps 1) (λ channel. if_given (slice_get ps 2) (λ text. if_given (last_of ps) (λ topic. Titled channel topic ∷ [])))
+abbrev pub rpl_topic_items : List (List ℕ) → List Item
+rpl_topic_items ps = if_given (slice_get ps 1) (λ channel. if_given (slice_get ps 2) (λ text. if_given (last_of ps) (λ topic. Titled channel topic ∷ [])))
 
-abbrev pub no_topic_items : List (List ℕ) → List Item
-no_topic_items ps = if_given (slice_get ps 1) (λ channel. Titled channel [] ∷ [])
+abbrev pub rpl_no_topic_items : List (List ℕ) → List Item
+rpl_no_topic_items ps = if_given (slice_get ps 1) (λ channel. Titled channel [] ∷ [])
 
 -- 353: the third parameter is the channel, the fourth the names
-abbrev pub names_items : List (List ℕ) → List Item
-names_items ps = if_given (slice_get ps 2) (λ channel. if_given (slice_get ps 3) (λ names. map (Listed channel) (names_in names)))
+abbrev pub rpl_nam_reply_items : List (List ℕ) → List Item
+rpl_nam_reply_items ps = if_given (slice_get ps 2) (λ channel. if_given (slice_get ps 3) (λ names. map (Listed channel) (names_in names)))
 
 -- 352: the second, third, fourth and sixth are channel, user, host and nick
-abbrev pub who_items : List (List ℕ) → List Item
-who_items ps =
+abbrev pub rpl_who_reply_items : List (List ℕ) → List Item
+rpl_who_reply_items ps =
     if_given (slice_get ps 1) (λ channel. if_given (slice_get ps 2) (λ user. if_given (slice_get ps 3) (λ host. if_given (slice_get ps 5) (λ nick. Addressed channel nick user host ∷ []))))
 
-abbrev pub items_by : Verb → Origin → List (List ℕ) → List Item
-items_by verb.Welcome who ps = welcome_items ps
+abbrev pub items_by : Verb → Source → List (List ℕ) → List Item
+items_by verb.RplWelcome who ps = rpl_welcome_items ps
 items_by verb.Join who ps = join_items who ps
 items_by verb.Part who ps = part_items who ps
 items_by verb.Kick who ps = kick_items ps
@@ -204,11 +195,11 @@ items_by verb.Quit who ps = quit_items who
 items_by verb.Nick who ps = nick_items who ps
 items_by verb.Mode who ps = mode_items ps
 items_by verb.Topic who ps = topic_items ps
-items_by verb.TopicIs who ps = topic_is_items ps
-items_by verb.NoTopic who ps = no_topic_items ps
-items_by verb.Names who ps = names_items ps
-items_by verb.Who who ps = who_items ps
+items_by verb.RplTopic who ps = rpl_topic_items ps
+items_by verb.RplNoTopic who ps = rpl_no_topic_items ps
+items_by verb.RplNamReply who ps = rpl_nam_reply_items ps
+items_by verb.RplWhoReply who ps = rpl_who_reply_items ps
 items_by verb.Other who ps = []
 
 abbrev pub items_of : Message → List Item
-items_of m = items_by (verb_of m.command) (origin_of m.prefix) m.params
+items_of m = items_by (verb_of m.command) (source_of m.prefix) m.params

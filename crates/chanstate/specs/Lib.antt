@@ -1,4 +1,3 @@
-pub mod Names
 pub mod Firsts
 pub mod Members
 pub mod Channels
@@ -9,6 +8,6 @@ pub mod Views
 pub mod EventShape
 pub mod Events
 pub mod History
-pub mod Keys
+pub mod Seats
 pub mod Renamings
 pub mod Undos

@@ -4,12 +4,14 @@ use Rattle.std.specs.List.{list_any}
 use Rattle.chanstate.specs.declared.member.Member.{Member}
 use Rattle.chanstate.specs.declared.member.Mark.{Mark}
 use Rattle.chanstate.specs.declared.member.Mark.TheVariants.{Op, Voice, HalfOp}
-use Rattle.chanstate.specs.Names.{alike}
+use Rattle.chanstate.specs.declared.edit.Edit.{Edit}
+use Rattle.chanstate.specs.declared.edit.Edit.TheVariants.{Marked, Listed, Addressed}
+use Rattle.rfccase.specs.Casemapping.{is_same}
 use Rattle.chanstate.specs.Firsts.{first_removed, first_changed}
 
 -- whether the member has this nick
 abbrev pub is_called : List ℕ → Member → Bool
-is_called nick m = alike nick m.nick
+is_called nick m = is_same nick m.nick
 
 -- whether one of the members has this nick
 abbrev pub has_member : List ℕ → List Member → Bool
@@ -37,6 +39,12 @@ with_mark HalfOp on m = record m { half_op = on }
 abbrev pub with_marks_of : Member → Member → Member
 with_marks_of more m = record m { op = m.op || more.op; voice = m.voice || more.voice; half_op = m.half_op || more.half_op }
 
+-- the member after a change that leaves the nick
+abbrev pub edited : Edit → Member → Member
+edited (Marked mark on) m = with_mark mark on m
+edited (Listed more) m = with_marks_of more m
+edited (Addressed user host) m = with_address user host m
+
 -- one who joins: a member's address is renewed, and anyone else comes last, without marks
 abbrev pub arrived : Member → List Member → List Member
 arrived one members =
@@ -58,7 +66,7 @@ listed_each (one ∷ more) members = listed_each more (listed one members)
 
 -- the members without another of the new nick
 abbrev pub without_namesake : List ℕ → List ℕ → List Member → List Member
-without_namesake old new members = if alike old new then members else first_removed (is_called new) members
+without_namesake old new members = if is_same old new then members else first_removed (is_called new) members
 
 -- a member takes another nick in its place, and another of that nick goes first
 abbrev pub renamed : List ℕ → List ℕ → List Member → List Member

@@ -9,7 +9,7 @@ use Rattle.chanstate.specs.Items.{Item, Welcomed, Joined, Left, Departed, Rename
 abbrev pub items_seen : Change → List Item
 items_seen change.Nothing = []
 items_seen (change.Welcome nick) = Welcomed nick.now ∷ []
-items_seen (change.Join nick user host list) = map (Joined nick.now user.now host.now) (channels_in list.now)
+items_seen (change.Join person list) = map (Joined person.nick.now person.user.now person.host.now) (channels_in list.now)
 items_seen (change.Part nick list) = map (Left nick.now) (channels_in list.now)
 items_seen (change.Kick channel target) = Left target.now channel.now ∷ []
 items_seen (change.Quit nick) = Departed nick.now ∷ []

@@ -2,7 +2,7 @@
 use Rattle.std.specs.Prelude.{ℕ, List, [], ◌∷◌, if◌then◌else◌}
 use Rattle.ircline.specs.declared.message.Message.{Message}
 use Rattle.chanstate.specs.declared.state.ChanState.{ChanState}
-use Rattle.chanstate.specs.Names.{alike}
+use Rattle.rfccase.specs.Casemapping.{is_same}
 use Rattle.chanstate.specs.Firsts.{first_removed, first_changed}
 use Rattle.chanstate.specs.Members.{is_called, unmarked, with_mark, with_address, arrived, listed}
 use Rattle.chanstate.specs.Channels.{is_named, opened, with_topic, on_channel, put_last, all_without, all_renamed}
@@ -11,20 +11,20 @@ use Rattle.chanstate.specs.Items.{Item, Welcomed, Joined, Left, Departed, Rename
 -- a person joins a channel: for the bot the channel is put last anew
 abbrev pub joined : List ℕ → List ℕ → List ℕ → List ℕ → ChanState → ChanState
 joined nick user host channel s =
-    if alike nick s.nick
+    if is_same nick s.nick
     then record s { channels = put_last (opened channel (unmarked nick user host)) s.channels }
     else record s { channels = on_channel channel (arrived (unmarked nick user host)) s.channels }
 
 -- a nick leaves a channel: for the bot the channel goes
 abbrev pub left : List ℕ → List ℕ → ChanState → ChanState
 left nick channel s =
-    if alike nick s.nick
+    if is_same nick s.nick
     then record s { channels = first_removed (is_named channel) s.channels }
     else record s { channels = on_channel channel (first_removed (is_called nick)) s.channels }
 
 -- a nick leaves the network: for the bot all channels go
 abbrev pub departed : List ℕ → ChanState → ChanState
-departed nick s = if alike nick s.nick then record s { channels = [] } else record s { channels = all_without nick s.channels }
+departed nick s = if is_same nick s.nick then record s { channels = [] } else record s { channels = all_without nick s.channels }
 
 -- the state after one item
 abbrev pub step : Item → ChanState → ChanState
@@ -32,7 +32,7 @@ step (Welcomed nick) s = record { nick = nick; channels = [] }
 step (Joined nick user host channel) s = joined nick user host channel s
 step (Left nick channel) s = left nick channel s
 step (Departed nick) s = departed nick s
-step (Renamed old new) s = record { nick = if alike old s.nick then new else s.nick; channels = all_renamed old new s.channels }
+step (Renamed old new) s = record { nick = if is_same old s.nick then new else s.nick; channels = all_renamed old new s.channels }
 step (Marked channel mark on nick) s = record s { channels = on_channel channel (first_changed (is_called nick) (with_mark mark on)) s.channels }
 step (Titled channel topic) s = record s { channels = first_changed (is_named channel) (with_topic topic) s.channels }
 step (Listed channel one) s = record s { channels = on_channel channel (listed one) s.channels }

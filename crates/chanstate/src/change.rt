@@ -1,15 +1,15 @@
 // What a message says of the bot's channels.
 ghost use Rattle.std.specs.Prelude.{◌≡◌};
-ghost use Rattle.chanstate.specs.Items.{items_of, items_by, welcome_items, join_items, part_items, kick_items, quit_items, nick_items, mode_items, topic_items, topic_is_items, no_topic_items, names_items, who_items, last_of};
+ghost use Rattle.chanstate.specs.Items.{items_of, items_by, rpl_welcome_items, join_items, part_items, kick_items, quit_items, nick_items, mode_items, topic_items, rpl_topic_items, rpl_no_topic_items, rpl_nam_reply_items, rpl_who_reply_items, last_of};
 ghost use Rattle.std.specs.Option.{option_copied};
 ghost use Rattle.chanstate.specs.Seen.{items_seen};
-ghost use Rattle.ircline.specs.Source.{origin_of};
+ghost use Rattle.ircline.specs.Sources.{source_of};
 ghost use Rattle.ircline.specs.View.{seen};
 
 use crate::verb::{Verb, read_verb};
-use crate::words::{behind, param};
+use crate::words::{param, params_from};
 use bytetext::Text;
-use ircline::{Message, Source, source};
+use ircline::{Message, Person, Source, source};
 
 /// What a message says, as parts of its parameters.
 #[derive(Clone, Copy)]
@@ -18,9 +18,7 @@ pub enum Change<'a> {
     Nothing,
     Welcome(&'a [u8]),
     Join {
-        nick: &'a [u8],
-        user: &'a [u8],
-        host: &'a [u8],
+        person: Person<'a>,
         list: &'a [u8],
     },
     Part {
@@ -57,8 +55,8 @@ pub enum Change<'a> {
     },
 }
 
-fn welcome(params: &[Text]) -> Change<'_>
-    ensures { items_seen result ≡ welcome_items params.now }
+fn rpl_welcome(params: &[Text]) -> Change<'_>
+    ensures { items_seen result ≡ rpl_welcome_items params.now }
 {
     match param(params, 0) {
         Some(nick) => Change::Welcome(nick),
@@ -66,20 +64,15 @@ fn welcome(params: &[Text]) -> Change<'_>
     }
 }
 
-fn join<'a>(who: Source<'a>, params: &'a [Text]) -> Change<'a>
-    ensures { items_seen result ≡ join_items (seen who.entry) params.now }
+fn join<'a>(from: Source<'a>, params: &'a [Text]) -> Change<'a>
+    ensures { items_seen result ≡ join_items (seen from.entry) params.now }
 {
-    match who {
-        Source::Person { nick, user, host } => match param(params, 0) {
-            Some(list) => Change::Join {
-                nick,
-                user,
-                host,
-                list,
-            },
+    match from {
+        Source::Person(person) => match param(params, 0) {
+            Some(list) => Change::Join { person, list },
             None => Change::Nothing,
         },
-        _ => Change::Nothing,
+        Source::None | Source::Server(_) => Change::Nothing,
     }
 }
 
@@ -95,36 +88,36 @@ fn kick(params: &[Text]) -> Change<'_>
     Change::Kick { channel, target }
 }
 
-fn part<'a>(who: Source<'a>, params: &'a [Text]) -> Change<'a>
-    ensures { items_seen result ≡ part_items (seen who.entry) params.now }
+fn part<'a>(from: Source<'a>, params: &'a [Text]) -> Change<'a>
+    ensures { items_seen result ≡ part_items (seen from.entry) params.now }
 {
-    match who {
-        Source::Person { nick, .. } => match param(params, 0) {
+    match from {
+        Source::Person(Person { nick, .. }) => match param(params, 0) {
             Some(list) => Change::Part { nick, list },
             None => Change::Nothing,
         },
-        _ => Change::Nothing,
+        Source::None | Source::Server(_) => Change::Nothing,
     }
 }
 
-fn quit<'a>(who: Source<'a>) -> Change<'a>
-    ensures { items_seen result ≡ quit_items (seen who.entry) }
+fn quit<'a>(from: Source<'a>) -> Change<'a>
+    ensures { items_seen result ≡ quit_items (seen from.entry) }
 {
-    match who {
-        Source::Person { nick, .. } => Change::Quit(nick),
-        _ => Change::Nothing,
+    match from {
+        Source::Person(Person { nick, .. }) => Change::Quit(nick),
+        Source::None | Source::Server(_) => Change::Nothing,
     }
 }
 
-fn nick<'a>(who: Source<'a>, params: &'a [Text]) -> Change<'a>
-    ensures { items_seen result ≡ nick_items (seen who.entry) params.now }
+fn nick<'a>(from: Source<'a>, params: &'a [Text]) -> Change<'a>
+    ensures { items_seen result ≡ nick_items (seen from.entry) params.now }
 {
-    match who {
-        Source::Person { nick: old, .. } => match param(params, 0) {
+    match from {
+        Source::Person(Person { nick: old, .. }) => match param(params, 0) {
             Some(new) => Change::Nick { old, new },
             None => Change::Nothing,
         },
-        _ => Change::Nothing,
+        Source::None | Source::Server(_) => Change::Nothing,
     }
 }
 
@@ -140,7 +133,7 @@ fn mode(params: &[Text]) -> Change<'_>
     Change::Mode {
         channel,
         modes,
-        arguments: behind(params, 2),
+        arguments: params_from(params, 2),
     }
 }
 
@@ -169,8 +162,8 @@ fn topic(params: &[Text]) -> Change<'_>
     }
 }
 
-fn topic_is(params: &[Text]) -> Change<'_>
-    ensures { items_seen result ≡ topic_is_items params.now }
+fn rpl_topic(params: &[Text]) -> Change<'_>
+    ensures { items_seen result ≡ rpl_topic_items params.now }
 {
     let Some(channel) = param(params, 1) else {
         return Change::Nothing;
@@ -184,8 +177,8 @@ fn topic_is(params: &[Text]) -> Change<'_>
     }
 }
 
-fn no_topic(params: &[Text]) -> Change<'_>
-    ensures { items_seen result ≡ no_topic_items params.now }
+fn rpl_no_topic(params: &[Text]) -> Change<'_>
+    ensures { items_seen result ≡ rpl_no_topic_items params.now }
 {
     match param(params, 1) {
         Some(channel) => Change::Topic {
@@ -196,8 +189,8 @@ fn no_topic(params: &[Text]) -> Change<'_>
     }
 }
 
-fn names(params: &[Text]) -> Change<'_>
-    ensures { items_seen result ≡ names_items params.now }
+fn rpl_nam_reply(params: &[Text]) -> Change<'_>
+    ensures { items_seen result ≡ rpl_nam_reply_items params.now }
 {
     let Some(channel) = param(params, 2) else {
         return Change::Nothing;
@@ -208,8 +201,8 @@ fn names(params: &[Text]) -> Change<'_>
     Change::Names { channel, names }
 }
 
-fn who(params: &[Text]) -> Change<'_>
-    ensures { items_seen result ≡ who_items params.now }
+fn rpl_who_reply(params: &[Text]) -> Change<'_>
+    ensures { items_seen result ≡ rpl_who_reply_items params.now }
 {
     let Some(channel) = param(params, 1) else {
         return Change::Nothing;
@@ -235,21 +228,21 @@ fn who(params: &[Text]) -> Change<'_>
 pub fn change_of(message: &Message) -> Change<'_>
     ensures { items_seen result ≡ items_of message.now }
 {
-    let sender = source(message.prefix.as_bytes());
+    let from = source(message.prefix.as_bytes());
     let params = message.params.as_slice();
     match read_verb(message.command.as_bytes()) {
-        Verb::Welcome => welcome(params),
-        Verb::Join => join(sender, params),
-        Verb::Part => part(sender, params),
+        Verb::RplWelcome => rpl_welcome(params),
+        Verb::Join => join(from, params),
+        Verb::Part => part(from, params),
         Verb::Kick => kick(params),
-        Verb::Quit => quit(sender),
-        Verb::Nick => nick(sender, params),
+        Verb::Quit => quit(from),
+        Verb::Nick => nick(from, params),
         Verb::Mode => mode(params),
         Verb::Topic => topic(params),
-        Verb::TopicIs => topic_is(params),
-        Verb::NoTopic => no_topic(params),
-        Verb::Names => names(params),
-        Verb::Who => who(params),
+        Verb::RplTopic => rpl_topic(params),
+        Verb::RplNoTopic => rpl_no_topic(params),
+        Verb::RplNamReply => rpl_nam_reply(params),
+        Verb::RplWhoReply => rpl_who_reply(params),
         Verb::Other => Change::Nothing,
     }
 }

@@ -31,17 +31,6 @@ impl Channel {
         })
     }
 
-    // An equal channel of its own.
-    pub(crate) fn copy(&self, alloc: Global) -> Result<Channel, NoMemory>
-        ensures { IfOk result (λ c. c ≡ self.now) }
-    {
-        Ok(Channel {
-            name: self.name.copy(alloc)?,
-            topic: self.topic.copy(alloc)?,
-            members: self.members.copy()?,
-        })
-    }
-
     // Someone leaves.
     pub(crate) fn depart(&mut self, nick: &[u8])
         ensures { self.new ≡ with_members (first_removed (is_called nick.now)) self.old }
@@ -78,5 +67,15 @@ impl Channel {
         if let Some(with) = with {
             self.members = with.into_renamed(old);
         }
+    }
+}
+
+impl TryCopy for Channel {
+    fn copy(&self, alloc: Global) -> Result<Channel, NoMemory> {
+        Ok(Channel {
+            name: self.name.copy(alloc)?,
+            topic: self.topic.copy(alloc)?,
+            members: self.members.copy(alloc)?,
+        })
     }
 }

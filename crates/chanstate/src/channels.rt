@@ -11,9 +11,9 @@ ghost use Rattle.chanstate.specs.Channels.{is_named, is_held, with_topic, on_cha
 
 use crate::channel::Channel;
 use crate::member::{Mark, Member};
-use crate::names::is_alike;
+use crate::names::is_same;
 use crate::renames::rename_all;
-use bytetext::{NoMemory, Text, TryCopy};
+use bytetext::{NoMemory, Text, TryCopy, copies_of};
 use std::alloc::Global;
 use std::marker::Model;
 
@@ -62,7 +62,7 @@ impl Channels {
     {
         self.items
             .iter()
-            .any(|channel| is_alike(name, channel.name.as_bytes()))
+            .any(|channel| is_same(name, channel.name.as_bytes()))
     }
 
     // The channel of this name.
@@ -71,7 +71,7 @@ impl Channels {
     {
         self.items
             .iter()
-            .find(|channel| is_alike(name, channel.name.as_bytes()))
+            .find(|channel| is_same(name, channel.name.as_bytes()))
     }
 
     // The names of the channels that have a member of this nick, in order.
@@ -188,11 +188,10 @@ impl Channels {
     {
         rename_all(self.items.as_mut_slice(), alloc, old, new)
     }
+}
 
-    // An equal list of its own.
-    pub(crate) fn copy(&self, alloc: Global) -> Result<Channels, NoMemory>
-        ensures { IfOk result (λ c. c ≡ self.now) }
-    {
+impl TryCopy for Channels {
+    fn copy(&self, alloc: Global) -> Result<Channels, NoMemory> {
         let items = copies_of(alloc, self.items.as_slice())?;
         Ok(Channels { items })
     }
@@ -204,7 +203,7 @@ fn place_in(channels: &[Channel], name: &[u8]) -> Option<usize>
 {
     channels
         .iter()
-        .position(|channel| is_alike(name, channel.name.as_bytes()))
+        .position(|channel| is_same(name, channel.name.as_bytes()))
 }
 
 // Puts a channel last, anew where it is held. There is room for one more.
@@ -229,17 +228,6 @@ fn put_each(items: &mut Vec<Channel>, channels: Vec<Channel>)
     for channel in channels {
         put(items, channel);
     }
-}
-
-// A copy of each channel, in order.
-fn copies_of(alloc: Global, channels: &[Channel]) -> Result<Vec<Channel>, NoMemory>
-    ensures { IfOk result (λ copies. copies.items ≡ channels.now) }
-{
-    let mut copies = Vec::with_capacity(alloc, channels.len())?;
-    for channel in channels {
-        copies.push(channel.copy(alloc)?)?;
-    }
-    Ok(copies)
 }
 
 // The names of those channels that have a member of this nick, in order.

@@ -4,7 +4,7 @@ ghost use Rattle.chanstate.specs.Items.{Left, Welcomed, channels_in};
 ghost use Rattle.chanstate.specs.Steps.{left, departed, step, steps};
 
 use crate::channels::Channels;
-use crate::names::is_alike;
+use crate::names::is_same;
 use crate::state::ChanState;
 use crate::words::channel_names;
 use bytetext::{NoMemory, Text};
@@ -25,7 +25,7 @@ impl ChanState {
     pub(crate) fn leave(&mut self, nick: &[u8], channel: &[u8])
         ensures { self.new ≡ left nick.now channel.now self.old }
     {
-        if is_alike(nick, self.nick.as_bytes()) {
+        if is_same(nick, self.nick.as_bytes()) {
             self.channels.remove(channel);
         } else {
             self.channels.leave(channel, nick);
@@ -59,7 +59,7 @@ impl ChanState {
     pub(crate) fn depart(&mut self, nick: &[u8])
         ensures { self.new ≡ departed nick.now self.old }
     {
-        if is_alike(nick, self.nick.as_bytes()) {
+        if is_same(nick, self.nick.as_bytes()) {
             self.channels.clear();
         } else {
             self.channels.depart(nick);

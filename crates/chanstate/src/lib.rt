@@ -28,6 +28,8 @@
 mod change;
 mod channel;
 mod channels;
+mod copies;
+mod edit;
 mod event;
 mod history;
 mod joins;
@@ -38,6 +40,7 @@ mod member;
 mod members;
 mod modes;
 mod names;
+mod newcomers;
 mod renames;
 mod renaming;
 mod roster;

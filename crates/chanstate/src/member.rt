@@ -1,9 +1,10 @@
 // One member of a channel.
 ghost use Rattle.std.specs.Prelude.{◌≡◌, IfOk};
-ghost use Rattle.chanstate.specs.Members.{unmarked, with_mark, with_marks_of, with_address};
+ghost use Rattle.chanstate.specs.Members.{unmarked, with_mark, edited};
 
+use crate::edit::Edit;
 use bytetext::{NoMemory, Text, TryCopy};
-use std::alloc::{AllocError, Global};
+use std::alloc::Global;
 
 /// A mark that a member of a channel may have.
 #[derive(Clone, Copy, Debug)]
@@ -51,25 +52,26 @@ impl Member {
         })
     }
 
-    /// An equal member of its own.
-    ///
-    /// # Errors
-    /// `NoMemory` where room for a copy is refused.
-    pub fn copy(&self, alloc: Global) -> Result<Member, NoMemory>
-        ensures { IfOk result (λ m. m ≡ self.now) }
+    // Changes what is known of the member.
+    pub(crate) fn edit(&mut self, edit: Edit)
+        ensures { self.new ≡ edited edit self.old }
     {
-        Ok(Member {
-            nick: self.nick.copy(alloc)?,
-            user: self.user.copy(alloc)?,
-            host: self.host.copy(alloc)?,
-            op: self.op,
-            voice: self.voice,
-            half_op: self.half_op,
-        })
+        match edit {
+            Edit::Marked(mark, on) => self.set_mark(mark, on),
+            Edit::Listed(more) => {
+                self.op |= more.op;
+                self.voice |= more.voice;
+                self.half_op |= more.half_op;
+            }
+            Edit::Addressed(user, host) => {
+                self.user = user;
+                self.host = host;
+            }
+        }
     }
 
     // Sets or clears a mark.
-    pub(crate) fn set_mark(&mut self, mark: Mark, on: bool)
+    fn set_mark(&mut self, mark: Mark, on: bool)
         ensures { self.new ≡ with_mark mark on self.old }
     {
         match mark {
@@ -78,33 +80,14 @@ impl Member {
             Mark::HalfOp => self.half_op = on,
         }
     }
-
-    // Sets the marks that another has.
-    pub(crate) fn add_marks(&mut self, more: &Member)
-        ensures { self.new ≡ with_marks_of more.now self.old }
-    {
-        self.op |= more.op;
-        self.voice |= more.voice;
-        self.half_op |= more.half_op;
-    }
-
-    // Gives the member another address.
-    pub(crate) fn set_address(&mut self, user: Text, host: Text)
-        ensures { self.new ≡ with_address user host self.old }
-    {
-        self.user = user;
-        self.host = host;
-    }
 }
 
-impl Clone for Member {
-    ghost is_clone = { λ member twin. twin ≡ member };
-
-    fn clone(&self) -> Result<Member, AllocError> {
+impl TryCopy for Member {
+    fn copy(&self, alloc: Global) -> Result<Member, NoMemory> {
         Ok(Member {
-            nick: self.nick.clone()?,
-            user: self.user.clone()?,
-            host: self.host.clone()?,
+            nick: self.nick.copy(alloc)?,
+            user: self.user.copy(alloc)?,
+            host: self.host.copy(alloc)?,
             op: self.op,
             voice: self.voice,
             half_op: self.half_op,

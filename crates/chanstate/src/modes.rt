@@ -5,7 +5,7 @@ ghost use Rattle.chanstate.specs.Items.{has_argument, sign_after, is_letter, arg
 ghost use Rattle.chanstate.specs.Seen.{single_seen};
 
 use crate::member::Mark;
-use crate::words::{behind, param};
+use crate::words::{param, params_from};
 use bytetext::{NoMemory, Text};
 use std::alloc::Global;
 
@@ -69,7 +69,7 @@ fn next_arguments<'a>(on: bool, byte: u8, arguments: &'a [Text]) -> &'a [Text]
     ensures { result.now ≡ arguments_after on byte arguments.now }
 {
     if is_mode(byte) && takes_argument(on, byte) {
-        behind(arguments, 1)
+        params_from(arguments, 1)
     } else {
         arguments
     }

@@ -1,10 +1,10 @@
 // When two names are one.
 ghost use Rattle.std.specs.Prelude.{◌≡◌};
-ghost use Rattle.chanstate.specs.Names.{alike};
+ghost use Rattle.rfccase.specs.Casemapping.{is_same};
 
 /// Whether two nicks, or two channels' names, differ in nothing but the case of their letters.
-pub fn is_alike(a: &[u8], b: &[u8]) -> bool
-    ensures { result ≡ alike a.now b.now }
+pub fn is_same(a: &[u8], b: &[u8]) -> bool
+    ensures { result ≡ is_same a.now b.now }
 {
     rfccase::same(a, b)
 }

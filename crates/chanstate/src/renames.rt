@@ -8,7 +8,7 @@ ghost use Rattle.chanstate.specs.Renamings.{AreTaken};
 ghost use Rattle.chanstate.specs.Steps.{step};
 
 use crate::channel::Channel;
-use crate::names::is_alike;
+use crate::names::is_same;
 use crate::renaming::Renaming;
 use crate::state::ChanState;
 use bytetext::{NoMemory, Text};
@@ -21,7 +21,7 @@ impl ChanState {
     {
         let own = Text::from_slice(alloc, new)?;
         self.channels.rename(alloc, old, new)?;
-        if is_alike(old, self.nick.as_bytes()) {
+        if is_same(old, self.nick.as_bytes()) {
             self.nick = own;
         }
         Ok(())

@@ -1,20 +1,22 @@
 // The members of one channel, as the bot keeps them: found by their nicks, in the order in which they came.
-ghost use Rattle.std.specs.Prelude.{◌≡◌, [], ◌∷◌, IfOk, OnOk, OnErr, MatchResult, find};
+ghost use Rattle.std.specs.Prelude.{◌≡◌, [], ◌∷◌, IfOk, OnErr, MatchResult, find};
 ghost use Rattle.std.specs.List.{filter_map};
 ghost use Rattle.std.specs.Option.{option_copied};
 ghost use Rattle.chanstate.specs.Views.{is_op};
-ghost use Rattle.chanstate.specs.Members.{is_called, has_member, with_mark, with_address, arrived, listed_each};
+ghost use Rattle.chanstate.specs.Members.{is_called, has_member, with_mark, with_address, arrived, edited, listed_each};
 ghost use Rattle.chanstate.specs.Renamings.{IsReady};
 ghost use Rattle.chanstate.specs.Items.{named};
 ghost use Rattle.chanstate.specs.Firsts.{first_removed, first_changed};
 
+use crate::copies::{copies_of, seats_of};
+use crate::edit::Edit;
 use crate::member::{Mark, Member};
+use crate::newcomers::{list_each, named_by};
 use crate::renaming::Renaming;
 use crate::seats::{
-    Seats, add, copies_of, list_each, make_room, member_of, named_by, place_of, seat_under,
+    Seats, add, edit_at, index_taken, make_room, member_of, place_of, reserve_entries, vacate,
 };
-use bytetext::{NoMemory, Text};
-use indexmap::IndexMap;
+use bytetext::{NoMemory, Text, TryCopy};
 use rfccase::fold_text;
 use std::alloc::Global;
 use std::marker::Model;
@@ -28,15 +30,14 @@ pub struct Roster {
 
 impl Model for Roster {
     ghost use Rattle.std.specs.Prelude.{List};
-    ghost use Rattle.indexmap.specs.IndexMap.{values};
     ghost use Rattle.chanstate.specs.declared.member.Member.{Member};
-    ghost use Rattle.chanstate.specs.Keys.{AreSeats, seated};
+    ghost use Rattle.chanstate.specs.Seats.{AreIndexed, seated};
 
     ghost Value = { List Member };
 
-    ghost view = { λ r. seated (values r.seats) };
+    ghost view = { λ r. seated r.seats.places.items };
 
-    ghost invariant = { λ r. AreSeats r.seats.entries };
+    ghost invariant = { λ r. AreIndexed r.seats.places.items r.seats.index.entries };
 }
 
 impl Roster {
@@ -44,7 +45,7 @@ impl Roster {
     pub(crate) fn one(alloc: Global, member: Member) -> Result<Roster, NoMemory>
         ensures { IfOk result (λ r. r ≡ member ∷ []) }
     {
-        let mut seats = IndexMap::new(alloc);
+        let mut seats = Seats::new(alloc);
         add(&mut seats, alloc, member)?;
         Ok(Roster { seats })
     }
@@ -53,7 +54,7 @@ impl Roster {
     pub(crate) fn copies(&self, alloc: Global) -> Result<Vec<Member>, NoMemory>
         ensures { IfOk result (λ copies. copies.items ≡ self.now) }
     {
-        copies_of(alloc, self.seats.values().as_slice())
+        copies_of(alloc, self.seats.places.as_slice())
     }
 
     // The member of this nick.
@@ -84,8 +85,15 @@ impl Roster {
     pub(crate) fn remove(&mut self, nick: &[u8])
         ensures { self.new ≡ first_removed (is_called nick.now) self.old }
     {
+        vacate(&mut self.seats, nick);
+    }
+
+    // Changes what is known of the member of this nick.
+    fn edit(&mut self, nick: &[u8], edit: Edit)
+        ensures { self.new ≡ first_changed (is_called nick.now) (edited edit) self.old }
+    {
         if let Some(at) = place_of(&self.seats, nick) {
-            self.seats[at] = None;
+            edit_at(&mut self.seats, at, edit);
         }
     }
 
@@ -93,22 +101,14 @@ impl Roster {
     pub(crate) fn mark(&mut self, nick: &[u8], mark: Mark, on: bool)
         ensures { self.new ≡ first_changed (is_called nick.now) (with_mark mark on) self.old }
     {
-        if let Some(at) = place_of(&self.seats, nick) {
-            if let Some(member) = &mut self.seats[at] {
-                member.set_mark(mark, on);
-            }
-        }
+        self.edit(nick, Edit::Marked(mark, on));
     }
 
     // Gives the member of this nick an address.
     pub(crate) fn place_at(&mut self, nick: &[u8], user: Text, host: Text)
         ensures { self.new ≡ first_changed (is_called nick.now) (with_address user host) self.old }
     {
-        if let Some(at) = place_of(&self.seats, nick) {
-            if let Some(member) = &mut self.seats[at] {
-                member.set_address(user, host);
-            }
-        }
+        self.edit(nick, Edit::Addressed(user, host));
     }
 
     // Someone joins.
@@ -133,7 +133,7 @@ impl Roster {
         ensures { MatchResult result (λ _. self.new ≡ listed_each (filter_map (λ word. named word.now) words.now) self.old) (λ _. self.new ≡ self.old) }
     {
         let ones = named_by(alloc, words)?;
-        make_room(&mut self.seats, ones.len())?;
+        make_room(&mut self.seats, alloc, ones.len())?;
         list_each(&mut self.seats, ones);
         Ok(())
     }
@@ -154,17 +154,19 @@ impl Roster {
         }
         let nick = Text::from_slice(alloc, new)?;
         let key = fold_text(alloc, new)?;
-        let place = seat_under(&mut self.seats, key)?;
-        let seats = mem::replace(&mut self.seats, IndexMap::new(alloc));
-        Ok(Some(Renaming { nick, seats, place }))
+        reserve_entries(&mut self.seats.index, 1)?;
+        let seats = mem::replace(&mut self.seats, Seats::new(alloc));
+        Ok(Some(Renaming { nick, key, seats }))
     }
+}
 
-    // An equal roster of its own.
-    pub(crate) fn copy(&self) -> Result<Roster, NoMemory>
-        ensures { IfOk result (λ r. r ≡ self.now) }
-    {
+impl TryCopy for Roster {
+    fn copy(&self, alloc: Global) -> Result<Roster, NoMemory> {
+        let index = index_taken(alloc, &self.seats)?;
+        let members = copies_of(alloc, self.seats.places.as_slice())?;
+        let places = seats_of(alloc, members)?;
         Ok(Roster {
-            seats: self.seats.clone()?,
+            seats: Seats { places, index },
         })
     }
 }

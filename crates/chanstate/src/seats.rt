@@ -1,220 +1,290 @@
-// The seats of a channel, in the order in which people came to it. Who leaves leaves a seat empty, so that nobody behind
-// it has to move; empty seats go when room is short.
-ghost use Rattle.std.specs.Prelude.{◌≡◌, ◌+◌, ◌<◌, ◌≤◌, ℕ, List, [], ◌∷◌, ◌++◌, false, is_some, None, Some, IfOk, OnOk, OnErr, position, find, length};
-ghost use Rattle.std.specs.List.{filter_map, list_any};
-ghost use Rattle.std.specs.Map.{values_of, lookup};
-ghost use Rattle.std.specs.Option.{option_copied, option_to_list};
-ghost use Rattle.indexmap.specs.IndexMap.{values, keys, spare};
-ghost use Rattle.chanstate.specs.Items.{named};
-ghost use Rattle.chanstate.specs.Keys.{IsUnder, AreUnder, AreSeats, AreApart, seated, is_seat_of, has_key};
-ghost use Rattle.chanstate.specs.Members.{is_called, has_member, listed, listed_each};
+// The seats of a channel, in the order in which people came to it, and the index that finds them. Who leaves leaves a seat
+// empty, so that nobody after it has to move; empty seats go when room is short.
+ghost use Rattle.std.specs.Prelude.{true, false, ◌≡◌, ◌+◌, ◌<◌, ◌≤◌, ℕ, List, [], ◌∷◌, ◌++◌, None, Some, IfOk, OnOk, OnErr, find, length, is_some, position};
+ghost use Rattle.std.specs.List.{filter_map};
+ghost use Rattle.std.specs.Option.{option_copied};
+ghost use Rattle.std.specs.Vec.{vec_len, vec_capacity};
+ghost use Rattle.std.specs.Map.{values_of};
+ghost use Rattle.indexmap.specs.IndexMap.{spare, index_map_len};
+ghost use Rattle.rfccase.specs.Casemapping.{folded};
+ghost use Rattle.chanstate.specs.Seats.{AreIndexed, IsUnder, IsIndexedNext, is_seat_of, place_under, seated, taken};
+ghost use Rattle.chanstate.specs.Members.{is_called, has_member, edited, renamed, with_nick};
+ghost use Rattle.chanstate.specs.Firsts.{first_removed, first_changed};
+ghost use Rattle.rfccase.specs.Casemapping.{is_same};
 
+use crate::edit::Edit;
 use crate::member::Member;
-use crate::names::is_alike;
-use crate::words::named_member;
-use bytetext::{NoMemory, TryCopy};
+use crate::names::is_same;
+use bytetext::{NoMemory, Text};
 use indexmap::IndexMap;
-use rfccase::{ShortFold, fold_text};
+use rfccase::{ShortFold, fold_slice, fold_text};
 use std::alloc::Global;
+use std::mem;
 
-/// Seats by the lower cases of their nicks.
-pub type Seats = IndexMap<Vec<u8>, Option<Member>>;
+/// The places of members by the lower cases of their nicks.
+pub type Index = IndexMap<Vec<u8>, usize>;
 
-// The longest nick that is looked up by its key. A line has at most 510 bytes, so a longer one comes only from a caller
-// that makes messages of its own; it is found by a walk over the seats.
+/// Seats and their index.
+#[derive(Debug, Drop)]
+pub struct Seats {
+    pub places: Vec<Option<Member>>,
+    pub index: Index,
+}
+
+// The longest nick that is looked up by its lower case. A line has at most 510 bytes, so a longer one comes only from a
+// caller that makes messages of its own; it is found by a walk over the seats.
 const LONGEST_KEY: usize = 512;
 
-// Whether someone of this nick sits there.
-fn is_seat(nick: &[u8], seat: &Option<Member>) -> bool
-    ensures { result ≡ is_seat_of nick.now seat.now }
+impl Seats {
+    // No seat. Takes no memory.
+    pub(crate) fn new(alloc: Global) -> Seats
+        ensures indexed { AreIndexed result.places.items result.index.entries }
+        ensures none { seated result.places.items ≡ [] }
+    {
+        Seats {
+            places: Vec::new(alloc),
+            index: IndexMap::new(alloc),
+        }
+    }
+}
+
+// The lower case of a nick, in its own bytes. Takes no memory.
+fn lower_case(nick: Text) -> Vec<u8>
+    ensures { result.items ≡ folded nick }
 {
-    match seat {
-        Some(member) => is_alike(nick, member.nick.as_bytes()),
+    let mut lower = nick.into_vec();
+    fold_slice(&mut lower);
+    lower
+}
+
+// Whether someone of this nick sits there.
+fn is_seat(nick: &[u8], place: &Option<Member>) -> bool
+    ensures { result ≡ is_seat_of nick.now place.now }
+{
+    match place {
+        Some(member) => is_same(nick, member.nick.as_bytes()),
         None => false,
     }
 }
 
-// The place of the seat of the member of this nick.
+// The place of the first seat that the nick has.
+fn walk_to(places: &[Option<Member>], nick: &[u8]) -> Option<usize>
+    ensures { result ≡ position (is_seat_of nick.now) places.now }
+{
+    places.iter().position(|place| is_seat(nick, place))
+}
+
+// The place of the member of this nick.
 pub(crate) fn place_of(seats: &Seats, nick: &[u8]) -> Option<usize>
-    requires { AreSeats seats.now.entries }
-    ensures { result ≡ position (is_seat_of nick.now) (values seats.now) }
+    requires { AreIndexed seats.now.places.items seats.now.index.entries }
+    ensures { result ≡ place_under (folded nick.now) seats.now.index.entries }
 {
     match ShortFold::<LONGEST_KEY>::new(nick) {
-        Some(lower) => {
-            let at = seats.get_index_of(lower.as_bytes())?;
-            if seats[at].is_some() { Some(at) } else { None }
-        }
-        None => seats
-            .values()
-            .as_slice()
-            .iter()
-            .position(|seat| is_seat(nick, seat)),
+        Some(lower) => match seats.index.get(lower.as_bytes()) {
+            Some(at) => Some(*at),
+            None => None,
+        },
+        None => walk_to(seats.places.as_slice(), nick),
     }
 }
 
 // The member of this nick.
 pub(crate) fn member_of<'a>(seats: &'a Seats, nick: &[u8]) -> Option<&'a Member>
-    requires { AreSeats seats.now.entries }
-    ensures { option_copied result ≡ find (is_called nick.now) (seated (values seats.now)) }
+    requires { AreIndexed seats.now.places.items seats.now.index.entries }
+    ensures { option_copied result ≡ find (is_called nick.now) (seated seats.now.places.items) }
 {
     match place_of(seats, nick) {
-        Some(at) => seats[at].as_ref(),
+        Some(at) => seats.places[at].as_ref(),
         None => None,
     }
 }
 
-// Empty seats go.
-fn drop_empty(seats: &mut Seats)
-    requires { AreSeats seats.old.entries }
-    ensures keyed { AreSeats seats.new.entries }
-    ensures same { seated (values seats.new) ≡ seated (values seats.old) }
-    ensures absent { (lower : List ℕ) → lookup (has_key lower) seats.old.entries ≡ None → lookup (has_key lower) seats.new.entries ≡ None }
+// Changes what is known of the member at a place.
+pub(crate) fn edit_at(seats: &mut Seats, at: usize, edit: Edit)
+    requires { at < vec_len seats.old.places }
+    ensures index { seats.new.index ≡ seats.old.index }
+    ensures indexed { AreIndexed seats.old.places.items seats.old.index.entries
+        → AreIndexed seats.new.places.items seats.old.index.entries }
+    ensures edited { (nick : List ℕ) → AreIndexed seats.old.places.items seats.old.index.entries
+        → place_under (folded nick) seats.old.index.entries ≡ Some at
+        → seated seats.new.places.items ≡ first_changed (is_called nick) (edited edit) (seated seats.old.places.items) }
+    ensures len { vec_len seats.new.places ≡ vec_len seats.old.places }
+    ensures capacity { vec_capacity seats.new.places ≡ vec_capacity seats.old.places }
 {
-    seats.retain(
-        |_key: &Vec<u8>, seat: &mut Option<Member>| -> bool
-            ensures { (result ≡ is_some seat.old) × (seat.new ≡ seat.old) }
-        { seat.is_some() },
-    );
+    if let Some(member) = &mut seats.places[at] {
+        member.edit(edit);
+    }
 }
 
-// Makes room for so many more. Where it is short, empty seats go first, and then there is room for as many again.
-pub(crate) fn make_room(seats: &mut Seats, more: usize) -> Result<(), NoMemory>
-    requires { AreSeats seats.old.entries }
-    ensures keyed { AreSeats seats.new.entries }
-    ensures same { seated (values seats.new) ≡ seated (values seats.old) }
-    ensures absent { (lower : List ℕ) → lookup (has_key lower) seats.old.entries ≡ None → lookup (has_key lower) seats.new.entries ≡ None }
-    ensures room { OnOk result (more ≤ spare seats.new) }
+// The member of this nick leaves the seat empty.
+pub(crate) fn vacate(seats: &mut Seats, nick: &[u8])
+    requires { AreIndexed seats.old.places.items seats.old.index.entries }
+    ensures indexed { AreIndexed seats.new.places.items seats.new.index.entries }
+    ensures gone { place_under (folded nick.now) seats.new.index.entries ≡ None }
+    ensures removed { seated seats.new.places.items ≡ first_removed (is_called nick.now) (seated seats.old.places.items) }
+    ensures room { spare seats.old.index ≤ spare seats.new.index }
 {
-    if seats.capacity() - seats.len() < more {
-        drop_empty(seats);
-        seats.reserve(more.max(seats.len()))?;
+    let Some(at) = place_of(seats, nick) else {
+        return;
+    };
+    let Some(member) = seats.places[at].take() else {
+        return;
+    };
+    let Member { nick, .. } = member;
+    let lower = lower_case(nick);
+    let _place = seats.index.swap_remove(lower.as_slice());
+}
+
+// Puts a member whose nick nobody has last. There is room for one more.
+pub(crate) fn seat_last(seats: &mut Seats, key: Vec<u8>, one: Member)
+    requires indexed { AreIndexed seats.old.places.items seats.old.index.entries }
+    requires key { IsUnder key one }
+    requires absent { place_under (folded one.nick) seats.old.index.entries ≡ None }
+    requires place { vec_len seats.old.places < vec_capacity seats.old.places }
+    requires entry { 0 < spare seats.old.index }
+    ensures indexed { AreIndexed seats.new.places.items seats.new.index.entries }
+    ensures seated { seated seats.new.places.items ≡ seated seats.old.places.items ++ one ∷ [] }
+    ensures len { vec_len seats.new.places ≡ vec_len seats.old.places + 1 }
+    ensures capacity { vec_capacity seats.new.places ≡ vec_capacity seats.old.places }
+    ensures entries { spare seats.old.index ≤ spare seats.new.index + 1 }
+{
+    let at = seats.places.len();
+    seats.places.push_reserved(Some(one));
+    seats.index.insert(key, at).unwrap();
+}
+
+// Makes room for so many more. Empty seats go first where they are more than half of all; then there is room for as many
+// again.
+pub(crate) fn make_room(seats: &mut Seats, alloc: Global, more: usize) -> Result<(), NoMemory>
+    requires { AreIndexed seats.old.places.items seats.old.index.entries }
+    ensures indexed { AreIndexed seats.new.places.items seats.new.index.entries }
+    ensures same { seated seats.new.places.items ≡ seated seats.old.places.items }
+    ensures places { OnOk result (vec_len seats.new.places + more ≤ vec_capacity seats.new.places) }
+    ensures entries { OnOk result (more ≤ spare seats.new.index) }
+{
+    let held = seats.index.len();
+    if seats.places.capacity() - seats.places.len() < more && held < seats.places.len() / 2 {
+        drop_empty(seats, alloc)?;
+    }
+    reserve_places(&mut seats.places, more)?;
+    reserve_entries(&mut seats.index, more)?;
+    Ok(())
+}
+
+fn reserve_places(places: &mut Vec<Option<Member>>, more: usize) -> Result<(), NoMemory>
+    ensures same { places.new.items ≡ places.old.items }
+    ensures room { OnOk result (vec_len places.new + more ≤ vec_capacity places.new) }
+{
+    if places.capacity() - places.len() < more {
+        places.reserve(more.max(places.len()))?;
+    }
+    Ok(())
+}
+
+pub(crate) fn reserve_entries(index: &mut Index, more: usize) -> Result<(), NoMemory>
+    ensures same { index.new.entries ≡ index.old.entries }
+    ensures room { OnOk result (more ≤ spare index.new) }
+{
+    if index.capacity() - index.len() < more {
+        index.reserve(more.max(index.len()))?;
+    }
+    Ok(())
+}
+
+// Empty seats go.
+fn drop_empty(seats: &mut Seats, alloc: Global) -> Result<(), NoMemory>
+    requires { AreIndexed seats.old.places.items seats.old.index.entries }
+    ensures indexed { AreIndexed seats.new.places.items seats.new.index.entries }
+    ensures same { seated seats.new.places.items ≡ seated seats.old.places.items }
+{
+    let index = index_taken(alloc, seats)?;
+    keep_taken(&mut seats.places);
+    seats.index = index;
+    Ok(())
+}
+
+fn keep_taken(places: &mut Vec<Option<Member>>)
+    ensures { places.new.items ≡ taken places.old.items }
+{
+    places.retain(|place| place.is_some());
+}
+
+// An index of the seats that are taken, as they stand without those that are empty.
+pub(crate) fn index_taken(alloc: Global, seats: &Seats) -> Result<Index, NoMemory>
+    requires { AreIndexed seats.now.places.items seats.now.index.entries }
+    ensures { IfOk result (λ index. AreIndexed (taken seats.now.places.items) index.entries) }
+{
+    let mut index = IndexMap::with_capacity(alloc, seats.index.len())?;
+    for place in seats.places.as_slice() {
+        index_next(&mut index, alloc, place)?;
+    }
+    Ok(index)
+}
+
+// Who sits there is next in the index.
+fn index_next(index: &mut Index, alloc: Global, place: &Option<Member>) -> Result<(), NoMemory>
+    ensures { OnOk result (IsIndexedNext place.now (index_map_len index.old) index.old.entries (index_map_len index.new) index.new.entries) }
+{
+    if let Some(member) = place {
+        let key = fold_text(alloc, member.nick.as_bytes())?;
+        let at = index.len();
+        index.insert(key, at)?;
     }
     Ok(())
 }
 
 // Puts a member whose nick nobody has last.
 pub(crate) fn add(seats: &mut Seats, alloc: Global, one: Member) -> Result<(), NoMemory>
-    requires keyed { AreSeats seats.old.entries }
-    requires absent { has_member one.nick (seated (values seats.old)) ≡ false }
-    ensures keyed { AreSeats seats.new.entries }
-    ensures ok { OnOk result (seated (values seats.new) ≡ seated (values seats.old) ++ one ∷ []) }
-    ensures err { OnErr result (seated (values seats.new) ≡ seated (values seats.old)) }
+    requires indexed { AreIndexed seats.old.places.items seats.old.index.entries }
+    requires absent { has_member one.nick (seated seats.old.places.items) ≡ false }
+    ensures indexed { AreIndexed seats.new.places.items seats.new.index.entries }
+    ensures ok { OnOk result (seated seats.new.places.items ≡ seated seats.old.places.items ++ one ∷ []) }
+    ensures err { OnErr result (seated seats.new.places.items ≡ seated seats.old.places.items) }
 {
     let key = fold_text(alloc, one.nick.as_bytes())?;
-    make_room(seats, 1)?;
-    put_last(seats, key, one);
+    make_room(seats, alloc, 1)?;
+    seat_last(seats, key, one);
     Ok(())
 }
 
-// Puts a member whose nick nobody has last; the seat that the nick has left goes. There is room for one more.
-fn put_last(seats: &mut Seats, key: Vec<u8>, one: Member)
-    requires keyed { AreSeats seats.old.entries }
-    requires key { IsUnder key one }
-    requires absent { has_member one.nick (seated (values seats.old)) ≡ false }
-    requires room { 0 < spare seats.old }
-    ensures keyed { AreSeats seats.new.entries }
-    ensures put { seated (values seats.new) ≡ seated (values seats.old) ++ one ∷ [] }
-    ensures room { spare seats.old ≤ spare seats.new + 1 }
+// The member of the old nick, if there is one, has the other in its place, and another who had that goes first. There is
+// room for one more.
+pub(crate) fn rename_in(seats: &mut Seats, old: &[u8], key: Vec<u8>, nick: Text)
+    requires indexed { AreIndexed seats.old.places.items seats.old.index.entries }
+    requires key { key.items ≡ folded nick }
+    requires entry { 0 < spare seats.old.index }
+    ensures indexed { AreIndexed seats.new.places.items seats.new.index.entries }
+    ensures renamed { seated seats.new.places.items ≡ renamed old.now nick (seated seats.old.places.items) }
 {
-    let _empty = seats.shift_remove(key.as_slice());
-    seats.insert(key, Some(one)).unwrap();
+    if place_of(seats, old).is_none() {
+        return;
+    }
+    if is_same(old, nick.as_bytes()) {
+        respell(seats, old, key, nick);
+        return;
+    }
+    vacate(seats, nick.as_bytes());
+    respell(seats, old, key, nick);
 }
 
-// The place of the seat under this key, which is a new one, empty and last, where there is none.
-pub(crate) fn seat_under(seats: &mut Seats, key: Vec<u8>) -> Result<usize, NoMemory>
-    requires { AreSeats seats.old.entries }
-    ensures keyed { AreSeats seats.new.entries }
-    ensures same { seated (values seats.new) ≡ seated (values seats.old) }
-    ensures apart { OnOk result (AreApart seats.new.entries) }
-    ensures under { IfOk result (λ at. position (has_key key.items) (keys seats.new) ≡ Some at) }
+// The member of the old nick, if there is one, has the other in its place. Nobody else has that, and there is room for one
+// more.
+fn respell(seats: &mut Seats, old: &[u8], key: Vec<u8>, nick: Text)
+    requires indexed { AreIndexed seats.old.places.items seats.old.index.entries }
+    requires key { key.items ≡ folded nick }
+    requires entry { 0 < spare seats.old.index }
+    requires apart { (i : ℕ) → place_under (folded nick) seats.old.index.entries ≡ Some i → is_same old.now nick ≡ true }
+    ensures indexed { AreIndexed seats.new.places.items seats.new.index.entries }
+    ensures renamed { seated seats.new.places.items ≡ first_changed (is_called old.now) (with_nick nick) (seated seats.old.places.items) }
 {
-    if let Some(at) = seats.get_index_of(key.as_slice()) {
-        return Ok(at);
-    }
-    make_room(seats, 1)?;
-    let at = seats.len();
-    seats.insert(key, None)?;
-    Ok(at)
-}
-
-// Those whom these words name, each behind its key, in the words' order.
-pub(crate) fn named_by(alloc: Global, words: &[&[u8]]) -> Result<Vec<(Vec<u8>, Member)>, NoMemory>
-    ensures keyed { IfOk result (λ ones. AreUnder ones.items) }
-    ensures named { IfOk result (λ ones. values_of ones.items ≡ filter_map (λ word. named word.now) words.now) }
-{
-    let mut ones = Vec::new(alloc);
-    for word in words {
-        push_some(&mut ones, alloc, named_member(alloc, word)?)?;
-    }
-    Ok(ones)
-}
-
-// One more behind its key, if there is one.
-fn push_some(
-    ones: &mut Vec<(Vec<u8>, Member)>,
-    alloc: Global,
-    one: Option<Member>,
-) -> Result<(), NoMemory>
-    requires { AreUnder ones.old.items }
-    ensures keyed { OnOk result (AreUnder ones.new.items) }
-    ensures pushed { OnOk result (values_of ones.new.items ≡ values_of ones.old.items ++ option_to_list one) }
-{
-    if let Some(member) = one {
-        let key = fold_text(alloc, member.nick.as_bytes())?;
-        ones.push((key, member))?;
-    }
-    Ok(())
-}
-
-// Someone is listed. There is room for one more.
-fn list(seats: &mut Seats, key: Vec<u8>, one: Member)
-    requires keyed { AreSeats seats.old.entries }
-    requires key { IsUnder key one }
-    requires room { 0 < spare seats.old }
-    ensures keyed { AreSeats seats.new.entries }
-    ensures listed { seated (values seats.new) ≡ listed one (seated (values seats.old)) }
-    ensures room { spare seats.old ≤ spare seats.new + 1 }
-{
-    match place_of(seats, one.nick.as_bytes()) {
-        Some(at) => {
-            if let Some(member) = &mut seats[at] {
-                member.add_marks(&one);
-            }
-        }
-        None => put_last(seats, key, one),
-    }
-}
-
-// Several are listed, in their order. There is room for each.
-pub(crate) fn list_each(seats: &mut Seats, ones: Vec<(Vec<u8>, Member)>)
-    requires keyed { AreSeats seats.old.entries }
-    requires keys { AreUnder ones.items }
-    requires room { length ones.items ≤ spare seats.old }
-    ensures keyed { AreSeats seats.new.entries }
-    ensures listed { seated (values seats.new) ≡ listed_each (values_of ones.items) (seated (values seats.old)) }
-{
-    for (key, one) in ones {
-        list(seats, key, one);
-    }
-}
-
-// Copies of the members who sit there, in order.
-pub(crate) fn copies_of(alloc: Global, seats: &[Option<Member>]) -> Result<Vec<Member>, NoMemory>
-    ensures { IfOk result (λ copies. copies.items ≡ seated seats.now) }
-{
-    let mut copies = Vec::new(alloc);
-    for seat in seats {
-        push_copy(&mut copies, alloc, seat)?;
-    }
-    Ok(copies)
-}
-
-// One more copy, if someone sits there.
-fn push_copy(copies: &mut Vec<Member>, alloc: Global, seat: &Option<Member>) -> Result<(), NoMemory>
-    ensures { OnOk result (copies.new.items ≡ copies.old.items ++ option_to_list seat.now) }
-{
-    if let Some(member) = seat {
-        copies.push(member.copy(alloc)?)?;
-    }
-    Ok(())
+    let Some(at) = place_of(seats, old) else {
+        return;
+    };
+    let Some(mut member) = seats.places[at].take() else {
+        return;
+    };
+    let lower = lower_case(mem::replace(&mut member.nick, nick));
+    let _place = seats.index.swap_remove(lower.as_slice());
+    seats.places[at] = Some(member);
+    seats.index.insert(key, at).unwrap();
 }

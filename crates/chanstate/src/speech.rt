@@ -2,15 +2,15 @@
 ghost use Rattle.std.specs.Prelude.{◌≡◌, ◌≤◌, ◌∷◌, ◌++◌, ◌==◌, not, length, take, if◌then◌else◌, [], IfOk};
 ghost use Rattle.std.specs.List.{position_or_len};
 ghost use Rattle.std.specs.Option.{option_copied};
-ghost use Rattle.chanstate.specs.Events.{spaces_len, word_len, first_word, behind_word, to_bot, to_channel, noticed, is_hidden, said, noted, said_by, noted_by, address_of, typed, raw, events_of};
+ghost use Rattle.chanstate.specs.Events.{spaces_len, word_len, first_word, after_word, to_bot, to_channel, noticed, is_hidden, said, noted, said_by, noted_by, address_of, typed, raw, events_of};
 
 use crate::event::{Event, Kind};
-use crate::names::is_alike;
+use crate::names::is_same;
 use crate::state::ChanState;
 use crate::verb::is;
 use crate::words::param;
 use bytetext::{NoMemory, Text};
-use ircline::{Message, Source, source};
+use ircline::{Message, Person, Source, source};
 use std::alloc::Global;
 
 // How long the first word is.
@@ -37,9 +37,9 @@ fn count_spaces(text: &[u8]) -> usize
     count
 }
 
-// What stands behind the first word and the spaces after it.
+// What follows the first word and the spaces after it.
 fn after_word(text: &[u8]) -> &[u8]
-    ensures { result.now ≡ behind_word text.now }
+    ensures { result.now ≡ after_word text.now }
 {
     let rest = &text[count_word(text)..];
     &rest[count_spaces(rest)..]
@@ -160,7 +160,7 @@ fn say(
     if is_for_programs(text) {
         return Ok(Vec::new(alloc));
     }
-    if is_alike(target, state.own_nick()) {
+    if is_same(target, state.own_nick()) {
         return say_to_bot(alloc, nick, address, text);
     }
     match state.held(target) {
@@ -183,7 +183,7 @@ fn notice(
     if is_for_programs(text) {
         return Ok(Vec::new(alloc));
     }
-    if is_alike(target, state.own_nick()) {
+    if is_same(target, state.own_nick()) {
         return note(alloc, nick, address, None, text, target);
     }
     match state.held(target) {
@@ -200,7 +200,7 @@ fn spoken(alloc: Global, message: &Message, state: &ChanState) -> Result<Vec<Eve
     if !is_said && !is(message.command.as_bytes(), b"NOTICE") {
         return Ok(Vec::new(alloc));
     }
-    let Source::Person { nick, user, host } = source(message.prefix.as_bytes()) else {
+    let Source::Person(Person { nick, user, host }) = source(message.prefix.as_bytes()) else {
         return Ok(Vec::new(alloc));
     };
     let params = message.params.as_slice();

@@ -102,19 +102,6 @@ impl ChanState {
         Ok(Texts::new(names))
     }
 
-    /// An equal state of its own.
-    ///
-    /// # Errors
-    /// `NoMemory` where room for the copies is refused.
-    pub fn copy(&self, alloc: Global) -> Result<ChanState, NoMemory>
-        ensures { IfOk result (λ s. s ≡ self.now) }
-    {
-        Ok(ChanState {
-            nick: self.nick.copy(alloc)?,
-            channels: self.channels.copy(alloc)?,
-        })
-    }
-
     /// Takes a message in.
     ///
     /// # Errors
@@ -125,12 +112,7 @@ impl ChanState {
         match change_of(message) {
             Change::Nothing => Ok(()),
             Change::Welcome(nick) => self.welcome(alloc, nick),
-            Change::Join {
-                nick,
-                user,
-                host,
-                list,
-            } => self.join_all(alloc, nick, user, host, list),
+            Change::Join { person, list } => self.join_all(alloc, person, list),
             Change::Part { nick, list } => self.leave_all(alloc, nick, list),
             Change::Kick { channel, target } => {
                 self.leave(target, channel);
@@ -155,5 +137,14 @@ impl ChanState {
                 nick,
             } => self.address(alloc, channel, user, host, nick),
         }
+    }
+}
+
+impl TryCopy for ChanState {
+    fn copy(&self, alloc: Global) -> Result<ChanState, NoMemory> {
+        Ok(ChanState {
+            nick: self.nick.copy(alloc)?,
+            channels: self.channels.copy(alloc)?,
+        })
     }
 }

@@ -6,7 +6,7 @@ ghost use Rattle.chanstate.specs.Items.{verb_of, is_command};
 /// A command that may change the state of channels, and any other.
 #[derive(Clone, Copy)]
 pub enum Verb {
-    Welcome,
+    RplWelcome,
     Join,
     Part,
     Kick,
@@ -14,10 +14,10 @@ pub enum Verb {
     Nick,
     Mode,
     Topic,
-    TopicIs,
-    NoTopic,
-    Names,
-    Who,
+    RplTopic,
+    RplNoTopic,
+    RplNamReply,
+    RplWhoReply,
     Other,
 }
 
@@ -33,7 +33,7 @@ pub fn read_verb(command: &[u8]) -> Verb
     ensures { result ≡ verb_of command.now }
 {
     if is(command, b"001") {
-        Verb::Welcome
+        Verb::RplWelcome
     } else if is(command, b"JOIN") {
         Verb::Join
     } else if is(command, b"PART") {
@@ -49,13 +49,13 @@ pub fn read_verb(command: &[u8]) -> Verb
     } else if is(command, b"TOPIC") {
         Verb::Topic
     } else if is(command, b"332") {
-        Verb::TopicIs
+        Verb::RplTopic
     } else if is(command, b"331") {
-        Verb::NoTopic
+        Verb::RplNoTopic
     } else if is(command, b"353") {
-        Verb::Names
+        Verb::RplNamReply
     } else if is(command, b"352") {
-        Verb::Who
+        Verb::RplWhoReply
     } else {
         Verb::Other
     }

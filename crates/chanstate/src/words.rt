@@ -2,10 +2,12 @@
 ghost use Rattle.std.specs.Prelude.{◌≡◌, ◌==◌, ◌≤◌, length, IfOk, map, filter, drop};
 ghost use Rattle.std.specs.List.{slice_split, slice_get, list_all};
 ghost use Rattle.std.specs.Option.{option_copied};
-ghost use Rattle.chanstate.specs.Items.{is_channel_name, is_channel_byte, is_channel_start, channels_in, is_sign, signs_len, named};
+ghost use Rattle.rfccase.specs.Channels.{is_channel_name};
+ghost use Rattle.chanstate.specs.Items.{channels_in, is_sign, signs_len, named};
 
 use crate::member::Member;
 use bytetext::{NoMemory, Text};
+use rfccase::is_channel_name;
 use std::alloc::Global;
 
 /// The parameter at this place, from 0.
@@ -19,7 +21,7 @@ pub fn param(params: &[Text], index: usize) -> Option<&[u8]>
 }
 
 /// The parameters from this place on.
-pub fn behind(params: &[Text], from: usize) -> &[Text]
+pub fn params_from(params: &[Text], from: usize) -> &[Text]
     ensures { result.now ≡ drop from params.now }
 {
     if from < params.len() {
@@ -37,41 +39,13 @@ pub fn pieces(alloc: Global, text: &[u8], between: u8) -> Result<Vec<&[u8]>, NoM
     Ok(parts)
 }
 
-fn may_be_in_name(byte: u8) -> bool
-    ensures { result ≡ is_channel_byte byte }
-{
-    byte != b' ' && byte != b',' && byte != 7
-}
-
-fn may_begin_name(byte: u8) -> bool
-    ensures { result ≡ is_channel_start byte }
-{
-    byte == b'&' || byte == b'#' || byte == b'+' || byte == b'!'
-}
-
-fn all_may_be_in_name(text: &[u8]) -> bool
-    ensures { result ≡ list_all is_channel_byte text.now }
-{
-    text.iter().all(|byte| may_be_in_name(*byte))
-}
-
-/// Whether a text is a channel's name (RFC 2812 section 1.3, up to 100 bytes).
-pub fn names_a_channel(text: &[u8]) -> bool
-    ensures { result ≡ is_channel_name text.now }
-{
-    if text.is_empty() || text.len() > 100 {
-        return false;
-    }
-    may_begin_name(text[0]) && all_may_be_in_name(text)
-}
-
 // Those of these pieces that are channels' names.
 fn only_names<'a>(alloc: Global, pieces: &[&'a [u8]]) -> Result<Vec<&'a [u8]>, NoMemory>
     ensures { IfOk result (λ names. map (λ x. x.now) names.items ≡ filter is_channel_name (map (λ x. x.now) pieces.now)) }
 {
     let mut names = Vec::new(alloc);
     for piece in pieces {
-        if names_a_channel(piece) {
+        if is_channel_name(piece) {
             names.push(*piece)?;
         }
     }
@@ -104,7 +78,7 @@ fn count_signs(word: &[u8]) -> usize
     count
 }
 
-/// A word of a list of names, as a member; none where no nick stands behind the marks.
+/// A word of a list of names, as a member; none where no nick follows the marks.
 pub fn named_member(alloc: Global, word: &[u8]) -> Result<Option<Member>, NoMemory>
     ensures { IfOk result (λ one. one ≡ named word.now) }
 {

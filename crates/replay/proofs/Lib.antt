@@ -1,3 +1,3 @@
 pub mod Lines
-pub mod Tellings
+pub mod Doings
 pub mod Endings

@@ -1,5 +1,5 @@
 pub mod Text
-pub mod Telling
-pub mod Playing
-pub mod Ending
 pub mod Users
+pub mod Transcript
+pub mod Doing
+pub mod Ending

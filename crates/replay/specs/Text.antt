@@ -44,7 +44,8 @@ packet_text (change_packet number origin request change) = codes "Change " ++ de
 
 -- send K A>B KIND DETAIL
 abbrev pub sent_line : ℕ → Sent → List ℕ
-sent_line number sent = codes "send " ++ decimal number ++ codes " " ++ decimal sent.from ++ codes ">" ++ decimal sent.to ++ codes " " ++ packet_text sent.packet ++ 10 ∷ []
+sent_line number sent = codes "send " ++ decimal number ++ codes " " ++ decimal sent.from ++ codes ">" ++ decimal sent.to ++ codes " " ++ packet_text
+    sent.packet ++ 10 ∷ []
 
 abbrev pub found_line : ℕ → Option Sent → List ℕ
 found_line number None = []
@@ -90,11 +91,13 @@ comment_text (b ∷ bs) = codes " " ++ b ∷ bs
 -- B ban C M H E COMMENT
 abbrev pub ban_line : ℕ → Ban → List ℕ
 ban_line bot ban =
-    decimal bot ++ codes " ban " ++ channel_text ban.channel ++ codes " " ++ ban.mask ++ codes " " ++ ban.creator ++ codes " " ++ decimal ban.expires ++ comment_text ban.comment ++ 10 ∷ []
+    decimal bot ++ codes " ban " ++ channel_text ban.channel ++ codes " " ++ ban.mask ++ codes " " ++ ban.creator ++ codes " " ++ decimal ban.expires ++
+    comment_text ban.comment ++ 10 ∷ []
 
 -- B version V users U bans N
 abbrev pub version_line : ℕ → ℕ → ℕ → ℕ → List ℕ
-version_line bot version users bans = decimal bot ++ codes " version " ++ decimal version ++ codes " users " ++ decimal users ++ codes " bans " ++ decimal bans ++ 10 ∷ []
+version_line bot version users bans = decimal bot ++ codes " version " ++ decimal version ++ codes " users " ++ decimal users ++ codes " bans " ++ decimal
+    bans ++ 10 ∷ []
 
 -- a bot's version and records, or that there is no such bot
 abbrev pub shown_text : ℕ → Option ℕ → Option Records → List ℕ

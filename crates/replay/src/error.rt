@@ -8,13 +8,13 @@ pub enum ReplayError {
     /// The script breaks a rule. Nothing was done or written.
     #[error("{0}")]
     Script(ScriptFault),
-    /// The reader failed. Nothing was done or written.
+    /// The reader answered a fault. Nothing was done or written.
     #[error("read fault")]
     Read,
-    /// The writer failed, or took nothing. A front of the transcript was written.
+    /// The writer answered a fault, or took nothing. A front of the transcript was written.
     #[error("write fault")]
     Write,
-    /// A growth was refused. What was told before was written.
+    /// A growth was refused. Nothing was written.
     #[error("out of memory")]
     NoMemory,
 }

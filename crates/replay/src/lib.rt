@@ -1,24 +1,27 @@
 //! Replay of scripts: a botnet in memory does a script's commands, and a transcript says what came of each.
 //!
-//! [`replay`] reads a whole script, checks it before the first step, makes a [`World`](botworld::World), does the
-//! commands in order and writes the transcript: a line for each packet that a step sends, a line for how the step
-//! ended, and the records that a `show` asks for. What is written is the text of a run of the network of just the
-//! script's steps.
+//! [`transcript`] is the whole of it without a stream: from a script's bytes to the bytes of its transcript. That has
+//! a line for each packet that a step sends, a line for how the step ended, and the records that a `show` asks for.
+//! Where memory holds out a script has one transcript: the text of a run of the network of just the script's steps.
+//! [`replay`] is that call between a read and a write.
 //!
 //! ```text
-//! replay(alloc, &mut script, &mut transcript)?;
+//! let text = transcript(alloc, b"leaves 0\nshow 0\n")?;          // 0 version 0 users 0 bans 0
+//! replay(alloc, &mut reader, &mut writer)?;                      // the same, from a reader to a writer
 //! ```
 #![tactic(auto)]
 
+mod answers;
 mod error;
 mod input;
 mod outcomes;
 mod output;
-mod playing;
 mod print;
 mod records;
 mod replaying;
 mod shows;
+mod transcripts;
 
 pub use crate::error::ReplayError;
 pub use crate::replaying::replay;
+pub use crate::transcripts::transcript;

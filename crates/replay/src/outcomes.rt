@@ -1,6 +1,7 @@
 // The lines of a step: the packets that it sent, and how it ended.
 ghost use Rattle.std.specs.Prelude.{◌≡◌, ◌-◌, ◌≤◌, ◌++◌, OnOk, decimal};
 ghost use Rattle.std.specs.Option.{option_copied};
+ghost use Rattle.botworld.specs.Network.{IsMade, IsMadeEnd};
 ghost use Rattle.replay.specs.Text.{note_text, end_line, packet_text, found_line, sent_line, sent_lines, outcome_text};
 
 use crate::print::{put, put_number};
@@ -11,13 +12,14 @@ use sharelink::{Note, Packet};
 /// Adds the lines of a step, whose packets the world has.
 ///
 /// # Errors
-/// `NoMemory` where room is refused, and where the step itself wanted memory.
+/// `NoMemory` where room is refused, and where the step itself ended so.
 pub fn put_outcome(out: &mut Vec<u8>, world: &World, outcome: Outcome) -> Result<(), NoMemory>
-    ensures { OnOk result (out.new.items ≡ out.old.items ++ outcome_text world.now.packets outcome) }
+    ensures made { OnOk result (IsMade outcome) }
+    ensures added { OnOk result (out.new.items ≡ out.old.items ++ outcome_text world.now.packets outcome) }
 {
     match outcome {
         Outcome::Report(report) => {
-            put_all_sent(out, world, report.first, report.count)?;
+            put_packets(out, world, report.first, report.count)?;
             put_end(out, report.bot, report.end)
         }
         Outcome::NoSuchBot => put(out, b"world O2\n"),
@@ -26,13 +28,13 @@ pub fn put_outcome(out: &mut Vec<u8>, world: &World, outcome: Outcome) -> Result
 }
 
 // The packets from this number on. Numbers are below 2^64, so the last one fits wherever there are such packets.
-fn put_all_sent(out: &mut Vec<u8>, world: &World, first: u64, count: usize) -> Result<(), NoMemory>
+fn put_packets(out: &mut Vec<u8>, world: &World, first: u64, count: usize) -> Result<(), NoMemory>
     ensures { OnOk result (out.new.items ≡ out.old.items ++ sent_lines world.now.packets first count) }
 {
-    let Some(behind) = first.checked_add(count as u64) else {
+    let Some(after) = first.checked_add(count as u64) else {
         return Err(NoMemory);
     };
-    for number in first..behind {
+    for number in first..after {
         put_found(out, number, world.packet(number))?;
     }
     Ok(())
@@ -84,7 +86,8 @@ fn put_packet(out: &mut Vec<u8>, packet: &Packet) -> Result<(), NoMemory>
 // B NOTE, or B refused CODE
 #[tactic(auto, using(std::proofs::Common::append_assoc))]
 fn put_end(out: &mut Vec<u8>, bot: u16, end: End) -> Result<(), NoMemory>
-    ensures { OnOk result (out.new.items ≡ out.old.items ++ end_line bot end) }
+    ensures made { OnOk result (IsMadeEnd end) }
+    ensures added { OnOk result (out.new.items ≡ out.old.items ++ end_line bot end) }
 {
     match end {
         End::Note(note) => {

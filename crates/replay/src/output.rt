@@ -1,19 +1,22 @@
 // A text to a writer.
-ghost use Rattle.std.specs.Prelude.{◌≡◌, ◌≤◌, ℕ, length, IfOk, OnOk, IfErr, take};
+ghost use Rattle.std.specs.Prelude.{◌≡◌, ◌≤◌, length, IfOk, OnOk, IfErr, take};
 ghost use Rattle.std.specs.Io.KnownBytes.{Appends, Keeps};
+ghost use Rattle.replay.specs.Ending.{AppendsFront};
 
+use crate::answers::taken;
 use crate::error::ReplayError;
-use std::io::{ErrorKind, Write};
+use std::io::Write;
 
 /// Writes a text whole and flushes it. Only a front of it is written where the writer fails or takes nothing.
 pub fn write_text<W: Write>(writer: &mut W, text: &[u8]) -> Result<(), ReplayError>
     ensures ok { OnOk result (Appends (W.contents writer.old) (W.contents writer.new) text.now) }
-    ensures err { IfErr result (λ e. (e ≡ ReplayError.Write) × ((n : ℕ) × Appends (W.contents writer.old) (W.contents writer.new) (take n text.now))) }
+    ensures err { IfErr result (λ e. (e ≡ ReplayError.Write) × AppendsFront (W.contents writer.old)
+        (W.contents writer.new) text.now) }
 {
     let mut written = 0;
     for _turn in 0..u64::MAX {
         if written >= text.len() {
-            return flushed(writer);
+            return flush(writer);
         }
         let count = write_some(writer, &text[written..])?;
         written += count;
@@ -22,7 +25,7 @@ pub fn write_text<W: Write>(writer: &mut W, text: &[u8]) -> Result<(), ReplayErr
 }
 
 // Flushes.
-fn flushed<W: Write>(writer: &mut W) -> Result<(), ReplayError>
+fn flush<W: Write>(writer: &mut W) -> Result<(), ReplayError>
     ensures kept { Keeps (W.contents writer.old) (W.contents writer.new) }
     ensures err { IfErr result (λ e. e ≡ ReplayError.Write) }
 {
@@ -38,15 +41,5 @@ fn write_some<W: Write>(writer: &mut W, text: &[u8]) -> Result<usize, ReplayErro
     ensures ok { IfOk result (λ n. Appends (W.contents writer.old) (W.contents writer.new) (take n text.now)) }
     ensures err { IfErr result (λ e. (e ≡ ReplayError.Write) × Keeps (W.contents writer.old) (W.contents writer.new)) }
 {
-    match writer.write(text) {
-        Ok(0) => Err(ReplayError::Write),
-        Ok(count) => Ok(count),
-        Err(error) => {
-            if error.kind() == ErrorKind::Interrupted {
-                Ok(0)
-            } else {
-                Err(ReplayError::Write)
-            }
-        }
-    }
+    taken(writer.write(text))
 }

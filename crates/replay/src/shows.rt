@@ -16,7 +16,8 @@ use userfile::{Ban, User, Userfile};
 /// Adds a bot's version, users and bans, or that there is no such bot.
 #[tactic(auto, using(std::proofs::Common::append_assoc))]
 pub fn put_shown(alloc: Global, out: &mut Vec<u8>, world: &World, bot: u16) -> Result<(), NoMemory>
-    ensures { OnOk result (out.new.items ≡ out.old.items ++ shown_text bot (shown_version world.now bot) (shown_records world.now bot)) }
+    ensures { OnOk result (out.new.items ≡ out.old.items ++ shown_text bot (shown_version world.now bot)
+        (shown_records world.now bot)) }
 {
     let Some(version) = world.version(bot) else {
         return put(out, b"world O2\n");

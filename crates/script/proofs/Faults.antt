@@ -1,5 +1,6 @@
 -- Bytes are one script or have one first fault, and not both.
-use Rattle.std.proofs.Common.{◌≡◌, ℕ, zero, suc, ◌<◌, ◌≤◌, true, List, length, take, drop, refl, sym, ap, subst, ◌∙◌, arith, ◌⊎◌, inl, inr, take-append-drop, length-take}
+use Rattle.std.proofs.Common.{◌≡◌, ℕ, zero, suc, ◌<◌, ◌≤◌, true, List, length, take, drop, refl, sym, ap, subst, ◌∙◌, arith, ◌⊎◌, inl, inr, take-append-drop}
+use Rattle.std.proofs.Common.{length-take}
 use Rattle.std.proofs.lemmas.List.{take_all, take-take}
 use Rattle.std.proofs.lemmas.Bool.{false≢true, cases_lt}
 use Rattle.script.specs.declared.reading.Script.{Script}
@@ -9,7 +10,8 @@ use Rattle.script.proofs.Sayings.{said-append, begins-front, are_told-map}
 -- the front of lines that can go on can go on
 pub front_begins : (lines : List (List ℕ)) (k : ℕ) → begins_script (said lines) ≡ true → begins_script (said (take k lines)) ≡ true
 front_begins lines k h =
-    begins-front (said (take k lines)) (said (drop k lines)) (ap begins_script (sym (said-append (take k lines) (drop k lines)) ∙ ap said (take-append-drop k lines)) ∙ h)
+    begins-front (said (take k lines)) (said (drop k lines))
+    (ap begins_script (sym (said-append (take k lines) (drop k lines)) ∙ ap said (take-append-drop k lines)) ∙ h)
 
 -- so no line of such lines breaks a rule
 unbroken : (lines : List (List ℕ)) (place : ℕ) → begins_script (said lines) ≡ true → BreaksAt lines place → ⊥

@@ -1,5 +1,6 @@
 -- What lines say one after another.
-use Rattle.std.proofs.Common.{◌≡◌, ℕ, suc, ◌+◌, ◌<◌, ◌≤◌, Bool, true, false, List, [], ◌∷◌, ◌++◌, length, take, drop, get_or, map, refl, sym, ap, ◌∙◌, subst, Option, None, Some, arith, add-one}
+use Rattle.std.proofs.Common.{◌≡◌, ℕ, suc, ◌+◌, ◌<◌, ◌≤◌, Bool, true, false, List, [], ◌∷◌, ◌++◌, length, take, drop, get_or, map, refl, sym, ap, ◌∙◌, subst}
+use Rattle.std.proofs.Common.{Option, None, Some, arith, add-one}
 use Rattle.std.proofs.lemmas.List.{take_more, take_all, map-append}
 use Rattle.std.specs.Borrow.{Bor}
 use Rattle.std.proofs.lemmas.List.{length-map, get_or-map}
@@ -24,7 +25,8 @@ said-append [] ys = refl
 said-append (x ∷ xs) ys = ap (onto_said (saying_of x)) (said-append xs ys) ∙ onto_said-append (saying_of x) (said xs) (said ys)
 
 -- one more line is read
-pub said-take_more : (lines : List (List ℕ)) (i : ℕ) → i < length lines → said (take (i + 1) lines) ≡ said (take i lines) ++ onto_said (saying_of (get_or lines i [])) []
+pub said-take_more : (lines : List (List ℕ)) (i : ℕ) → i < length lines
+    → said (take (i + 1) lines) ≡ said (take i lines) ++ onto_said (saying_of (get_or lines i [])) []
 said-take_more lines i within = ap said (take_more lines i [] within) ∙ said-append (take i lines) (get_or lines i [] ∷ [])
 
 pub are_told-map : (commands : List Command) → are_told (map Told commands) ≡ true
@@ -81,19 +83,24 @@ said-more lines i d within =
 
 -- a line that goes on with the script is added to it
 pub so_far-more : (lines : List (Bor (List ℕ))) (i : ℕ) (d : Bor (List ℕ)) (old new : Option Script) (saying : Saying) (good : Bool) → i < length lines
-    → so_far old ≡ said (take i (now_of lines)) → saying ≡ saying_of (get_or lines i d).now → good ≡ true → GoesOn old saying good new → so_far new ≡ said (take (i + 1) (now_of lines))
+    → so_far old ≡ said (take i (now_of lines)) → saying ≡ saying_of (get_or lines i d).now → good ≡ true → GoesOn old saying good new
+    → so_far new ≡ said (take (i + 1) (now_of lines))
 so_far-more lines i d old new saying false within before e g on = cc
 so_far-more lines i d old new saying true within before e g on =
-    on ∙ ap (λ s. so_far old ++ onto_said s []) e ∙ ap (λ says. says ++ onto_said (saying_of (get_or lines i d).now) []) before ∙ sym (said-more lines i d within)
+    on ∙ ap (λ s. so_far old ++ onto_said s []) e ∙ ap (λ says. says ++ onto_said (saying_of (get_or lines i d).now) []) before
+    ∙ sym (said-more lines i d within)
 
 -- and one that doesn't is the first that breaks a rule
 pub breaks-more : (lines : List (Bor (List ℕ))) (i : ℕ) (d : Bor (List ℕ)) (old new : Option Script) (saying : Saying) (good : Bool) → i < length lines
-    → so_far old ≡ said (take i (now_of lines)) → saying ≡ saying_of (get_or lines i d).now → good ≡ false → GoesOn old saying good new → HasLineFault (now_of lines) (i + 1)
+    → so_far old ≡ said (take i (now_of lines)) → saying ≡ saying_of (get_or lines i d).now → good ≡ false → GoesOn old saying good new
+    → HasLineFault (now_of lines) (i + 1)
 breaks-more lines i d old new saying true within before e g on = cc
 breaks-more lines i d old new saying false within before e g on =
     let here : begins_script (said (take (i + 1) (now_of lines))) ≡ false =
-    ap begins_script (said-more lines i d within ∙ ap (λ says. says ++ onto_said (saying_of (get_or lines i d).now) []) (sym before) ∙ ap (λ s. so_far old ++ onto_said s []) (sym e)) ∙ on in
-    let next : begins_script (said (take (suc i) (now_of lines))) ≡ false = subst (λ n. begins_script (said (take n (now_of lines))) ≡ false) (add-one i) here in
+    ap begins_script (said-more lines i d within ∙ ap (λ says. says ++ onto_said (saying_of (get_or lines i d).now) []) (sym before)
+    ∙ ap (λ s. so_far old ++ onto_said s []) (sym e)) ∙ on in
+    let next : begins_script (said (take (suc i) (now_of lines))) ≡ false = subst (λ n. begins_script (said (take n (now_of lines))) ≡ false) (add-one i) here
+    in
     let broken : BreaksAt (now_of lines) i = record {
       within = rw length-map within;
       before = ap begins_script (sym before) ∙ begins-so_far old;
@@ -103,7 +110,8 @@ breaks-more lines i d old new saying false within before e g on =
 
 -- an ask, word by word
 pub more_words-at : (words : List (Bor (List ℕ))) (d : Bor (List ℕ)) (n : ℕ) → 3 ≤ length words → length words ≤ n + 3
-    → more_words (verb_of (get_or words 0 d).now) (get_or words 1 d).now (get_or words 2 d).now (now_of (take n (drop 3 words))) ≡ saying_by_words (now_of words)
+    → more_words (verb_of (get_or words 0 d).now) (get_or words 1 d).now (get_or words 2 d).now (now_of (take n (drop 3 words))) ≡ saying_by_words
+    (now_of words)
 more_words-at [] d n most all = absurd (omega arith)
 more_words-at (x ∷ []) d n most all = absurd (omega arith)
 more_words-at (x ∷ y ∷ []) d n most all = absurd (omega arith)

@@ -16,7 +16,8 @@ regroup value digit p q rest e = rw e (omega arith)
 pub together-cons : (value d : ℕ) (rest : List ℕ) → together value (d ∷ rest) ≡ together (value * 10 + (d - 48)) rest
 together-cons value d rest = regroup value (d - 48) (10 ^ length rest) (10 ^ length (d ∷ rest)) (value_of rest) (pow-suc 10 (length rest))
 
-pub together-more : (value i : ℕ) (word : List ℕ) → i < length word → together value (drop i word) ≡ together (value * 10 + (get_or word i 0 - 48)) (drop (i + 1) word)
+pub together-more : (value i : ℕ) (word : List ℕ) → i < length word
+    → together value (drop i word) ≡ together (value * 10 + (get_or word i 0 - 48)) (drop (i + 1) word)
 together-more value i word within = ap (together value) (drop_more word i 0 within) ∙ together-cons value (get_or word i 0) (drop (i + 1) word)
 
 -- what is left only adds

@@ -188,7 +188,8 @@ fn by_more_words(
     e: &[u8],
     words: &[&[u8]],
 ) -> Result<Option<Change>, NoMemory>
-    ensures { IfOk result (λ change. change ≡ by_more_words name.now c.now m.now h.now e.now (map (λ word. word.now) words.now)) }
+    ensures { IfOk result (λ change. change ≡ by_more_words name.now c.now m.now h.now e.now
+        (map (λ word. word.now) words.now)) }
 {
     if c.is_empty() || m.is_empty() || h.is_empty() || name != b"addban".as_slice() {
         return Ok(None);

@@ -1,6 +1,7 @@
 // What one line says.
 ghost use Rattle.std.specs.Prelude.{◌≡◌, map, option_and_then, IfOk};
-ghost use Rattle.script.specs.Grammar.{asked, counted, few_leaves, told, verb_of, two_words, more_words, saying_by_words, saying_of};
+ghost use Rattle.script.specs.Grammar.{asked, counted, few_leaves, told, verb_of, two_words, more_words};
+ghost use Rattle.script.specs.Grammar.{saying_by_words, saying_of};
 
 use crate::asking::change_named;
 use crate::command::Command;
@@ -85,7 +86,10 @@ fn two_words(verb: &[u8], a: &[u8]) -> Saying
     match verb_of(verb) {
         Some(Verb::Leaves) => count_leaves(bot_number(a)),
         Some(Verb::Pump) => match bot_number(a) {
-            Some(bot) => told(Step::At { bot, event: Event::Pump }),
+            Some(bot) => told(Step::At {
+                bot,
+                event: Event::Pump,
+            }),
             None => Saying::Wrong,
         },
         Some(Verb::Deliver) => match number(a) {
@@ -131,7 +135,8 @@ fn more_words(
     name: &[u8],
     words: &[&[u8]],
 ) -> Result<Saying, NoMemory>
-    ensures { IfOk result (λ saying. saying ≡ more_words (verb_of verb.now) a.now name.now (map (λ word. word.now) words.now)) }
+    ensures { IfOk result (λ saying. saying ≡ more_words (verb_of verb.now) a.now name.now
+        (map (λ word. word.now) words.now)) }
 {
     match verb_of(verb) {
         Some(Verb::Ask) => ask(alloc, bot_number(a), name, words),
@@ -140,12 +145,7 @@ fn more_words(
 }
 
 // An ask of this bot.
-fn ask(
-    alloc: Global,
-    bot: Option<u16>,
-    name: &[u8],
-    words: &[&[u8]],
-) -> Result<Saying, NoMemory>
+fn ask(alloc: Global, bot: Option<u16>, name: &[u8], words: &[&[u8]]) -> Result<Saying, NoMemory>
     ensures { IfOk result (λ saying. saying ≡ told (asked bot name.now (map (λ word. word.now) words.now))) }
 {
     let Some(bot) = bot else {

@@ -11,12 +11,15 @@ pub to_each-next : (first n i : ℕ) (p : Packet) → i < n → to_each first (n
 to_each-next first n i p h = let e : n - i ≡ suc (n - (i + 1)) = omega arith in rw e refl
 
 -- so one more packet is pushed
-pub to_each-more : (sent : List Outgoing) (n i : ℕ) (p : Packet) (all : List Outgoing) → i < n → sent ++ to_each (i + 1) (n - i) p ≡ all → (sent ++ record { to = i + 1; packet = p } ∷ []) ++ to_each (i + 1 + 1) (n - (i + 1)) p ≡ all
+pub to_each-more : (sent : List Outgoing) (n i : ℕ) (p : Packet) (all : List Outgoing) → i < n → sent ++ to_each (i + 1) (n - i) p ≡ all
+    → (sent ++ record { to = i + 1; packet = p } ∷ []) ++ to_each (i + 1 + 1) (n - (i + 1)) p ≡ all
 to_each-more sent n i p all h e = append_assoc sent _ _ ∙ ap (λ ps. sent ++ ps) (sym (to_each-next (i + 1) n i p h)) ∙ e
 
 -- the changes that are left begin with the next one
-pub numbered_from-more : (sent : List Outgoing) (leaf v i : ℕ) (entries : List AcceptedChange) (x : AcceptedChange) (all : List Outgoing) → i < length entries → x ≡ get_or entries i x
-    → sent ++ numbered_from leaf v (drop i entries) ≡ all → (sent ++ record { to = leaf; packet = packet_of (v + 1) x } ∷ []) ++ numbered_from leaf (v + 1) (drop (i + 1) entries) ≡ all
+pub numbered_from-more : (sent : List Outgoing) (leaf v i : ℕ) (entries : List AcceptedChange) (x : AcceptedChange) (all : List Outgoing) → i < length entries
+    → x ≡ get_or entries i x
+    → sent ++ numbered_from leaf v (drop i entries) ≡ all
+    → (sent ++ record { to = leaf; packet = packet_of (v + 1) x } ∷ []) ++ numbered_from leaf (v + 1) (drop (i + 1) entries) ≡ all
 numbered_from-more sent leaf v i entries x all h is e =
     let here = drop_more entries i x h ∙ ap (λ y. y ∷ drop (i + 1) entries) (sym is) in
     append_assoc sent _ _ ∙ ap (λ es. sent ++ numbered_from leaf v es) (sym here) ∙ e

@@ -29,7 +29,13 @@ impl Model for HubLink {
 
     ghost Value = { Hub };
 
-    ghost view = { λ h. record { leaves = h.leaves; records = h.userfile; accepted = h.accepted.items; waiting = h.waiting.items } };
+    ghost view = { λ h. record {
+      leaves = h.leaves;
+      records = h.userfile;
+      accepted = h.accepted.items;
+      waiting =
+          h.waiting.items;
+    } };
 
     ghost invariant = { λ h. (length h.accepted.items < 2 ^ 32) × (h.leaves ≤ MAX_LEAVES) };
 }

@@ -18,8 +18,10 @@ pub loop-one-preserved : goal.loop-one-preserved
 loop-one-preserved c =
     let next = c.in-Some.ensures.steps.0 in
     let shorter = ap length next in
-    let pushed : c.push.new.self.items ≡ c.loop-one.packets.items ++ c.sent_by.result ∷ [] = c.push.ensures.items ∙ ap (λ r. cond (is_ok r) (c.loop-one.packets.items ++ c.sent_by.result ∷ []) c.loop-one.packets.items) c.unwrap.ensures in
-    let count : vec_len c.push.new.self ≡ vec_len c.loop-one.packets + 1 = c.push.ensures.len ∙ ap (λ r. cond (is_ok r) (vec_len c.loop-one.packets + 1) (vec_len c.loop-one.packets)) c.unwrap.ensures in
+    let pushed : c.push.new.self.items ≡ c.loop-one.packets.items ++ c.sent_by.result ∷ [] = c.push.ensures.items
+    ∙ ap (λ r. cond (is_ok r) (c.loop-one.packets.items ++ c.sent_by.result ∷ []) c.loop-one.packets.items) c.unwrap.ensures in
+    let count : vec_len c.push.new.self ≡ vec_len c.loop-one.packets + 1 = c.push.ensures.len
+    ∙ ap (λ r. cond (is_ok r) (vec_len c.loop-one.packets + 1) (vec_len c.loop-one.packets)) c.unwrap.ensures in
     let rest = posted-next c.loop-one.packets.items c.args.bot _ c.next.new.self.rest.items c.in-Some.one _ next c.loop-one.invariant.0 in
     (rw (pushed, c.sent_by.ensures) rest, omega (arith, count, shorter, c.loop-one.invariant.1, c.push.ensures.capacity))
 

@@ -1,7 +1,7 @@
 use Rattle.std.proofs.Common.{◌≡◌, ◌∙◌, [], length, ap, sym, arith}
 use Rattle.std.specs.Vec.Iter.{into_iter_items}
 use Rattle.chanstate.specs.Undos.{put_each_last}
-use Rattle.chanstate.proofs.SeatLemmas.{nothing_left}
+use Rattle.std.proofs.lemmas.List.{nil_from_length}
 use Rattle.chanstate.proofs.channels.put_each.Goals as goal
 
 pub put-requires : goal.put-requires
@@ -21,6 +21,6 @@ loop-channel-preserved c =
 pub returns : goal.returns
 returns c =
     let at = c.loop-channel in
-    let empty : into_iter_items at.channel-iterator ≡ [] = nothing_left _ (sym at.invariant.len ∙ c.in-None.ensures.steps.0) in
+    let empty : into_iter_items at.channel-iterator ≡ [] = nil_from_length _ (sym at.invariant.len ∙ c.in-None.ensures.steps.0) in
     ap (λ cs. put_each_last cs at.items.items) (sym empty) ∙ at.invariant.put
     ∙ ap (λ cs. put_each_last cs c.args.items.now.items) c.into_iter-channel-iterator.ensures.into_iter_gives.0

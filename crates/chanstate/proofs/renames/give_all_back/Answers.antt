@@ -1,7 +1,7 @@
 use Rattle.std.proofs.Common.{◌≡◌, ◌∙◌, [], ◌∷◌, length, get_or, set, ap, sym, subst, arith}
 use Rattle.std.proofs.lemmas.List.{length-set, length-append}
 use Rattle.chanstate.specs.Renamings.{AreTaken, given_back}
-use Rattle.chanstate.proofs.SeatLemmas.{nothing_left}
+use Rattle.std.proofs.lemmas.List.{nil_from_length}
 use Rattle.chanstate.proofs.TakenLemmas.{one_less, back, none_left, map-same}
 use Rattle.chanstate.proofs.renames.give_all_back.Goals as goal
 
@@ -25,5 +25,5 @@ loop-with-preserved c =
 pub returns : goal.returns
 returns c old new before taken =
     let at = c.loop-with in
-    let empty = nothing_left at.all.items (omega (arith, c.in_default.ensures.cases.0, at.all.ok)) in
+    let empty = nil_from_length at.all.items (omega (arith, c.in_default.ensures.cases.0, at.all.ok)) in
     none_left (λ c. c) old new before at.channels (subst (λ vs. AreTaken (λ c. c) old new before vs at.channels) empty (at.invariant.taken old new before taken)) ∙ map-same before

@@ -3,7 +3,7 @@ use Rattle.std.proofs.lemmas.List.{length-set, length-append}
 use Rattle.chanstate.specs.Channels.{with_members}
 use Rattle.chanstate.specs.Members.{renamed}
 use Rattle.chanstate.specs.Renamings.{AreTaken, given_renamed}
-use Rattle.chanstate.proofs.SeatLemmas.{nothing_left}
+use Rattle.std.proofs.lemmas.List.{nil_from_length}
 use Rattle.chanstate.proofs.TakenLemmas.{whole_taken, one_less, changed, none_left}
 use Rattle.chanstate.proofs.renames.give_all_renamed.Goals as goal
 
@@ -36,5 +36,5 @@ pub returns : goal.returns
 returns c new before taken =
     let at = c.loop-with in
     let f = with_members (renamed c.args.old.now new) in
-    let empty = nothing_left at.all.items (omega (arith, c.in_default.ensures.cases.0, at.all.ok)) in
+    let empty = nil_from_length at.all.items (omega (arith, c.in_default.ensures.cases.0, at.all.ok)) in
     none_left f c.args.old.now new before at.channels (subst (λ vs. AreTaken f c.args.old.now new before vs at.channels) empty (at.invariant.taken new before taken))

@@ -1,5 +1,5 @@
 use Rattle.std.proofs.Common.{◌≡◌, take, map, filter}
-use Rattle.chanstate.specs.Items.{is_channel_name}
+use Rattle.rfccase.specs.Channels.{is_channel_name}
 use Rattle.chanstate.proofs.words.only_names.Given as goal
 
 -- the names so far

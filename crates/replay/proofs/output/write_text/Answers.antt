@@ -10,5 +10,8 @@ loop-turn-preserved g c =
     let text = c.args.text.now in
     let written = c.loop-turn.written in
     let whole = take_all (length text - written) (drop written text) (omega (arith, length-drop written text)) in
-    let more = ap (λ rest. take written text ++ take c.in_ok-count.count rest) whole ∙ sym (take-add written c.in_ok-count.count text) in
-    (omega (arith, length-drop written text, ap length whole, c.in_ok-count.ensures.bound), subst (Appends _ _) more (Appends-trans _ _ _ _ _ c.loop-turn.invariant.1 c.in_ok-count.ensures.ok))
+    let more = ap (λ rest. take written text ++ take c.in_ok-count.count rest) whole ∙ sym (take-add written c.in_ok-count.count text) in (
+      omega (arith, length-drop written text, ap length whole, c.in_ok-count.ensures.bound),
+      subst (Appends _ _) more
+          (Appends-trans _ _ _ _ _ c.loop-turn.invariant.1 c.in_ok-count.ensures.ok),
+    )

@@ -1,5 +1,5 @@
-use Rattle.replay.proofs.Endings.{TellsFault-at}
+use Rattle.replay.proofs.Endings.{TellsLine-at}
 use Rattle.replay.proofs.replaying.replay.Goals as goal
 
 pub returns-clause-faulty : goal.returns-clause-faulty
-returns-clause-faulty g c = TellsFault-at _ _ _ _ c.replayed.ensures
+returns-clause-faulty g c = TellsLine-at _ _ _ _ c.read_and_write.ensures

@@ -17,9 +17,17 @@ returns c =
     let kept = c.in_ok-reserve.ensures.items in
     let put = subst (λ (ps : List Sent). Finishes ps bot c.receive-answer-2.result c.post-2.result c.post-2.new.packets.items) kept c.post-2.ensures in
     let first : 0 < c.args.packet = omega (arith, c.if-packet-eq0.false) in
-    let within : c.args.packet - 1 < length c.self.inside.packets.items = omega (arith, c.if-packet-eq0.false, c.if-packet-len.false, c.len.ensures, c.reserve.new.self.ok, ap length kept) in
-    let found = packet_found c.self.inside.packets.items c.args.packet sent first within (c.index-sent.ensures ∙ ap (λ (ps : List Sent). get_or ps (c.args.packet - 1) sent) kept) in
-    let new : Net = record { hub = c.self.inside.hub; leaves = slice_set c.self.inside.leaves.items (bot - 1) c.receive-answer-2.new.self; packets = c.post-2.new.packets.items } in
+    let within : c.args.packet - 1 < length c.self.inside.packets.items = omega
+    (arith, c.if-packet-eq0.false, c.if-packet-len.false, c.len.ensures, c.reserve.new.self.ok, ap length kept) in
+    let found = packet_found c.self.inside.packets.items c.args.packet sent first within (c.index-sent.ensures
+    ∙ ap (λ (ps : List Sent). get_or ps (c.args.packet - 1) sent) kept) in
+    let new : Net = record {
+      hub = c.self.inside.hub;
+      leaves = slice_set c.self.inside.leaves.items (bot - 1) c.receive-answer-2.new.self;
+      packets =
+          c.post-2.new.packets.items;
+    } in
     subst (λ (w : Net). ComesOf w (delivered w (packet_at w.packets c.args.packet)) c.post-2.result new) c.self.view_is
     (subst (λ (p : Option Sent). ComesOf old (delivered old p) c.post-2.result new) (sym found)
-    (leaf_comes old bot (λ (hub : Hub). hub_received hub sent.packet) (λ (leaf : Leaf). leaf_received leaf sent.packet) c.index_mut.result.now c.receive-answer-2.new.self _ _ _ some there c.index_mut.ensures.value c.receive-answer-2.ensures.row put))
+    (leaf_comes old bot (λ (hub : Hub). hub_received hub sent.packet) (λ (leaf : Leaf). leaf_received leaf sent.packet) c.index_mut.result.now
+    c.receive-answer-2.new.self _ _ _ some there c.index_mut.ensures.value c.receive-answer-2.ensures.row put))

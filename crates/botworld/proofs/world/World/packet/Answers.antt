@@ -6,7 +6,8 @@ use Rattle.botworld.specs.Standing.{IsTrueChange, AllTrue}
 use Rattle.botworld.proofs.Truth.{AllTrue-at}
 use Rattle.botworld.proofs.world.World.packet.Goals as goal
 
-found_is_true : (xs : List AcceptedChange) (ps : List Sent) (n : ℕ) (r : Option Sent) → AllTrue xs ps → packet_at ps n ≡ r → IfSome r (λ sent. IsTrueChange xs sent.packet)
+found_is_true : (xs : List AcceptedChange) (ps : List Sent) (n : ℕ) (r : Option Sent) → AllTrue xs ps → packet_at ps n ≡ r
+    → IfSome r (λ sent. IsTrueChange xs sent.packet)
 found_is_true xs ps zero None h e = tt
 found_is_true xs ps zero (Some sent) h e = cc
 found_is_true xs ps (suc n) None h e = tt

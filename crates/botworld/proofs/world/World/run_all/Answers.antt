@@ -1,4 +1,5 @@
-use Rattle.std.proofs.Common.{◌≡◌, ◌+◌, ◌++◌, [], ◌∷◌, List, cond, is_ok, arith, ap, sym, subst, ◌∙◌, length, length-append, take, get_or, refl, vec_len, vec_capacity, inr}
+use Rattle.std.proofs.Common.{◌≡◌, ◌+◌, ◌++◌, [], ◌∷◌, List, cond, is_ok, arith, ap, sym, subst, ◌∙◌, length, length-append, take, get_or, refl, vec_len}
+use Rattle.std.proofs.Common.{vec_capacity, inr}
 use Rattle.std.proofs.lemmas.Option.{slice_get_read}
 use Rattle.std.proofs.lemmas.List.{take_more}
 use Rattle.botworld.specs.declared.step.Step.{Step}
@@ -22,14 +23,17 @@ pub loop-step-preserved : goal.loop-step-preserved
 loop-step-preserved c =
     let pushed : c.push.new.self.items ≡ c.loop-step.outcomes.items ++ c.in-Ok-make.outcome ∷ [] =
     c.push.ensures.items ∙ ap (λ r. cond (is_ok r) (c.loop-step.outcomes.items ++ c.in-Ok-make.outcome ∷ []) c.loop-step.outcomes.items) c.unwrap.ensures in
-    let one_more : vec_len c.push.new.self ≡ vec_len c.loop-step.outcomes + 1 = c.push.ensures.len ∙ ap (λ r. cond (is_ok r) (vec_len c.loop-step.outcomes + 1) (vec_len c.loop-step.outcomes)) c.unwrap.ensures in
+    let one_more : vec_len c.push.new.self ≡ vec_len c.loop-step.outcomes + 1 = c.push.ensures.len
+    ∙ ap (λ r. cond (is_ok r) (vec_len c.loop-step.outcomes + 1) (vec_len c.loop-step.outcomes)) c.unwrap.ensures in
     let more : take (c.loop-step.step-index + 1) c.args.steps.now ≡ take c.loop-step.step-index c.args.steps.now ++ c.step-item.result ∷ [] =
-    take_more c.args.steps.now c.loop-step.step-index c.step-item.result c.loop-step-test.true ∙ ap (λ (x : Step). take c.loop-step.step-index c.args.steps.now ++ x ∷ []) (sym c.step-item.is) in
+    take_more c.args.steps.now c.loop-step.step-index c.step-item.result c.loop-step-test.true
+    ∙ ap (λ (x : Step). take c.loop-step.step-index c.args.steps.now ++ x ∷ []) (sym c.step-item.is) in
     record {
       count = ap length pushed ∙ length-append c.loop-step.outcomes.items (c.in-Ok-make.outcome ∷ []) ∙ ap (λ n. n + 1) c.loop-step.invariant.count;
       len = one_more ∙ ap (λ n. n + 1) c.loop-step.invariant.len;
       room = omega (arith, c.loop-step.invariant.room, c.push.ensures.capacity);
-      leads = rw (pushed, more) (λ s stands. leads_on s _ _ c.step-item.result c.in-Ok-make.outcome c.loop-step.self c.make.new.self (c.loop-step.invariant.leads s stands) c.in-Ok-make.ensures);
+      leads = rw (pushed, more) (λ s stands. leads_on s _ _ c.step-item.result c.in-Ok-make.outcome c.loop-step.self c.make.new.self
+          (c.loop-step.invariant.leads s stands) c.in-Ok-make.ensures);
     }
 
 pub returns-in_default-clause-leads : goal.returns-in_default-clause-leads

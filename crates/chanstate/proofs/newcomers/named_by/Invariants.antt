@@ -1,0 +1,13 @@
+use Rattle.std.proofs.Common.{◌≡◌, take}
+use Rattle.std.specs.List.{filter_map}
+use Rattle.std.specs.Map.{values_of}
+use Rattle.chanstate.specs.Items.{named}
+use Rattle.chanstate.specs.Seats.{AreUnder}
+use Rattle.chanstate.proofs.newcomers.named_by.Given as goal
+
+-- those whom the words so far name
+abbrev pub invariant-loop-word : goal.invariant-loop-word
+invariant-loop-word l = record {
+  keyed : AreUnder l.ones.items;
+  named : values_of l.ones.items ≡ filter_map (λ word. named word.now) (take l.word-index l.words);
+}

@@ -1,0 +1,66 @@
+-- The seats of a channel, in the order in which people came, and the index that finds each by the lower case of its nick.
+use Rattle.std.specs.Prelude.{◌≡◌, ℕ, ◌+◌, zero, suc, Bool, false, nat_eq, List, [], ◌∷◌, Option, None, Some, is_some, filter}
+use Rattle.std.specs.List.{filter_map}
+use Rattle.std.specs.Map.{lookup}
+use Rattle.std.specs.Cmp.Lexicographic.{pointwise}
+use Rattle.std.specs.declared.vec.Vec.{Vec}
+use Rattle.std.specs.declared.alloc.Global.{Global}
+use Rattle.rfccase.specs.Casemapping.{folded}
+use Rattle.chanstate.specs.declared.member.Member.{Member}
+use Rattle.chanstate.specs.Members.{is_called}
+
+-- the members who sit there, in their order; an empty seat is left by who has gone
+abbrev pub seated : List (Option Member) → List Member
+seated places = filter_map (λ place. place) places
+
+-- the seats that are not empty
+abbrev pub taken : List (Option Member) → List (Option Member)
+taken places = filter is_some places
+
+-- who sits at a place
+abbrev pub SitsAt : List (Option Member) → ℕ → Member → Type 0
+SitsAt [] i m = ⊥
+SitsAt (p ∷ ps) zero m = p ≡ Some m
+SitsAt (p ∷ ps) (suc i) m = SitsAt ps i m
+
+-- the test by which a look-up goes
+abbrev pub has_key : List ℕ → Vec ℕ Global → Bool
+has_key lower key = pointwise nat_eq lower key.items
+
+-- the entries of the index: lower cases, and the places of who has them
+abbrev pub Entries : Type 0
+Entries = List (Vec ℕ Global × ℕ)
+
+-- the place that the index has for a lower case
+abbrev pub place_under : List ℕ → Entries → Option ℕ
+place_under lower entries = lookup (has_key lower) entries
+
+-- the index has the place of each member, and no other
+pub record AreIndexed (places : List (Option Member)) (entries : Entries) : Type 0 where
+  pub found : (i : ℕ) (m : Member) → SitsAt places i m → place_under (folded m.nick) entries ≡ Some i
+  pub named : (lower : List ℕ) (i : ℕ) → place_under lower entries ≡ Some i → (m : Member) × SitsAt places i m × (folded m.nick ≡ lower)
+
+-- the index has w for a lower case, and for each other what it had
+pub record IsChanged (lower : List ℕ) (w : Option ℕ) (old new : Entries) : Type 0 where
+  pub own : place_under lower new ≡ w
+  pub others : (other : List ℕ) → pointwise nat_eq other lower ≡ false → place_under other new ≡ place_under other old
+
+-- who sits at a place comes next in the index, which has so many entries, and nothing changes where nobody does
+abbrev pub IsIndexedNext : Option Member → ℕ → Entries → ℕ → Entries → Type 0
+IsIndexedNext None n old k new = (new ≡ old) × (k ≡ n)
+IsIndexedNext (Some m) n old k new =
+    IsChanged (folded m.nick) (Some n) old new × (place_under (folded m.nick) old ≡ None → k ≡ n + 1)
+
+-- whether someone of this nick sits there
+abbrev pub is_seat_of : List ℕ → Option Member → Bool
+is_seat_of nick None = false
+is_seat_of nick (Some m) = is_called nick m
+
+-- a member stands under the lower case of its nick
+abbrev pub IsUnder : Vec ℕ Global → Member → Type 0
+IsUnder key m = key.items ≡ folded m.nick
+
+-- so does each of these
+abbrev pub AreUnder : List (Vec ℕ Global × Member) → Type 0
+AreUnder [] = Unit {0}
+AreUnder (e ∷ es) = IsUnder e.0 e.1 × AreUnder es

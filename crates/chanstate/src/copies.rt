@@ -1,0 +1,44 @@
+// Copies of those who sit on seats.
+ghost use Rattle.std.specs.Prelude.{◌≡◌, ◌++◌, IfOk, OnOk, map, Some};
+ghost use Rattle.std.specs.Option.{option_to_list};
+ghost use Rattle.chanstate.specs.Seats.{seated, taken};
+
+use crate::member::Member;
+use bytetext::{NoMemory, TryCopy};
+use std::alloc::Global;
+
+// Copies of the members who sit there, in order.
+pub(crate) fn copies_of(alloc: Global, places: &[Option<Member>]) -> Result<Vec<Member>, NoMemory>
+    ensures { IfOk result (λ copies. copies.items ≡ seated places.now) }
+{
+    let mut copies = Vec::new(alloc);
+    for place in places {
+        push_copy(&mut copies, alloc, place)?;
+    }
+    Ok(copies)
+}
+
+// One more copy, if someone sits there.
+fn push_copy(
+    copies: &mut Vec<Member>,
+    alloc: Global,
+    place: &Option<Member>,
+) -> Result<(), NoMemory>
+    ensures { OnOk result (copies.new.items ≡ copies.old.items ++ option_to_list place.now) }
+{
+    if let Some(member) = place {
+        copies.push(member.copy(alloc)?)?;
+    }
+    Ok(())
+}
+
+// Each of these on a seat of its own.
+pub(crate) fn seats_of(alloc: Global, members: Vec<Member>) -> Result<Vec<Option<Member>>, NoMemory>
+    ensures { IfOk result (λ places. places.items ≡ map (λ m. Some m) members.items) }
+{
+    let mut places = Vec::with_capacity(alloc, members.len())?;
+    for member in members {
+        places.push(Some(member))?;
+    }
+    Ok(places)
+}

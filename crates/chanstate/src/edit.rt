@@ -1,0 +1,14 @@
+// A change of one member.
+use crate::member::{Mark, Member};
+use bytetext::Text;
+
+/// A change of what is known of a member, who keeps the nick.
+#[derive(Drop)]
+pub enum Edit {
+    // A mark is set or cleared.
+    Marked(Mark, bool),
+    // A list of names shows these marks.
+    Listed(Member),
+    // The user and host are these.
+    Addressed(Text, Text),
+}

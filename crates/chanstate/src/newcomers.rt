@@ -1,0 +1,79 @@
+// Those whom a list of names shows.
+ghost use Rattle.std.specs.Prelude.{◌≡◌, ◌+◌, ◌<◌, ◌≤◌, ◌++◌, IfOk, OnOk, length};
+ghost use Rattle.std.specs.List.{filter_map};
+ghost use Rattle.std.specs.Option.{option_to_list};
+ghost use Rattle.std.specs.Vec.{vec_len, vec_capacity};
+ghost use Rattle.std.specs.Map.{values_of};
+ghost use Rattle.indexmap.specs.IndexMap.{spare};
+ghost use Rattle.chanstate.specs.Items.{named};
+ghost use Rattle.chanstate.specs.Seats.{AreIndexed, AreUnder, IsUnder, seated};
+ghost use Rattle.chanstate.specs.Members.{listed, listed_each};
+
+use crate::edit::Edit;
+use crate::member::Member;
+use crate::seats::{Seats, edit_at, place_of, seat_last};
+use crate::words::named_member;
+use bytetext::NoMemory;
+use rfccase::fold_text;
+use std::alloc::Global;
+
+// Those whom these words name, each with its key, in the words' order.
+pub(crate) fn named_by(alloc: Global, words: &[&[u8]]) -> Result<Vec<(Vec<u8>, Member)>, NoMemory>
+    ensures keyed { IfOk result (λ ones. AreUnder ones.items) }
+    ensures named { IfOk result (λ ones. values_of ones.items ≡ filter_map (λ word. named word.now) words.now) }
+{
+    let mut ones = Vec::new(alloc);
+    for word in words {
+        push_some(&mut ones, alloc, named_member(alloc, word)?)?;
+    }
+    Ok(ones)
+}
+
+// One more with its key, if there is one.
+fn push_some(
+    ones: &mut Vec<(Vec<u8>, Member)>,
+    alloc: Global,
+    one: Option<Member>,
+) -> Result<(), NoMemory>
+    requires { AreUnder ones.old.items }
+    ensures keyed { OnOk result (AreUnder ones.new.items) }
+    ensures pushed { OnOk result (values_of ones.new.items ≡ values_of ones.old.items ++ option_to_list one) }
+{
+    if let Some(member) = one {
+        let key = fold_text(alloc, member.nick.as_bytes())?;
+        ones.push((key, member))?;
+    }
+    Ok(())
+}
+
+// Someone is listed. There is room for one more.
+fn list(seats: &mut Seats, key: Vec<u8>, one: Member)
+    requires indexed { AreIndexed seats.old.places.items seats.old.index.entries }
+    requires key { IsUnder key one }
+    requires place { vec_len seats.old.places < vec_capacity seats.old.places }
+    requires entry { 0 < spare seats.old.index }
+    ensures indexed { AreIndexed seats.new.places.items seats.new.index.entries }
+    ensures listed { seated seats.new.places.items ≡ listed one (seated seats.old.places.items) }
+    ensures len { vec_len seats.new.places ≤ vec_len seats.old.places + 1 }
+    ensures capacity { vec_capacity seats.new.places ≡ vec_capacity seats.old.places }
+    ensures entries { spare seats.old.index ≤ spare seats.new.index + 1 }
+{
+    match place_of(seats, one.nick.as_bytes()) {
+        Some(at) => edit_at(seats, at, Edit::Listed(one)),
+        None => seat_last(seats, key, one),
+    }
+}
+
+// Several are listed, in their order. There is room for each.
+pub(crate) fn list_each(seats: &mut Seats, ones: Vec<(Vec<u8>, Member)>)
+    requires indexed { AreIndexed seats.old.places.items seats.old.index.entries }
+    requires keys { AreUnder ones.items }
+    requires places { vec_len seats.old.places + length ones.items ≤ vec_capacity seats.old.places }
+    requires entries { length ones.items ≤ spare seats.old.index }
+    ensures indexed { AreIndexed seats.new.places.items seats.new.index.entries }
+    ensures listed { seated seats.new.places.items ≡ listed_each (values_of ones.items) (seated seats.old.places.items) }
+{
+    for (key, one) in ones {
+        list(seats, key, one);
+    }
+}

@@ -1,6 +1,0 @@
-use Rattle.std.proofs.Common.{◌≡◌, ◌-◌, ◌++◌}
-use Rattle.replay.specs.Text.{sent_lines}
-use Rattle.replay.proofs.outcomes.put_all_sent.Given as goal
-
-abbrev pub invariant-loop-number : goal.invariant-loop-number
-invariant-loop-number l = l.out.items ++ sent_lines l.world.packets l.number (l.behind - l.number) ≡ l.fn.out.items ++ sent_lines l.world.packets l.first l.count
