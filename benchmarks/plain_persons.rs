@@ -4,8 +4,6 @@
 //! Of all hostmasks that match, the one with most literals decides, then the earlier user, then the earlier mask. In a
 //! hostmask `?` is one byte, `*` any bytes, a backslash takes the meaning of one of `? * % ~ \` away, and every other
 //! byte, `%` and `~` too, is a literal in either case, by casemapping (RFC 2812 section 2.2).
-//!
-//! The match is written twice: as the rules read, by trying each cut, and as a loop that goes back to the last star.
 
 use std::time::Instant;
 
@@ -17,8 +15,6 @@ struct User {
     handle: Vec<u8>,
     masks: Vec<Vec<u8>>,
 }
-
-type Match = fn(&[u8], &[u8]) -> bool;
 
 fn fold(byte: u8) -> u8 {
     match byte {
@@ -50,24 +46,8 @@ fn first_item(mask: &[u8]) -> Option<(Item, usize)> {
     })
 }
 
-/// Whether a mask matches all of a text: each cut is tried.
-fn matches_by_cuts(mask: &[u8], text: &[u8]) -> bool {
-    let Some((item, len)) = first_item(mask) else {
-        return text.is_empty();
-    };
-    let rest = &mask[len..];
-    match item {
-        Item::Literal(byte) => {
-            text.first().is_some_and(|first| fold(*first) == fold(byte))
-                && matches_by_cuts(rest, &text[1..])
-        }
-        Item::AnyByte => !text.is_empty() && matches_by_cuts(rest, &text[1..]),
-        Item::AnyText => (0..=text.len()).any(|cut| matches_by_cuts(rest, &text[cut..])),
-    }
-}
-
-/// The same, by a loop that lets the last star take one byte more where the rest does not match.
-fn matches_by_stars(mask: &[u8], text: &[u8]) -> bool {
+/// Whether a mask matches all of a text: a loop lets the last star take one byte more where the rest does not match.
+fn matches(mask: &[u8], text: &[u8]) -> bool {
     let (mut at_mask, mut at_text) = (0, 0);
     let mut star = None;
     loop {
@@ -114,7 +94,7 @@ fn literals(mut mask: &[u8]) -> usize {
 }
 
 /// The handle of who a person is, `*` where no mask matches.
-fn handle_of<'a>(users: &'a [User], who: &[u8], matches: Match) -> &'a [u8] {
+fn handle_of<'a>(users: &'a [User], who: &[u8]) -> &'a [u8] {
     let mut best: Option<(usize, &User)> = None;
     for user in users {
         for mask in &user.masks {
@@ -129,42 +109,74 @@ fn handle_of<'a>(users: &'a [User], who: &[u8], matches: Match) -> &'a [u8] {
     best.map_or(b"*", |(_, user)| &user.handle)
 }
 
-fn users() -> Vec<User> {
+/// A shape of hostmasks: its name, the mask of a user's place, and a person whom it matches.
+struct Shape {
+    name: &'static str,
+    mask: fn(u32, u32) -> String,
+    person: fn(u32, u32) -> String,
+}
+
+const SHAPES: [Shape; 5] = [
+    Shape {
+        name: "user",
+        mask: |user, host| format!("*!*user{user}@*.h{host}.example.net"),
+        person: |user, host| format!("bob!~user{user}@client.h{host}.example.net"),
+    },
+    Shape {
+        name: "nick",
+        mask: |user, host| format!("nick{user}x{host}!*@host{user}.example.net"),
+        person: |user, host| format!("nick{user}x{host}!bob@host{user}.example.net"),
+    },
+    Shape {
+        name: "address",
+        mask: |user, host| format!("*!*@10.0.{user}.{host}"),
+        person: |user, host| format!("bob!~bob@10.0.{user}.{host}"),
+    },
+    Shape {
+        name: "ending",
+        mask: |user, host| format!("nick{user}x{host}!*@*"),
+        person: |user, host| format!("nick{user}x{host}!bob@client.example.net"),
+    },
+    Shape {
+        name: "range",
+        mask: |user, host| format!("*!*@10.{user}.{host}.*"),
+        person: |user, host| format!("bob!~bob@10.{user}.{host}.77"),
+    },
+];
+
+fn users(shape: &Shape) -> Vec<User> {
     (0..USERS)
         .map(|user| User {
             handle: format!("user{user}").into_bytes(),
             masks: (0..MASKS)
-                .map(|host| format!("*!u{user}h{host}@host{user}-{host}.example.net").into_bytes())
+                .map(|host| (shape.mask)(user, host).into_bytes())
                 .collect(),
         })
         .collect()
 }
 
-fn look_up(name: &str, users: &[User], persons: &[Vec<u8>], matches: Match) {
+fn look_up(name: &str, users: &[User], shape: &Shape, user: u32) {
+    let persons: Vec<Vec<u8>> = (0..PERSONS)
+        .map(|number| (shape.person)(user, number % MASKS).into_bytes())
+        .collect();
     let start = Instant::now();
     let found = persons
         .iter()
-        .filter(|who| handle_of(users, who, matches) != b"*")
+        .filter(|who| handle_of(users, who) != b"*")
         .count();
     let spent = start.elapsed();
     let (calls, millis) = (persons.len(), spent.as_millis());
     let each = spent.as_secs_f64() * 1e6 / calls as f64;
-    eprintln!("persons  {name:<20} {calls:>8} {millis:>8} {each:>12.3}");
+    let row = format!("{}:{name}", shape.name);
+    eprintln!("persons  {row:<20} {calls:>8} {millis:>8} {each:>12.3}");
     eprintln!("# persons with a handle: {found}");
 }
 
 fn main() {
-    let users = users();
-    let strangers: Vec<Vec<u8>> = (0..PERSONS)
-        .map(|n| format!("stranger{n}!visitor{n}@client{n}.example.org").into_bytes())
-        .collect();
-    let last = USERS - 1;
-    let known: Vec<Vec<u8>> = (0..PERSONS)
-        .map(|n| (n, n % MASKS))
-        .map(|(n, host)| format!("nick{n}!u{last}h{host}@host{last}-{host}.example.net").into_bytes())
-        .collect();
-    look_up("nobody", &users, &strangers, matches_by_cuts);
-    look_up("last-user", &users, &known, matches_by_cuts);
-    look_up("nobody:star-loop", &users, &strangers, matches_by_stars);
-    look_up("last-user:star-loop", &users, &known, matches_by_stars);
+    for shape in &SHAPES {
+        let users = users(shape);
+        look_up("nobody", &users, shape, USERS);
+        look_up("first", &users, shape, 0);
+        look_up("last", &users, shape, USERS - 1);
+    }
 }

@@ -1,17 +1,19 @@
 // What the lines about channels cost.
 
-use crate::crowd::{Crowd, Deed, PLACES, arrival, deeds, quits};
-use crate::report;
+use crate::crowd::{Crowd, DEEDS, PLACES, arrival, deeds, quits};
 use crate::sizes::Sizes;
 use crate::stop::Stop;
 use crate::tally::Tally;
+use crate::{netsplit, report};
 use chanstate::ChanState;
 use std::time::Clock;
 
-/// Times lines on channels whose people are all different, and on channels that all have the same people.
+/// Times lines on channels whose people are all different, on channels that all have the same people, and those of a
+/// netsplit.
 pub fn measure<R: AllocGlobal + Clock + Eprint>(rt: &R, sizes: &Sizes) -> Result<(), Stop> {
     crowded(rt, Crowd::Apart, sizes)?;
-    crowded(rt, Crowd::Shared, sizes)
+    crowded(rt, Crowd::Shared, sizes)?;
+    netsplit::measure(rt, sizes)
 }
 
 fn crowded<R: AllocGlobal + Clock + Eprint>(
@@ -48,15 +50,6 @@ fn arrive<R: AllocGlobal + Clock + Eprint>(
     Ok(())
 }
 
-// What was applied, by kind.
-#[derive(Clone, Copy)]
-struct Tallies {
-    join: Tally,
-    mode: Tally,
-    nick: Tally,
-    part: Tally,
-}
-
 // Guests join and leave, and people become operators and take other nicks.
 fn mix<R: AllocGlobal + Clock + Eprint>(
     rt: &R,
@@ -64,12 +57,7 @@ fn mix<R: AllocGlobal + Clock + Eprint>(
     crowd: Crowd,
     sizes: &Sizes,
 ) -> Result<(), Stop> {
-    let mut tallies = Tallies {
-        join: Tally::new(),
-        mode: Tally::new(),
-        nick: Tally::new(),
-        part: Tally::new(),
-    };
+    let mut tallies = [Tally::new(); 4];
     for number in 0..sizes.rounds {
         round(rt, state, crowd, sizes.channels, number, &mut tallies)?;
     }
@@ -77,31 +65,29 @@ fn mix<R: AllocGlobal + Clock + Eprint>(
     Ok(())
 }
 
+// One deed of each kind for each channel.
 fn round<R: AllocGlobal + Clock>(
     rt: &R,
     state: &mut ChanState,
     crowd: Crowd,
     channels: u32,
     number: u32,
-    tallies: &mut Tallies,
+    tallies: &mut [Tally; 4],
 ) -> Result<(), Stop> {
-    let joins = deeds(rt.alloc(), crowd, Deed::Join, channels, number)?;
-    tallies.join.take(rt, state, joins.as_slice())?;
-    let modes = deeds(rt.alloc(), crowd, Deed::Mode, channels, number)?;
-    tallies.mode.take(rt, state, modes.as_slice())?;
-    let nicks = deeds(rt.alloc(), crowd, Deed::Nick, channels, number)?;
-    tallies.nick.take(rt, state, nicks.as_slice())?;
-    let parts = deeds(rt.alloc(), crowd, Deed::Part, channels, number)?;
-    tallies.part.take(rt, state, parts.as_slice())
+    for (deed, tally) in DEEDS.iter().zip(tallies.iter_mut()) {
+        let lines = deeds(rt.alloc(), crowd, *deed, channels, number)?;
+        tally.take(rt, state, lines.as_slice())?;
+    }
+    Ok(())
 }
 
-fn tell<R: Eprint>(rt: &R, crowd: Crowd, tallies: &Tallies) {
-    let (join, mode, nick, part) = (tallies.join, tallies.mode, tallies.nick, tallies.part);
-    join.tell(rt, crowd.name(), "join", "join+read");
-    mode.tell(rt, crowd.name(), "mode", "mode+read");
-    nick.tell(rt, crowd.name(), "nick", "nick+read");
-    part.tell(rt, crowd.name(), "part", "part+read");
-    let all = join.with(&mode).with(&nick).with(&part);
+fn tell<R: Eprint>(rt: &R, crowd: Crowd, tallies: &[Tally; 4]) {
+    let mut all = Tally::new();
+    for (deed, tally) in DEEDS.iter().zip(tallies.iter()) {
+        let (apply, both) = deed.names();
+        tally.tell(rt, crowd.name(), apply, both);
+        all = all.with(tally);
+    }
     all.tell(rt, crowd.name(), "mixed", "mixed+read");
 }
 

@@ -42,6 +42,21 @@ pub enum Deed {
     Part,
 }
 
+/// What happens on each channel in a round, in this order.
+pub const DEEDS: [Deed; 4] = [Deed::Join, Deed::Mode, Deed::Nick, Deed::Part];
+
+impl Deed {
+    /// The words under which the times of applying, and of reading and applying, are printed.
+    pub fn names(self) -> (&'static str, &'static str) {
+        match self {
+            Deed::Join => ("join", "join+read"),
+            Deed::Mode => ("mode", "mode+read"),
+            Deed::Nick => ("nick", "nick+read"),
+            Deed::Part => ("part", "part+read"),
+        }
+    }
+}
+
 // The nick of a person by place, after so many new nicks.
 fn nick(
     alloc: Global,

@@ -2,8 +2,9 @@
 //!
 //! | word | what is timed |
 //! |---|---|
-//! | `persons` | who a person is, in a userfile of 500 users with 16 hostmasks each |
-//! | `channels` | 100,000 lines for a bot on 200 channels of 1,000 people, and 1,000 people who quit |
+//! | `persons` | who a person is, in userfiles of 500 users with 16 hostmasks each, of five shapes |
+//! | `masks` | masks on a text each, 100,000 times |
+//! | `channels` | 100,000 lines for a bot on 200 channels of 1,000 people, 1,000 who quit; 8,000 who quit and come back |
 //! | `timers` | 200 timers over ten minutes, and 500 cron masks over a day |
 //! | `lines` | a stream of about 10 MB, to its lines |
 //! | `all` | each of these |
@@ -19,6 +20,8 @@
 mod channels;
 mod crowd;
 mod lines;
+mod masks;
+mod netsplit;
 mod persons;
 mod report;
 mod sizes;
@@ -46,27 +49,53 @@ fn main(rt: HostRuntime) -> ExitCode {
 // Times what the command line asks for.
 fn measured<R: AllocGlobal + Clock + Eprint + Env>(rt: &R) -> Result<(), Stop> {
     match env::args(rt)?.nth(1) {
-        Some(word) => part(rt, word.as_bytes()),
+        Some(word) => timed(rt, word.as_bytes()),
         None => all(rt, &SMALL),
     }
 }
 
+// What is timed.
+#[derive(Clone, Copy)]
+enum Part {
+    Persons,
+    Masks,
+    Channels,
+    Timers,
+    Lines,
+    All,
+    Small,
+}
+
+const PARTS: [(&[u8], Part); 7] = [
+    (b"persons", Part::Persons),
+    (b"masks", Part::Masks),
+    (b"channels", Part::Channels),
+    (b"timers", Part::Timers),
+    (b"lines", Part::Lines),
+    (b"all", Part::All),
+    (b"small", Part::Small),
+];
+
 // Times what the word stands for.
-fn part<R: AllocGlobal + Clock + Eprint>(rt: &R, word: &[u8]) -> Result<(), Stop> {
-    match word {
-        b"persons" => persons::measure(rt, &FULL),
-        b"channels" => channels::measure(rt, &FULL),
-        b"timers" => timers::measure(rt),
-        b"lines" => lines::measure(rt, &FULL),
-        b"all" => all(rt, &FULL),
-        b"small" => all(rt, &SMALL),
-        _ => Err(Stop::Unknown),
+fn timed<R: AllocGlobal + Clock + Eprint>(rt: &R, word: &[u8]) -> Result<(), Stop> {
+    let Some((_, part)) = PARTS.iter().find(|(name, _)| *name == word) else {
+        return Err(Stop::Unknown);
+    };
+    match *part {
+        Part::Persons => persons::measure(rt, &FULL),
+        Part::Masks => masks::measure(rt, &FULL),
+        Part::Channels => channels::measure(rt, &FULL),
+        Part::Timers => timers::measure(rt),
+        Part::Lines => lines::measure(rt, &FULL),
+        Part::All => all(rt, &FULL),
+        Part::Small => all(rt, &SMALL),
     }
 }
 
 // Times everything.
 fn all<R: AllocGlobal + Clock + Eprint>(rt: &R, sizes: &Sizes) -> Result<(), Stop> {
     persons::measure(rt, sizes)?;
+    masks::measure(rt, sizes)?;
     channels::measure(rt, sizes)?;
     timers::measure(rt)?;
     lines::measure(rt, sizes)

@@ -4,6 +4,7 @@ use crate::report;
 use crate::sizes::Sizes;
 use crate::stop::Stop;
 use bytetext::{NoMemory, Text};
+use itoa::Buffer;
 use std::alloc::Global;
 use std::time::{Clock, Instant};
 use userfile::{Change, Userfile};
@@ -11,77 +12,155 @@ use userfile::{Change, Userfile};
 /// The hostmasks of each user.
 const MASKS: u32 = 16;
 
-/// Times `handle_of` for persons whom no mask matches, and for those whom a mask of the last user matches.
+// What the hostmasks of all users look like, where `<` stands for the user's number and `>` for the mask's; a person whom
+// such a mask matches; and the words under which times are printed: of adding a mask, and of looking up nobody, the first
+// and the last user.
+struct Shape {
+    mask: &'static [u8],
+    person: &'static [u8],
+    names: [&'static str; 4],
+}
+
+const SHAPES: [Shape; 5] = [
+    Shape {
+        mask: b"*!*user<@*.h>.example.net",
+        person: b"bob!~user<@client.h>.example.net",
+        names: ["user:add", "user:nobody", "user:first", "user:last"],
+    },
+    Shape {
+        mask: b"nick<x>!*@host<.example.net",
+        person: b"nick<x>!bob@host<.example.net",
+        names: ["nick:add", "nick:nobody", "nick:first", "nick:last"],
+    },
+    Shape {
+        mask: b"*!*@10.0.<.>",
+        person: b"bob!~bob@10.0.<.>",
+        names: [
+            "address:add",
+            "address:nobody",
+            "address:first",
+            "address:last",
+        ],
+    },
+    Shape {
+        mask: b"nick<x>!*@*",
+        person: b"nick<x>!bob@client.example.net",
+        names: ["ending:add", "ending:nobody", "ending:first", "ending:last"],
+    },
+    Shape {
+        mask: b"*!*@10.<.>.*",
+        person: b"bob!~bob@10.<.>.77",
+        names: ["range:add", "range:nobody", "range:first", "range:last"],
+    },
+];
+
+/// Times `handle_of` for persons whom no mask matches, and for those whom a mask of the first or the last user matches;
+/// and how long it takes to add all users with their masks.
 pub fn measure<R: AllocGlobal + Clock + Eprint>(rt: &R, sizes: &Sizes) -> Result<(), Stop> {
-    let userfile = filled(rt.alloc(), sizes.users)?;
-    let strangers = strangers(rt.alloc(), sizes.persons)?;
-    look_up(rt, "nobody", &userfile, strangers.as_slice())?;
-    let known = known(rt.alloc(), sizes.persons, sizes.users.saturating_sub(1))?;
-    look_up(rt, "last-user", &userfile, known.as_slice())
-}
-
-// The userfile of so many users.
-fn filled(alloc: Global, users: u32) -> Result<Userfile, Stop> {
-    let mut userfile = Userfile::new(alloc);
-    for user in 0..users {
-        add_user(&mut userfile, alloc, user)?;
-    }
-    Ok(userfile)
-}
-
-// Adds a user with all hostmasks.
-fn add_user(userfile: &mut Userfile, alloc: Global, user: u32) -> Result<(), Stop> {
-    let handle = handle(alloc, user)?;
-    userfile.apply(alloc, &Change::AddUser { handle })?;
-    for host in 0..MASKS {
-        userfile.apply(alloc, &new_mask(alloc, user, host)?)?;
+    for shape in &SHAPES {
+        measure_shape(rt, sizes, shape)?;
     }
     Ok(())
 }
 
-// A change that gives a user a hostmask, as `*!u17h3@host17-3.example.net`.
-fn new_mask(alloc: Global, user: u32, host: u32) -> Result<Change, NoMemory> {
-    let mask = format!(in alloc; "*!u{user}h{host}@host{user}-{host}.example.net")?;
-    Ok(Change::AddHost {
-        handle: handle(alloc, user)?,
-        mask: Text::new(mask.into_bytes()),
-    })
+fn measure_shape<R: AllocGlobal + Clock + Eprint>(
+    rt: &R,
+    sizes: &Sizes,
+    shape: &Shape,
+) -> Result<(), Stop> {
+    let mut userfile = Userfile::new(rt.alloc());
+    let [add, nobody, first, last] = shape.names;
+    fill(rt, add, &mut userfile, sizes, shape)?;
+    look_up(rt, nobody, &userfile, sizes, shape, sizes.users)?;
+    look_up(rt, first, &userfile, sizes, shape, 0)?;
+    look_up(
+        rt,
+        last,
+        &userfile,
+        sizes,
+        shape,
+        sizes.users.saturating_sub(1),
+    )
+}
+
+// Adds the users, and tells how long a hostmask takes.
+fn fill<R: AllocGlobal + Clock + Eprint>(
+    rt: &R,
+    name: &str,
+    userfile: &mut Userfile,
+    sizes: &Sizes,
+    shape: &Shape,
+) -> Result<(), Stop> {
+    let start = Instant::now(rt)?;
+    for user in 0..sizes.users {
+        add_user(userfile, rt.alloc(), shape, user)?;
+    }
+    let spent = start.elapsed(rt)?;
+    let masks = u64::from(sizes.users) * u64::from(MASKS);
+    report::each(rt, "persons", name, masks, spent);
+    Ok(())
+}
+
+// Adds a user with all hostmasks.
+fn add_user(userfile: &mut Userfile, alloc: Global, shape: &Shape, user: u32) -> Result<(), Stop> {
+    let handle = handle(alloc, user)?;
+    userfile.apply(alloc, &Change::AddUser { handle })?;
+    for host in 0..MASKS {
+        userfile.apply(alloc, &new_mask(alloc, shape, user, host)?)?;
+    }
+    Ok(())
+}
+
+// A change that gives a user a hostmask.
+fn new_mask(alloc: Global, shape: &Shape, user: u32, host: u32) -> Result<Change, NoMemory> {
+    let handle = handle(alloc, user)?;
+    let mask = filled(alloc, shape.mask, user, host)?;
+    Ok(Change::AddHost { handle, mask })
 }
 
 fn handle(alloc: Global, user: u32) -> Result<Text, NoMemory> {
-    let handle = format!(in alloc; "user{user}")?;
-    Ok(Text::new(handle.into_bytes()))
+    filled(alloc, b"user<", user, 0)
 }
 
-// Persons whom no mask matches.
-fn strangers(alloc: Global, persons: u32) -> Result<Vec<Text>, NoMemory> {
-    let mut strangers = Vec::new(alloc);
-    for n in 0..persons {
-        let who = format!(in alloc; "stranger{n}!visitor{n}@client{n}.example.org")?;
-        strangers.push(Text::new(who.into_bytes()))?;
+// A text with these numbers in their places.
+fn filled(alloc: Global, text: &[u8], user: u32, host: u32) -> Result<Text, NoMemory> {
+    let mut filled = Vec::new(alloc);
+    for byte in text {
+        match *byte {
+            b'<' => put(&mut filled, user)?,
+            b'>' => put(&mut filled, host)?,
+            other => filled.push(other)?,
+        }
     }
-    Ok(strangers)
+    Ok(Text::new(filled))
 }
 
-// Persons whom a mask of this user matches.
-fn known(alloc: Global, persons: u32, user: u32) -> Result<Vec<Text>, NoMemory> {
-    let mut known = Vec::new(alloc);
-    for n in 0..persons {
-        let host = n % MASKS;
-        let who = format!(in alloc; "nick{n}!u{user}h{host}@host{user}-{host}.example.net")?;
-        known.push(Text::new(who.into_bytes()))?;
+fn put(text: &mut Vec<u8>, number: u32) -> Result<(), NoMemory> {
+    let mut buffer = Buffer::new();
+    text.extend_from_slice(buffer.format(number).as_bytes())?;
+    Ok(())
+}
+
+// Persons whom the masks of this user match, by turns.
+fn persons(alloc: Global, shape: &Shape, user: u32, count: u32) -> Result<Vec<Text>, NoMemory> {
+    let mut persons = Vec::new(alloc);
+    for number in 0..count {
+        persons.push(filled(alloc, shape.person, user, number % MASKS)?)?;
     }
-    Ok(known)
+    Ok(persons)
 }
 
-fn look_up<R: Clock + Eprint>(
+fn look_up<R: AllocGlobal + Clock + Eprint>(
     rt: &R,
     name: &str,
     userfile: &Userfile,
-    persons: &[Text],
+    sizes: &Sizes,
+    shape: &Shape,
+    user: u32,
 ) -> Result<(), Stop> {
+    let persons = persons(rt.alloc(), shape, user, sizes.persons)?;
     let start = Instant::now(rt)?;
-    let found = found(userfile, persons);
+    let found = found(userfile, persons.as_slice());
     let spent = start.elapsed(rt)?;
     report::each(rt, "persons", name, persons.len() as u64, spent);
     report::outcome(rt, "persons with a handle", found);
@@ -90,11 +169,8 @@ fn look_up<R: Clock + Eprint>(
 
 // How many of the persons have a handle.
 fn found(userfile: &Userfile, persons: &[Text]) -> u64 {
-    let mut found: u64 = 0;
-    for who in persons {
-        if userfile.handle_of(who.as_bytes()) != b"*".as_slice() {
-            found = found.saturating_add(1);
-        }
-    }
-    found
+    persons
+        .iter()
+        .filter(|who| userfile.handle_of(who.as_bytes()) != b"*".as_slice())
+        .count() as u64
 }

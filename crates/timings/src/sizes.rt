@@ -7,10 +7,14 @@ pub struct Sizes {
     pub users: u32,
     /// How many persons are looked up.
     pub persons: u32,
+    /// How often each mask is tried.
+    pub matches: u32,
     /// The channels that the bot is on, a multiple of 4. Each has five times as many people.
     pub channels: u32,
     /// How often each kind of line comes once for each channel.
     pub rounds: u32,
+    /// How many people quit at once and come back.
+    pub split: u32,
     /// How many times five lines the stream has, of about 300 bytes.
     pub fives: u32,
 }
@@ -19,8 +23,10 @@ pub struct Sizes {
 pub const FULL: Sizes = Sizes {
     users: 500,
     persons: 1_000,
+    matches: 100_000,
     channels: 200,
     rounds: 125,
+    split: 8_000,
     fives: 30_000,
 };
 
@@ -28,7 +34,9 @@ pub const FULL: Sizes = Sizes {
 pub const SMALL: Sizes = Sizes {
     users: 20,
     persons: 50,
+    matches: 100,
     channels: 8,
     rounds: 4,
+    split: 100,
     fives: 200,
 };

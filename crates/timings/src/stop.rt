@@ -1,17 +1,16 @@
 // Why a measurement ended early.
 
-use bottimers::{ClockError, ClockFault, CronFault};
-use bytetext::NoMemory;
+use bottimers::{ClockFault, CronFault};
+use bytetext::{Failure, NoMemory};
 use std::alloc::{AllocError, AllocFailed};
 use std::io;
 use thiserror::Error;
-use userfile::ApplyError;
 
 /// Why a measurement ended early.
 #[derive(Clone, Copy, Debug, Error)]
 pub enum Stop {
     /// The word on the command line names no measurement.
-    #[error("say persons, channels, timers, lines, all or small")]
+    #[error("say persons, masks, channels, timers, lines, all or small")]
     Unknown,
     /// A library refused what it was given.
     #[error("a library refused what it was given")]
@@ -60,20 +59,11 @@ impl From<io::Error> for Stop {
     }
 }
 
-impl From<ApplyError> for Stop {
-    fn from(error: ApplyError) -> Stop {
-        match error {
-            ApplyError::Refused(_) => Stop::Refused,
-            ApplyError::NoMemory => Stop::NoMemory,
-        }
-    }
-}
-
-impl From<ClockError> for Stop {
-    fn from(error: ClockError) -> Stop {
-        match error {
-            ClockError::Refused(_) => Stop::Refused,
-            ClockError::NoMemory => Stop::NoMemory,
+impl<F: Drop> From<Failure<F>> for Stop {
+    fn from(failure: Failure<F>) -> Stop {
+        match failure {
+            Failure::Refused(_) => Stop::Refused,
+            Failure::NoMemory => Stop::NoMemory,
         }
     }
 }

@@ -5,7 +5,7 @@ ghost use Rattle.bottimers.specs.Held.{IsAbove, IsNotBelow};
 use crate::report;
 use crate::stop::Stop;
 use bottimers::{CivilMinute, Cron, TimerKind, Timers, civil};
-use bytetext::NoMemory;
+use bytetext::{NoMemory, Text};
 use std::alloc::Global;
 use std::time::{Clock, Instant};
 
@@ -59,7 +59,8 @@ fn add(alloc: Global, timers: &mut Timers, number: u32) -> Result<(), Stop>
     } else {
         (TimerKind::Seconds, 10 + number % 50)
     };
-    timers.add(alloc, kind, interval, 0, b"tick", Some(0))?;
+    let proc = Text::from_slice(alloc, b"tick")?;
+    timers.add(kind, interval, 0, proc, Some(0))?;
     Ok(())
 }
 

@@ -1,47 +1,86 @@
 // What a bot knows of its channels by the lines that it has read.
-use crate::shown;
+use crate::sink::Sink;
+use crate::stop::{BAD_WORDS, CaseError};
 use bytetext::{NoMemory, Text};
 use chanstate::{ChanState, Member};
-use ircline::Line;
+use ircline::{Fault, Line};
 use std::alloc::Global;
+
+// What is asked of the state.
+#[derive(Clone, Copy)]
+enum Question {
+    Channels,
+    Holds,
+    Members,
+    Nick,
+    Op,
+    Topic,
+}
+
+const QUESTIONS: [(&[u8], Question); 6] = [
+    (b"channels", Question::Channels),
+    (b"holds", Question::Holds),
+    (b"members", Question::Members),
+    (b"nick", Question::Nick),
+    (b"op", Question::Op),
+    (b"topic", Question::Topic),
+];
 
 /// `chan NICK LINE.. QUESTION NAME..`: the answer to the question after the lines, or the code of the first of them
 /// that is no message. The bot has connected under the nick.
-pub fn chan(alloc: Global, words: &[Text], out: &mut Vec<u8>) -> Result<(), NoMemory> {
+pub fn chan(alloc: Global, words: &[Text], out: &mut Sink) -> Result<(), CaseError> {
     let [nick, words @ ..] = words else {
-        return shown::put(b"write: chan NICK LINE.. QUESTION NAME..", out);
+        return Err(BAD_WORDS);
     };
-    let Some(at) = words.iter().position(|word| is_question(word.as_bytes())) else {
-        return shown::put(b"write: chan NICK LINE.. QUESTION NAME..", out);
-    };
-    match state(alloc, nick.as_bytes(), &words[..at])? {
-        Ok(state) => answer(alloc, &state, &words[at..], out),
-        Err(code) => shown::put(code.as_bytes(), out),
-    }
+    let mut state = ChanState::new(alloc, nick.as_bytes())?;
+    answer_after(alloc, &mut state, words, out)
 }
 
-/// The state of a bot that has connected under this nick and read these lines, or the code of the first of them that is
-/// no message.
-pub fn state(
+/// Reads these lines, up to the first that is no message, whose fault is answered.
+pub fn read_all(
     alloc: Global,
-    nick: &[u8],
+    state: &mut ChanState,
     lines: &[Text],
-) -> Result<Result<ChanState, &'static str>, NoMemory> {
-    let mut state = ChanState::new(alloc, nick)?;
+) -> Result<Option<Fault>, NoMemory> {
     for line in lines {
-        match ircline::read_line(alloc, line.as_bytes())? {
-            Line::Message(message) => state.apply(alloc, &message)?,
-            Line::Bad(fault) => return Ok(Err(fault.code())),
+        let fault = read(alloc, state, line.as_bytes())?;
+        if fault.is_some() {
+            return Ok(fault);
         }
     }
-    Ok(Ok(state))
+    Ok(None)
 }
 
-fn is_question(word: &[u8]) -> bool {
-    matches!(
-        word,
-        b"members" | b"topic" | b"op" | b"channels" | b"nick" | b"holds"
-    )
+fn read(alloc: Global, state: &mut ChanState, line: &[u8]) -> Result<Option<Fault>, NoMemory> {
+    match ircline::read_line(alloc, line)? {
+        Line::Message(message) => match state.apply(alloc, &message) {
+            Ok(()) => Ok(None),
+            Err(refused) => Err(refused),
+        },
+        Line::Bad(fault) => Ok(Some(fault)),
+    }
+}
+
+fn question_of(word: &Text) -> Option<Question> {
+    let (_, question) = QUESTIONS.iter().find(|(name, _)| word.is_same(name))?;
+    Some(*question)
+}
+
+// The answer to the question that stands after the lines.
+fn answer_after(
+    alloc: Global,
+    state: &mut ChanState,
+    words: &[Text],
+    out: &mut Sink,
+) -> Result<(), CaseError> {
+    let Some(at) = words.iter().position(|word| question_of(word).is_some()) else {
+        return Err(BAD_WORDS);
+    };
+    match read_all(alloc, state, &words[..at])? {
+        Some(fault) => out.put(fault.code().as_bytes()),
+        None => answer(alloc, state, &words[at..], out)?,
+    }
+    Ok(())
 }
 
 // The answer to a question and its names.
@@ -49,115 +88,87 @@ fn answer(
     alloc: Global,
     state: &ChanState,
     words: &[Text],
-    out: &mut Vec<u8>,
-) -> Result<(), NoMemory> {
-    match words {
-        [asked] if asked.is_same(b"nick") => shown::put(state.own_nick(), out),
-        [asked, name] => answer_on(alloc, state, asked.as_bytes(), name.as_bytes(), out),
-        [asked, channel, nick] if asked.is_same(b"op") => {
-            op(state, channel.as_bytes(), nick.as_bytes(), out)
-        }
-        _ => shown::put(b"write: chan NICK LINE.. QUESTION NAME..", out),
+    out: &mut Sink,
+) -> Result<(), CaseError> {
+    let [question, names @ ..] = words else {
+        return Err(BAD_WORDS);
+    };
+    match (question_of(question), names) {
+        (Some(Question::Nick), []) => out.put(state.own_nick()),
+        (Some(Question::Op), [channel, nick]) => op(state, channel, nick, out),
+        (Some(Question::Topic), [channel]) => topic(state, channel, out),
+        (Some(Question::Holds), [channel]) => holds(state, channel, out),
+        (Some(Question::Members), [channel]) => return members(alloc, state, channel, out),
+        (Some(Question::Channels), [nick]) => return channels(alloc, state, nick, out),
+        (_, _) => return Err(BAD_WORDS),
+    }
+    Ok(())
+}
+
+fn holds(state: &ChanState, channel: &Text, out: &mut Sink) {
+    match state.holds(channel.as_bytes()) {
+        true => out.put(b"held"),
+        false => out.put(b"not held"),
     }
 }
 
-// The answer to a question of one name.
-fn answer_on(
-    alloc: Global,
-    state: &ChanState,
-    asked: &[u8],
-    name: &[u8],
-    out: &mut Vec<u8>,
-) -> Result<(), NoMemory> {
-    match asked {
-        b"members" => members(alloc, state, name, out),
-        b"channels" => channels(alloc, state, name, out),
-        b"topic" => topic(state, name, out),
-        b"holds" => holds(state, name, out),
-        _ => shown::put(b"write: chan NICK LINE.. QUESTION NAME..", out),
+fn op(state: &ChanState, channel: &Text, nick: &Text, out: &mut Sink) {
+    match state.is_op(channel.as_bytes(), nick.as_bytes()) {
+        true => out.put(b"op"),
+        false => out.put(b"no op"),
     }
 }
 
-fn holds(state: &ChanState, channel: &[u8], out: &mut Vec<u8>) -> Result<(), NoMemory> {
-    match state.holds(channel) {
-        true => shown::put(b"held", out),
-        false => shown::put(b"not held", out),
-    }
-}
-
-fn op(state: &ChanState, channel: &[u8], nick: &[u8], out: &mut Vec<u8>) -> Result<(), NoMemory> {
-    match state.is_op(channel, nick) {
-        true => shown::put(b"op", out),
-        false => shown::put(b"no op", out),
-    }
-}
-
-fn topic(state: &ChanState, channel: &[u8], out: &mut Vec<u8>) -> Result<(), NoMemory> {
-    match state.topic(channel) {
+fn topic(state: &ChanState, channel: &Text, out: &mut Sink) {
+    match state.topic(channel.as_bytes()) {
         Some(topic) => {
-            shown::put(b"topic", out)?;
-            shown::quoted(topic, out)
+            out.put(b"topic");
+            out.quoted(topic);
         }
-        None => shown::put(b"not held", out),
+        None => out.put(b"not held"),
     }
 }
 
 fn channels(
     alloc: Global,
     state: &ChanState,
-    nick: &[u8],
-    out: &mut Vec<u8>,
-) -> Result<(), NoMemory> {
-    let names = state.channels_of(alloc, nick)?;
-    if names.as_slice().is_empty() {
-        return shown::put(b"none", out);
-    }
+    nick: &Text,
+    out: &mut Sink,
+) -> Result<(), CaseError> {
+    let names = state.channels_of(alloc, nick.as_bytes())?;
     for (i, name) in names.as_slice().iter().enumerate() {
-        shown::between(b" ", i, out)?;
-        shown::put(name.as_bytes(), out)?;
+        out.between(b" ", i);
+        out.put(name.as_bytes());
     }
+    out.put_if(names.is_empty(), b"none");
     Ok(())
 }
 
 fn members(
     alloc: Global,
     state: &ChanState,
-    channel: &[u8],
-    out: &mut Vec<u8>,
-) -> Result<(), NoMemory> {
-    let members = state.members(alloc, channel)?;
-    if members.as_slice().is_empty() {
-        return shown::put(b"nobody", out);
-    }
+    channel: &Text,
+    out: &mut Sink,
+) -> Result<(), CaseError> {
+    let members = state.members(alloc, channel.as_bytes())?;
     for (i, member) in members.as_slice().iter().enumerate() {
-        shown::between(b" ", i, out)?;
-        marks(member, out)?;
-        address(member, out)?;
+        out.between(b" ", i);
+        member_shown(member, out);
     }
+    out.put_if(members.as_slice().is_empty(), b"nobody");
     Ok(())
 }
 
-// The marks, then the nick.
-fn marks(member: &Member, out: &mut Vec<u8>) -> Result<(), NoMemory> {
-    if member.op {
-        shown::put(b"@", out)?;
+// The marks, then the nick, then `!user@host`, or nothing where both are empty.
+fn member_shown(member: &Member, out: &mut Sink) {
+    out.put_if(member.op, b"@");
+    out.put_if(member.half_op, b"%");
+    out.put_if(member.voice, b"+");
+    out.put(member.nick.as_bytes());
+    if !member.user.is_empty() || !member.host.is_empty() {
+        out.put(b"!");
+        out.put(member.user.as_bytes());
+        out.put(b"@");
+        out.put(member.host.as_bytes());
     }
-    if member.half_op {
-        shown::put(b"%", out)?;
-    }
-    if member.voice {
-        shown::put(b"+", out)?;
-    }
-    shown::put(member.nick.as_bytes(), out)
-}
-
-// `!user@host`, and nothing where both are empty.
-fn address(member: &Member, out: &mut Vec<u8>) -> Result<(), NoMemory> {
-    if member.user.is_empty() && member.host.is_empty() {
-        return Ok(());
-    }
-    shown::put(b"!", out)?;
-    shown::put(member.user.as_bytes(), out)?;
-    shown::put(b"@", out)?;
-    shown::put(member.host.as_bytes(), out)
 }

@@ -1,50 +1,56 @@
 // The events of a line.
-use crate::{channels, shown};
+use crate::channels;
+use crate::sink::Sink;
+use crate::stop::{BAD_WORDS, CaseError};
 use bytetext::{NoMemory, Text};
-use chanstate::{Event, Kind};
+use chanstate::{ChanState, Event, Kind};
 use ircline::Line;
 use std::alloc::Global;
 
 /// `events NICK LINE..`: the events of the last line against the state after the others, or the code of the first line
 /// that is no message. The bot has connected under the nick.
-pub fn events(alloc: Global, words: &[Text], out: &mut Vec<u8>) -> Result<(), NoMemory> {
+pub fn events(alloc: Global, words: &[Text], out: &mut Sink) -> Result<(), CaseError> {
     let [nick, before @ .., line] = words else {
-        return shown::put(b"write: events NICK LINE..", out);
+        return Err(BAD_WORDS);
     };
-    let state = match channels::state(alloc, nick.as_bytes(), before)? {
-        Ok(state) => state,
-        Err(code) => return shown::put(code.as_bytes(), out),
-    };
-    match ircline::read_line(alloc, line.as_bytes())? {
-        Line::Message(message) => { each_shown(&chanstate::events(alloc, &message, &state)?, out) }
-        Line::Bad(fault) => shown::put(fault.code().as_bytes(), out),
-    }
-}
-
-fn each_shown(events: &[Event], out: &mut Vec<u8>) -> Result<(), NoMemory> {
-    for (i, event) in events.iter().enumerate() {
-        shown::between(b" ; ", i, out)?;
-        event_shown(event, out)?;
+    let mut state = ChanState::new(alloc, nick.as_bytes())?;
+    match channels::read_all(alloc, &mut state, before)? {
+        Some(fault) => out.put(fault.code().as_bytes()),
+        None => last(alloc, &state, line.as_bytes(), out)?,
     }
     Ok(())
+}
+
+// The events of the last line.
+fn last(alloc: Global, state: &ChanState, line: &[u8], out: &mut Sink) -> Result<(), NoMemory> {
+    match ircline::read_line(alloc, line)? {
+        Line::Message(message) => match chanstate::events(alloc, &message, state) {
+            Ok(events) => each_shown(&events, out),
+            Err(refused) => return Err(refused),
+        },
+        Line::Bad(fault) => out.put(fault.code().as_bytes()),
+    }
+    Ok(())
+}
+
+fn each_shown(events: &[Event], out: &mut Sink) {
+    for (i, event) in events.iter().enumerate() {
+        out.between(b" ; ", i);
+        event_shown(event, out);
+    }
 }
 
 // KIND 'SUBJECT' CHANNEL 'ARGUMENT'..
-fn event_shown(event: &Event, out: &mut Vec<u8>) -> Result<(), NoMemory> {
-    shown::put(name_of(event.kind).as_bytes(), out)?;
-    shown::quoted(event.subject.as_bytes(), out)?;
-    channel_shown(event, out)?;
-    for argument in event.arguments.as_slice() {
-        shown::quoted(argument.as_bytes(), out)?;
-    }
-    Ok(())
-}
-
-fn channel_shown(event: &Event, out: &mut Vec<u8>) -> Result<(), NoMemory> {
-    shown::put(b" ", out)?;
+fn event_shown(event: &Event, out: &mut Sink) {
+    out.put(name_of(event.kind).as_bytes());
+    out.quoted(event.subject.as_bytes());
+    out.put(b" ");
     match &event.channel {
-        Some(channel) => shown::put(channel.as_bytes(), out),
-        None => shown::put(b"-", out),
+        Some(channel) => out.put(channel.as_bytes()),
+        None => out.put(b"-"),
+    }
+    for argument in event.arguments.as_slice() {
+        out.quoted(argument.as_bytes());
     }
 }
 

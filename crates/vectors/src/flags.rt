@@ -1,19 +1,20 @@
 // Flag expressions.
-use crate::shown;
-use bytetext::{NoMemory, Text};
+use crate::sink::Sink;
+use crate::stop::{BAD_WORDS, CaseError};
+use bytetext::Text;
 use flagexpr::{FlagExpr, FlagFault, Flags};
 
 /// `flags EXPR GLOBAL CHAN BOT`: whether these flags meet the expression, or the code of the first word that is refused.
-pub fn met(words: &[Text], out: &mut Vec<u8>) -> Result<(), NoMemory> {
+pub fn met(words: &[Text], out: &mut Sink) -> Result<(), CaseError> {
     let [expression, global, chan, bot] = words else {
-        return shown::put(b"write: flags EXPR GLOBAL CHAN BOT", out);
+        return Err(BAD_WORDS);
     };
-    let answer = match meets(expression, global, chan, bot) {
-        Ok(true) => "met",
-        Ok(false) => "not met",
-        Err(fault) => fault.code(),
-    };
-    shown::put(answer.as_bytes(), out)
+    match meets(expression, global, chan, bot) {
+        Ok(true) => out.put(b"met"),
+        Ok(false) => out.put(b"not met"),
+        Err(fault) => out.put(fault.code().as_bytes()),
+    }
+    Ok(())
 }
 
 fn meets(expression: &Text, global: &Text, chan: &Text, bot: &Text) -> Result<bool, FlagFault> {

@@ -11,6 +11,12 @@
 //! | `literals bind\|host MASK` | how many literals the mask has, or the code of what it is refused for |
 //! | `flags EXPR GLOBAL CHAN BOT` | `met` or `not met`, or the code of the first word that is refused |
 //! | `cron MASK MOMENT OFFSET` | `match` or `no match`, or the code of what is refused |
+//! | `civil MOMENT OFFSET` | the civil minute as `YEAR MONTH DAY HOUR MINUTE WEEKDAY`, 0 for Sunday, or the code |
+//! | `time MOMENT OFFSET` | its time text, or the code |
+//! | `timeargs MOMENT OFFSET`, `cronargs MOMENT OFFSET` | the arguments of a time or cron call, by commas, or the code |
+//! | `clock READING..` | for each reading the seconds that it runs, `none` or the code; for `last` the last second |
+//! | `timers STEP..` | what each step answers |
+//! | `queues STEP..` | what each step answers |
 //! | `line TEXT` | what the line reads as, or the code of its fault |
 //! | `stream PIECE..` | the lines of a stream in these pieces, with ` ; ` between them |
 //! | `print PREFIX COMMAND PARAM..` | the line, or the code of why there is none |
@@ -26,84 +32,102 @@
 //! | `chan NICK LINE.. nick` | the bot's own nick |
 //! | `events NICK LINE..` | the events of the last line, as `KIND 'SUBJECT' CHANNEL 'ARGUMENT'..`, with ` ; ` between |
 //!
-//! WHO is `nick!user@host`. A CHANGE is one word, and the changes make a userfile of the empty one, in order:
-//! `adduser:H`, `deluser:H`, `addhost:H:M`, `delhost:H:M`, `global:H:F`, `bot:H:F`, `chan:H:C:F`, `addban:C:E:M` and
-//! `delban:C:M` have a handle H, a hostmask M, flags F, a channel C (of a ban, `*` for all) and an expiry E in seconds.
-//! The answer is the code of the first change that is refused, if one is.
+//! WHO is `nick!user@host`. A CHANGE is one word that holds a change as a script asks for it, and the changes make a
+//! userfile of the empty one, in order. The answer is the code of the first change that is refused, if one is.
+//!
+//! The steps of `timers` are `timer LAST INTERVAL COUNT PROC` and `utimer LAST INTERVAL COUNT PROC`, which make a timer
+//! and answer its id or the code, where LAST is the clock's last second or `-` for none; `due SECOND`, which answers id
+//! and proc of each call or `none`; `kill ID`, which answers `killed` or the code; and `list`, which answers `KIND LEFT
+//! PROC ID REPEATS` of each timer or `none`. Seconds don't fall, and `due` wants a later one.
+//!
+//! The steps of `queues` are `put QUEUE COUNT LINE`, which puts a line so often and answers `ok` or the code of the first
+//! refusal; `take NOW` and `drain NOW`, which answer the lines that go or `none`; and `len QUEUE` and `clear QUEUE`, which
+//! answer a number. QUEUE is `mode`, `server` or `help`, for the last two `all` too. Each step is one word, and ` ; `
+//! stands between the answers.
 //!
 //! In `chan` and `events` the bot has connected under NICK and reads the LINEs in order; the answer is the code of the
 //! first that is no message, if one is. Before a member's nick stand `@` for op, `%` for half-op and `+` for voice;
 //! `!user@host` is left out where both are empty. An event that is on no channel has `-` in its place.
 //!
 //! Empty lines and lines that begin with `#` are no cases. A byte that is no printable ASCII is shown as `\x` and two
-//! hexadecimal digits. The crate's files `stdin` and `stdout` hold the cases and the answers, which were worked out by
-//! hand from the rules that each library states.
+//! hexadecimal digits. A line that is no case ends the program: it tells the line on standard error and ends with status
+//! 1, as for input above 1,048,576 bytes; with 3 where reading or writing fails; with 4 where memory runs out. Nothing
+//! stands on standard output then.
+//!
+//! The crate's files `stdin` and `stdout` hold the cases and the answers. They were worked out from the rules that each library
+//! states, by hand, and those of civil time by an independent calendar.
 #![tactic(auto)]
 
+mod case;
 mod casemapping;
 mod changes;
 mod channels;
+mod civil;
+mod clock;
 mod cron;
 mod events;
 mod flags;
 mod lines;
 mod masks;
 mod persons;
-mod shown;
+mod queues;
+mod sink;
+mod stop;
+mod timers;
 mod words;
 
-use bytetext::NoMemory;
-use std::alloc::{AllocError, Global};
+use crate::sink::Sink;
+use crate::stop::{CaseError, Stop};
+use std::alloc::Global;
 use std::io;
 use std::io::{Read, Write};
+use std::process::ExitCode;
 
-/// How much of standard input is read, in bytes.
-const MOST_INPUT: u64 = 1 << 20;
+/// How much of standard input is read at most, in bytes.
+const MAX_INPUT: usize = 1_048_576;
 
-fn main(rt: HostRuntime) -> io::Result<()> {
+fn main(rt: HostRuntime) -> ExitCode {
+    match run(&rt) {
+        Ok(()) => ExitCode::from(0),
+        Err(stop) => {
+            let _ = eprintln!(rt; "vectors: {stop}");
+            ExitCode::from(stop.status())
+        }
+    }
+}
+
+// Answers the cases of standard input.
+fn run<R: Input + Print + AllocGlobal>(rt: &R) -> Result<(), Stop> {
     let mut input = Vec::new(rt.alloc());
-    rt.reader().take(MOST_INPUT).read_to_end(&mut input)?;
-    let answers = answers_of(rt.alloc(), &input).map_err(|_| AllocError)?;
-    io::writer(&rt).write_all(&answers)
+    rt.reader()
+        .take(MAX_INPUT as u64 + 1)
+        .read_to_end(&mut input)?;
+    if input.len() > MAX_INPUT {
+        return Err(Stop::TooLong);
+    }
+    let answers = answers_of(rt.alloc(), &input)?;
+    io::writer(rt).write_all(&answers)?;
+    Ok(())
 }
 
 // The answers to the cases of a text, a line each.
-fn answers_of(alloc: Global, input: &[u8]) -> Result<Vec<u8>, NoMemory> {
-    let mut answers = Vec::new(alloc);
-    for line in input.split(|byte| *byte == b'\n') {
-        match line {
-            [] | [b'#', ..] => {}
-            _ => {
-                answer(alloc, line, &mut answers)?;
-                answers.push(b'\n')?;
-            }
+fn answers_of(alloc: Global, input: &[u8]) -> Result<Vec<u8>, Stop> {
+    let mut out = Sink::new(alloc);
+    for (i, line) in input.split(|byte| *byte == b'\n').enumerate() {
+        if let Err(error) = answer(alloc, line, &mut out) {
+            return Err(Stop::at(i.saturating_add(1), error));
         }
     }
-    Ok(answers)
+    Ok(out.into_bytes()?)
 }
 
-// Writes the answer to one case, without the line's end.
-fn answer(alloc: Global, line: &[u8], out: &mut Vec<u8>) -> Result<(), NoMemory> {
-    let words = words::words_of(alloc, line)?;
-    let Some((asked, words)) = words.as_slice().split_first() else {
+// Writes the answer to a line, where it is a case.
+fn answer(alloc: Global, line: &[u8], out: &mut Sink) -> Result<(), CaseError> {
+    if line.is_empty() || line.starts_with(b"#") {
         return Ok(());
-    };
-    match asked.as_bytes() {
-        b"fold" => casemapping::fold(alloc, words, out),
-        b"same" => casemapping::same(words, out),
-        b"mask" => masks::mask(alloc, words, out),
-        b"literals" => masks::literals(alloc, words, out),
-        b"flags" => flags::met(words, out),
-        b"cron" => cron::cron(words, out),
-        b"line" => lines::line(alloc, words, out),
-        b"stream" => lines::stream(alloc, words, out),
-        b"print" => lines::print(alloc, words, out),
-        b"prefix" => lines::prefix(words, out),
-        b"person" => persons::person(alloc, words, out),
-        b"userflags" => persons::user_flags(alloc, words, out),
-        b"ban" => persons::ban(alloc, words, out),
-        b"chan" => channels::chan(alloc, words, out),
-        b"events" => events::events(alloc, words, out),
-        _ => shown::put(b"no such case", out),
     }
+    let words = words::words_of(alloc, line)?;
+    case::answer(alloc, &words, out)?;
+    out.end_line();
+    Ok(())
 }

@@ -1,35 +1,37 @@
 // Masks.
-use crate::shown;
-use bytetext::{NoMemory, Text};
+use crate::sink::Sink;
+use crate::stop::{BAD_WORDS, CaseError};
+use bytetext::Text;
 use std::alloc::Global;
 use wildmask::{Mask, MaskError};
 
 /// `mask bind|host MASK TEXT`: whether the mask matches the text, or the code of what the mask is refused for.
-pub fn mask(alloc: Global, words: &[Text], out: &mut Vec<u8>) -> Result<(), NoMemory> {
+pub fn mask(alloc: Global, words: &[Text], out: &mut Sink) -> Result<(), CaseError> {
     let [kind, mask, text] = words else {
-        return shown::put(b"write: mask bind|host MASK TEXT", out);
+        return Err(BAD_WORDS);
     };
-    let answer = match made(alloc, kind, mask) {
+    match made(alloc, kind, mask) {
         Ok(mask) => match mask.matches(text.as_bytes()) {
-            true => "match",
-            false => "no match",
+            true => out.put(b"match"),
+            false => out.put(b"no match"),
         },
-        Err(MaskError::Refused(fault)) => fault.code(),
-        Err(MaskError::NoMemory) => return Err(NoMemory),
-    };
-    shown::put(answer.as_bytes(), out)
+        Err(MaskError::Refused(fault)) => out.put(fault.code().as_bytes()),
+        Err(MaskError::NoMemory) => return Err(CaseError::NoMemory),
+    }
+    Ok(())
 }
 
 /// `literals bind|host MASK`: how many literals the mask has, or the code of what it is refused for.
-pub fn literals(alloc: Global, words: &[Text], out: &mut Vec<u8>) -> Result<(), NoMemory> {
+pub fn literals(alloc: Global, words: &[Text], out: &mut Sink) -> Result<(), CaseError> {
     let [kind, mask] = words else {
-        return shown::put(b"write: literals bind|host MASK", out);
+        return Err(BAD_WORDS);
     };
     match made(alloc, kind, mask) {
-        Ok(mask) => number(alloc, mask.literals(), out),
-        Err(MaskError::Refused(fault)) => shown::put(fault.code().as_bytes(), out),
-        Err(MaskError::NoMemory) => Err(NoMemory),
+        Ok(mask) => out.number(mask.literals() as u64),
+        Err(MaskError::Refused(fault)) => out.put(fault.code().as_bytes()),
+        Err(MaskError::NoMemory) => return Err(CaseError::NoMemory),
     }
+    Ok(())
 }
 
 // A mask of a bind where the kind says so, and a hostmask otherwise.
@@ -39,9 +41,4 @@ fn made(alloc: Global, kind: &Text, mask: &Text) -> Result<Mask, MaskError> {
     } else {
         Mask::host(alloc, mask.as_bytes())
     }
-}
-
-fn number(alloc: Global, value: u8, out: &mut Vec<u8>) -> Result<(), NoMemory> {
-    let digits = format!(in alloc; "{value}")?;
-    shown::put(digits.as_bytes(), out)
 }

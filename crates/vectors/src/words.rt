@@ -1,31 +1,33 @@
 // The words of a case.
 ghost use Rattle.std.specs.Prelude.{◌≤◌, ◌-◌, length};
 
-use bytetext::{NoMemory, Text};
+use crate::stop::{BAD_NUMBER, CaseError, CaseFault};
+use bytetext::{Failure, Text};
 use hex::FromHexError;
 use std::alloc::Global;
+use std::str::FromStr;
 
 /// The words of a line: bare, between single quotes, or `x:` and hexadecimal digits.
-pub fn words_of(alloc: Global, line: &[u8]) -> Result<Vec<Text>, NoMemory> {
+pub fn words_of(alloc: Global, line: &[u8]) -> Result<Vec<Text>, CaseError> {
     let mut words = Vec::new(alloc);
     let mut rest = line;
-    while let [first, behind @ ..] = rest {
+    while let [first, others @ ..] = rest {
         if *first == b' ' {
-            rest = behind;
+            rest = others;
         } else if *first == b'\'' {
-            let (word, left) = cut(behind, b'\'');
+            let (word, left) = cut(others, b'\'');
             words.push(Text::from_slice(alloc, word)?)?;
             rest = left;
         } else {
             let (word, left) = cut(rest, b' ');
-            words.push(unquoted(alloc, word)?)?;
+            words.push(bare(alloc, word)?)?;
             rest = left;
         }
     }
     Ok(words)
 }
 
-/// What stands before the first of these bytes, and what stands behind it.
+/// What stands before the first of these bytes, and what stands after it.
 pub fn cut(text: &[u8], at: u8) -> (&[u8], &[u8])
     ensures { length result.1.now ≤ length text.now - 1 }
 {
@@ -35,14 +37,30 @@ pub fn cut(text: &[u8], at: u8) -> (&[u8], &[u8])
     }
 }
 
-// The text of a word without quotes. What does not read as bytes in hexadecimal is taken as it stands.
-fn unquoted(alloc: Global, word: &[u8]) -> Result<Text, NoMemory> {
-    if let [b'x', b':', digits @ ..] = word {
-        match hex::decode(alloc, digits) {
-            Ok(bytes) => return Ok(Text::new(bytes)),
-            Err(FromHexError::OutOfMemory) => return Err(NoMemory),
-            Err(_) => {}
-        }
+/// The number that a word spells.
+pub fn number<T: FromStr>(word: &[u8]) -> Result<T, CaseError>
+where
+    T::Err: Drop,
+{
+    match std::str::from_utf8(word) {
+        Ok(digits) => digits.parse::<T>().map_err(|_| BAD_NUMBER),
+        Err(_) => Err(BAD_NUMBER),
     }
-    Text::from_slice(alloc, word)
+}
+
+// The text of a word without quotes.
+fn bare(alloc: Global, word: &[u8]) -> Result<Text, CaseError> {
+    match word {
+        [b'x', b':', digits @ ..] => bytes_of(alloc, digits),
+        _ => Ok(Text::from_slice(alloc, word)?),
+    }
+}
+
+// The bytes that hexadecimal digits spell.
+fn bytes_of(alloc: Global, digits: &[u8]) -> Result<Text, CaseError> {
+    match hex::decode(alloc, digits) {
+        Ok(bytes) => Ok(Text::new(bytes)),
+        Err(FromHexError::OutOfMemory) => Err(Failure::NoMemory),
+        Err(_) => Err(Failure::Refused(CaseFault::BadHex)),
+    }
 }

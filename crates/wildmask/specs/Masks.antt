@@ -5,10 +5,12 @@ use Rattle.wildmask.specs.declared.items.MaskKind.{MaskKind}
 use Rattle.wildmask.specs.declared.items.MaskKind.TheVariants.{Bind, Host}
 use Rattle.wildmask.specs.declared.faults.MaskFault.{MaskFault}
 use Rattle.wildmask.specs.declared.faults.MaskFault.TheVariants.{MaskEmpty, MaskTooLong, NotAHostmask}
-use Rattle.wildmask.specs.declared.faults.MaskError.{MaskError}
-use Rattle.wildmask.specs.declared.faults.MaskError.TheVariants.{Refused, NoMemory}
+use Rattle.bytetext.specs.declared.failure.Failure.{Failure}
+use Rattle.bytetext.specs.declared.failure.Failure.TheVariants.{Refused, NoMemory}
+use Rattle.wildmask.specs.declared.items.Item.{Item}
 use Rattle.wildmask.specs.Items.{items_of, is_bind}
 use Rattle.wildmask.specs.Matching.{Matches}
+use Rattle.wildmask.specs.Tests.{items_match}
 
 -- a mask: the text as it was given, and where it is used
 pub record GivenMask : Type 0 where
@@ -21,17 +23,26 @@ bind_mask text = record { kind = Bind; text = text }
 abbrev pub host_mask : List ℕ → GivenMask
 host_mask text = record { kind = Host; text = text }
 
+-- the items of a mask
+abbrev pub mask_items : GivenMask → List Item
+mask_items mask = items_of mask.kind mask.text
+
 -- whether a mask matches a text
 abbrev pub IsMatch : GivenMask → List ℕ → Type 0
 IsMatch mask text = Matches (items_of mask.kind mask.text) text
 
+-- the same, as a test that computes
+unfoldable pub is_match : GivenMask → List ℕ → Bool
+is_match mask text = items_match (items_of mask.kind mask.text) text
+
 -- ---- why a text is no mask
 
--- each byte is above 32, and behind the first ! there is an @
+-- each byte is above 32, and after the first ! there is an @
 abbrev pub is_hostmask : List ℕ → Bool
 is_hostmask text = list_all (λ b. nat_lt 32 b) text && list_any (λ b. b == 64) (after_first (λ b. b == 33) text)
 
--- the first fault of a mask's text: it is empty, it has more than 120 bytes, or it should be a hostmask and is none
+-- the first fault of a mask's text: it is empty, it has more than 120 bytes, or it should be a hostmask and is none (our
+-- own choice; Eggdrop cuts a long mask)
 abbrev pub fault_of : MaskKind → List ℕ → Option MaskFault
 fault_of mask_kind text =
     if length text == 0 then Some MaskEmpty else
@@ -53,7 +64,7 @@ fault_code NotAHostmask = codes "M3"
 -- ---- what making a mask answers: a text without a fault gives its mask, or there is no memory for it; any other is
 -- refused for its first fault, whatever memory there is
 
-abbrev pub Makes : MaskKind → List ℕ → Result GivenMask MaskError → Type 0
+abbrev pub Makes : MaskKind → List ℕ → Result GivenMask (Failure MaskFault) → Type 0
 Makes mask_kind text (Ok mask) = (fault_of mask_kind text ≡ None) × (mask ≡ record { kind = mask_kind; text = text })
 Makes mask_kind text (Err (Refused fault)) = fault_of mask_kind text ≡ Some fault
 Makes mask_kind text (Err NoMemory) = fault_of mask_kind text ≡ None

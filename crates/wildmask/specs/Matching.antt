@@ -14,7 +14,7 @@ Takes NoSpace text = All (λ c. c ≢ 32) text
 Takes Spaces text = (0 < length text) × All (λ c. c ≡ 32) text
 
 -- no items match the empty text alone; an item before others matches a text where, for some cut, the item takes what
--- stands before the cut and the others match what stands behind it
+-- stands before the cut and the others match what stands after it
 abbrev pub Matches : List Item → List ℕ → Type 0
 Matches [] text = text ≡ []
 Matches (item ∷ others) text =

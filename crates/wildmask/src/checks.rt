@@ -7,7 +7,7 @@ use crate::faults::MaskFault;
 use crate::items::MaskKind;
 
 /// The bytes that a mask has at most.
-const MOST_BYTES: usize = 120;
+pub const MOST_BYTES: usize = 120;
 
 /// What [`Mask::bind`](crate::Mask::bind) would refuse this text for. Takes no memory.
 pub fn bind_fault(text: &[u8]) -> Option<MaskFault>
@@ -35,11 +35,11 @@ pub fn fault_of(kind: MaskKind, text: &[u8]) -> Option<MaskFault>
     }
     match kind {
         MaskKind::Host if !is_hostmask(text) => Some(MaskFault::NotAHostmask),
-        _ => None,
+        MaskKind::Host | MaskKind::Bind => None,
     }
 }
 
-// Whether each byte is above the space, and an `@` stands behind the first `!`.
+// Whether each byte is above the space, and an `@` stands after the first `!`.
 fn is_hostmask(text: &[u8]) -> bool
     ensures { result ≡ is_hostmask text.now }
 {

@@ -1,9 +1,8 @@
 // Why a text is no mask.
 ghost use Rattle.std.specs.Prelude.{◌≡◌};
-ghost use Rattle.wildmask.specs.declared.faults.MaskError.TheVariants.{NoMemory as no_memory};
+ghost use Rattle.wildmask.specs.Masks.{fault_code};
 
-use bytetext::NoMemory;
-use std::alloc::{AllocError, AllocFailed};
+use bytetext::Failure;
 use thiserror::Error;
 
 /// Why a text is no mask, in the order in which it is looked at.
@@ -15,15 +14,12 @@ pub enum MaskFault {
     /// M1: the text has more than 120 bytes.
     #[error("the mask is too long: write at most 120 bytes")]
     MaskTooLong,
-    /// M3: no `@` stands behind the first `!`, or a byte is a space or a control byte.
+    /// M3: no `@` stands after the first `!`, or a byte is a space or a control byte.
     #[error("not a hostmask: write it as nick!user@host, without spaces or control bytes")]
     NotAHostmask,
 }
 
 impl MaskFault {
-    ghost use Rattle.std.specs.Prelude.{◌≡◌};
-    ghost use Rattle.wildmask.specs.Masks.{fault_code};
-
     /// The fault's short name, as transcripts print it: M1, M2 or M3.
     pub fn code(self) -> &'static str
         ensures { result.now ≡ fault_code self }
@@ -36,37 +32,5 @@ impl MaskFault {
     }
 }
 
-/// Why no mask was made.
-#[derive(Clone, Copy, Debug, PartialEq, Eq, Error)]
-pub enum MaskError {
-    /// The text is no mask.
-    #[error("{0}")]
-    Refused(MaskFault),
-    /// The text is a mask, and room for a copy of it was refused.
-    #[error("out of memory: free some and try again")]
-    NoMemory,
-}
-
-impl From<AllocError> for MaskError {
-    ghost from_gives = { λ _ e. e ≡ no_memory };
-
-    fn from(_refused: AllocError) -> MaskError {
-        MaskError::NoMemory
-    }
-}
-
-impl<T: Drop> From<AllocFailed<T>> for MaskError {
-    ghost from_gives = { λ _ e. e ≡ no_memory };
-
-    fn from(_refused: AllocFailed<T>) -> MaskError {
-        MaskError::NoMemory
-    }
-}
-
-impl From<NoMemory> for MaskError {
-    ghost from_gives = { λ _ e. e ≡ no_memory };
-
-    fn from(_refused: NoMemory) -> MaskError {
-        MaskError::NoMemory
-    }
-}
+/// Why no mask was made: `Refused` where the text is none, or else `NoMemory` where room for a copy of it is refused.
+pub type MaskError = Failure<MaskFault>;

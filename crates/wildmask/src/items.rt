@@ -26,7 +26,7 @@ pub enum Item {
     Spaces,
 }
 
-/// The first item of what is left of a mask's text, and what is left behind it; `None` at the end.
+/// The first item of what is left of a mask's text, and what is left after it; `None` at the end.
 pub fn next_item(kind: MaskKind, mask: &[u8]) -> Option<(Item, &[u8])>
     ensures items { MatchOption result (mask.now ≡ [])
         (λ next. items_of kind mask.now ≡ next.0 ∷ items_of kind next.1.now) }

@@ -21,14 +21,28 @@
 //! mask.matches(b"x!Bob@a.net")             // true
 //! mask.literals()                          // 8: of two masks that match, the one with more decides
 //! ```
+//!
+//! A match goes over the text once, so that no mask that a stranger thinks of takes long: [`Mask::matches_counted`] says
+//! how many comparisons it takes at most. Who holds many masks need not try each: a mask that matches a text has a
+//! [`Tail`] that the text ends with, and its [`Signature`] is within that of the text.
 #![tactic(auto)]
 
 mod checks;
+mod codes;
+mod counts;
 mod faults;
 mod items;
 mod masks;
-mod matching;
+mod pattern;
+mod places;
+mod runs;
+mod signatures;
+mod tails;
+mod walks;
 
 pub use crate::checks::{bind_fault, host_fault};
+pub use crate::counts::Count;
 pub use crate::faults::{MaskError, MaskFault};
 pub use crate::masks::Mask;
+pub use crate::signatures::Signature;
+pub use crate::tails::Tail;

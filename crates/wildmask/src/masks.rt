@@ -1,37 +1,57 @@
 // A mask.
 
 use crate::checks::fault_of;
+use crate::counts::Count;
 use crate::faults::MaskError;
-use crate::items::{Item, MaskKind, next_item};
-use crate::matching::matches_rest;
-use bytetext::{NoMemory, Text, TryCopy};
+use crate::items::MaskKind;
+use crate::pattern::Pattern;
+use crate::signatures::Signature;
+use crate::tails::Tail;
+use bytetext::{NoMemory, Text, TryCopy, refuse};
 use std::alloc::Global;
 use std::marker::Model;
 
 /// A mask: a text with wildcards, which matches other texts. Contracts see the text as it was given, and whether it
 /// is a bind's or a hostmask.
+///
+/// ```text
+/// let mask = Mask::host(alloc, b"*!bo?@*.net")?;
+/// let who = b"x!Bob@a.net";
+/// mask.tail() == Tail::of_end(who, 4)                      // true: the same group
+/// mask.signature().is_within(Signature::of(who))           // true: worth a match
+/// mask.matches(who)                                        // true
+/// ```
 #[derive(Debug, Drop)]
 pub struct Mask {
     kind: MaskKind,
     text: Text,
+    pattern: Pattern,
+    literals: u8,
+    signature: Signature,
 }
 
 impl Model for Mask {
-    ghost use Rattle.std.specs.Prelude.{◌≡◌, None};
+    ghost use Rattle.std.specs.Prelude.{◌≡◌, None, count_by, map};
+    ghost use Rattle.wildmask.specs.Codes.{lower};
+    ghost use Rattle.wildmask.specs.Items.{items_of, literals_of};
     ghost use Rattle.wildmask.specs.Masks.{GivenMask, fault_of};
+    ghost use Rattle.wildmask.specs.Signatures.{items_signature};
 
     ghost Value = { GivenMask };
 
     ghost view = { λ m. record { kind = m.kind; text = m.text } };
 
-    ghost invariant = { λ m. fault_of m.kind m.text ≡ None };
+    ghost invariant = { λ m. (fault_of m.kind m.text ≡ None) × (m.pattern ≡ map lower (items_of m.kind m.text))
+        × (m.literals ≡ literals_of m.kind m.text) × (m.signature ≡ items_signature (items_of m.kind m.text)) };
 }
 
 impl Mask {
-    ghost use Rattle.std.specs.Prelude.{◌≡◌, ◌↔◌, IsTrue, IfOk, None};
+    ghost use Rattle.std.specs.Prelude.{◌≡◌, ◌↔◌, ◌+◌, ◌*◌, ◌≤◌, ℕ, List, IsTrue, None, length};
     ghost use Rattle.wildmask.specs.declared.items.MaskKind.TheVariants.{Bind, Host};
     ghost use Rattle.wildmask.specs.Items.{literals_of};
-    ghost use Rattle.wildmask.specs.Masks.{IsMatch, Makes, fault_of};
+    ghost use Rattle.wildmask.specs.Masks.{IsMatch, Makes, fault_of, is_match, mask_items};
+    ghost use Rattle.wildmask.specs.Signatures.{is_within, items_signature, text_signature};
+    ghost use Rattle.wildmask.specs.Tails.{end_key, tail_of};
 
     /// The mask of a bind (Eggdrop's Tcl commands document, "bind"): `?` is one byte, `*` any bytes, `%` any bytes
     /// without a space, `~` one or more spaces, and `\` makes `? * % ~ \` literal. Other bytes are literals.
@@ -48,7 +68,7 @@ impl Mask {
     /// A hostmask, for texts `nick!user@host`: as [`Mask::bind`], but `%` and `~` are literals.
     ///
     /// # Errors
-    /// M2 where the text is empty; then M1 where it has more than 120 bytes; then M3 where no `@` stands behind the
+    /// M2 where the text is empty; then M1 where it has more than 120 bytes; then M3 where no `@` stands after the
     /// first `!`, or a byte is a space or below; then `NoMemory` where room for a copy is refused.
     pub fn host(alloc: Global, text: &[u8]) -> Result<Mask, MaskError>
         ensures { Makes Host text.now result }
@@ -59,34 +79,63 @@ impl Mask {
     fn of(alloc: Global, kind: MaskKind, text: &[u8]) -> Result<Mask, MaskError>
         ensures { Makes kind text.now result }
     {
-        if let Some(fault) = fault_of(kind, text) {
-            return Err(MaskError::Refused(fault));
-        }
+        refuse(fault_of(kind, text))?;
+        let pattern = Pattern::of(kind, text);
+        let literals = pattern.literals();
+        let signature = pattern.signature();
         let text = Text::from_slice(alloc, text)?;
-        Ok(Mask { kind, text })
+        Ok(Mask {
+            kind,
+            text,
+            pattern,
+            literals,
+            signature,
+        })
     }
 
-    /// Whether the mask matches all of this text, by casemapping. A star that misses ends the search of the stars before
-    /// it, so a mask of many `*` is no slower than one of few.
+    /// Whether the mask matches all of this text, by casemapping. Takes no memory.
     pub fn matches(&self, text: &[u8]) -> bool
-        ensures { IsTrue result ↔ IsMatch self.now text.now }
+        ensures matches { IsTrue result ↔ IsMatch self.now text.now }
+        ensures test { result ≡ is_match self.now text.now }
     {
-        matches_rest(self.kind, self.text.as_bytes(), text)
+        self.matches_counted(text, &mut Count::new())
+    }
+
+    /// As [`Mask::matches`], with a count that grows by one for each comparison of an item with a byte. The literals at
+    /// the end are compared first, from the last on, and then a set of places among the other items is moved over the
+    /// text once. So no mask and no text take more comparisons than items and bytes, one more of each, multiplied.
+    pub fn matches_counted(&self, text: &[u8], count: &mut Count) -> bool
+        ensures matches { IsTrue result ↔ IsMatch self.now text.now }
+        ensures test { result ≡ is_match self.now text.now }
+        ensures counted { count.new.steps ≤ count.old.steps + (length (mask_items self.now) + 1) * (length text.now + 1) }
+    {
+        self.pattern.matches(text, count)
     }
 
     /// How many items of the mask are literals, an escaped byte being one.
     pub fn literals(&self) -> u8
         ensures { result ≡ literals_of self.now.kind self.now.text }
     {
-        let mut count = 0;
-        let mut rest = self.text.as_bytes();
-        while let Some((item, behind)) = next_item(self.kind, rest) {
-            if let Item::Literal(_) = item {
-                count += 1;
-            }
-            rest = behind;
-        }
-        count
+        self.literals
+    }
+
+    /// The mask's tail: the lower cases of the literals after its last special item, the last 16 at most. A text that
+    /// the mask matches ends with it.
+    pub fn tail(&self) -> Tail
+        ensures value { result ≡ tail_of (mask_items self.now) }
+        ensures ends { (text : List ℕ) → IsMatch self.now text → result ≡ end_key (length result) text }
+        ensures within { (text : List ℕ) → IsMatch self.now text → length result ≤ length text }
+        ensures short { length result ≤ 16 }
+    {
+        self.pattern.tail()
+    }
+
+    /// The pairs of adjacent literals that the mask needs. A text that the mask matches has each of them.
+    pub fn signature(&self) -> Signature
+        ensures value { result ≡ items_signature (mask_items self.now) }
+        ensures needed { (text : List ℕ) → IsMatch self.now text → IsTrue (is_within result (text_signature text)) }
+    {
+        self.signature
     }
 
     /// The mask's text as it was given.
@@ -96,18 +145,17 @@ impl Mask {
     {
         self.text.as_bytes()
     }
+}
 
-    /// An equal mask of its own.
-    ///
-    /// # Errors
-    /// `NoMemory` where room for the copy is refused.
-    pub fn copy(&self, alloc: Global) -> Result<Mask, NoMemory>
-        ensures { IfOk result (λ mask. mask ≡ self.now) }
-    {
+impl TryCopy for Mask {
+    fn copy(&self, alloc: Global) -> Result<Mask, NoMemory> {
         let text = self.text.copy(alloc)?;
         Ok(Mask {
             kind: self.kind,
             text,
+            pattern: self.pattern.copy(),
+            literals: self.literals,
+            signature: self.signature,
         })
     }
 }

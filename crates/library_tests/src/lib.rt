@@ -1,0 +1,30 @@
+//! Tests of the libraries, of what no clause says and no line of `vectors` shows: each public call once where it does its
+//! work, with whole values, and worked examples that need more than one line. A module is the tests of one library.
+#![tactic(auto)]
+
+#[cfg(test)]
+mod channels;
+#[cfg(test)]
+mod clock;
+#[cfg(test)]
+mod flags;
+#[cfg(test)]
+mod folding;
+#[cfg(test)]
+mod lines;
+#[cfg(test)]
+mod links;
+#[cfg(test)]
+mod masks;
+#[cfg(test)]
+mod queues;
+#[cfg(test)]
+mod scripts;
+#[cfg(test)]
+mod texts;
+#[cfg(test)]
+mod transcripts;
+#[cfg(test)]
+mod users;
+#[cfg(test)]
+mod worlds;

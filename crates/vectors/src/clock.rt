@@ -1,0 +1,49 @@
+// Readings of the clock.
+use crate::sink::Sink;
+use crate::stop::CaseError;
+use crate::words::number;
+use bottimers::{Clock, ClockError};
+use bytetext::Text;
+use std::alloc::Global;
+
+/// `clock READING..`: for each reading the seconds that it runs, as `FIRST to LAST`, `none`, or the code of what it is
+/// refused for, with ` ; ` between; for the word `last` in the place of a reading the last second seen.
+pub fn clock(alloc: Global, words: &[Text], out: &mut Sink) -> Result<(), CaseError> {
+    let mut clock = Clock::new();
+    for (i, word) in words.iter().enumerate() {
+        out.between(b" ; ", i);
+        match word.is_same(b"last") {
+            true => last_shown(clock.last(), out),
+            false => read(alloc, &mut clock, number(word.as_bytes())?, out)?,
+        }
+    }
+    Ok(())
+}
+
+fn read(alloc: Global, clock: &mut Clock, now: u64, out: &mut Sink) -> Result<(), CaseError> {
+    match clock.advance(alloc, now) {
+        Ok(seconds) => seconds_shown(&seconds, out),
+        Err(ClockError::Refused(fault)) => out.put(fault.code().as_bytes()),
+        Err(ClockError::NoMemory) => return Err(CaseError::NoMemory),
+    }
+    Ok(())
+}
+
+fn seconds_shown(seconds: &[u64], out: &mut Sink) {
+    match seconds {
+        [] => out.put(b"none"),
+        [only] => out.number(*only),
+        [first, .., last] => {
+            out.number(*first);
+            out.put(b" to ");
+            out.number(*last);
+        }
+    }
+}
+
+fn last_shown(last: Option<u64>, out: &mut Sink) {
+    match last {
+        Some(last) => out.number(last),
+        None => out.put(b"none"),
+    }
+}

@@ -1,0 +1,132 @@
+// Lines that wait to be sent.
+ghost use Rattle.std.specs.Prelude.{◌<◌, IfOk};
+
+use crate::sink::Sink;
+use crate::stop::{BAD_NUMBER, BAD_WORDS, CaseError};
+use crate::words::{cut, number};
+use bytetext::Text;
+use outqueue::{PutError, Queue, QueueFault, Queues, Which};
+use std::alloc::Global;
+
+/// `queues STEP..`: what each step answers, with ` ; ` between. A step is one word:
+/// `put QUEUE COUNT LINE` puts a line so often and answers `ok` or the code of the first refusal; `take NOW` and
+/// `drain NOW` answer the lines that go or `none`; `len QUEUE` and `clear QUEUE` a number. QUEUE is `mode`, `server` or
+/// `help`, and for the last two `all` too.
+pub fn queues(alloc: Global, words: &[Text], out: &mut Sink) -> Result<(), CaseError> {
+    let mut queues = Queues::new(alloc);
+    for (i, step) in words.iter().enumerate() {
+        out.between(b" ; ", i);
+        make(alloc, &mut queues, step.as_bytes(), out)?;
+    }
+    Ok(())
+}
+
+// What a step does.
+#[derive(Clone, Copy)]
+enum Step {
+    Clear,
+    Drain,
+    Len,
+    Put,
+    Take,
+}
+
+const STEPS: [(&[u8], Step); 5] = [
+    (b"clear", Step::Clear),
+    (b"drain", Step::Drain),
+    (b"len", Step::Len),
+    (b"put", Step::Put),
+    (b"take", Step::Take),
+];
+
+const NAMES: [(&[u8], Which); 4] = [
+    (b"mode", Which::One(Queue::Mode)),
+    (b"server", Which::One(Queue::Server)),
+    (b"help", Which::One(Queue::Help)),
+    (b"all", Which::All),
+];
+
+fn make(alloc: Global, queues: &mut Queues, step: &[u8], out: &mut Sink) -> Result<(), CaseError> {
+    let (name, rest) = cut(step, b' ');
+    let Some((_, step)) = STEPS.iter().find(|(word, _)| *word == name) else {
+        return Err(BAD_WORDS);
+    };
+    match *step {
+        Step::Clear => out.number(queues.clear(which(rest)?) as u64),
+        Step::Len => out.number(queues.len(which(rest)?) as u64),
+        Step::Take => take(queues, moment(rest)?, out),
+        Step::Drain => return drain(alloc, queues, moment(rest)?, out),
+        Step::Put => return put(alloc, queues, rest, out),
+    }
+    Ok(())
+}
+
+fn which(name: &[u8]) -> Result<Which, CaseError> {
+    match NAMES.iter().find(|(word, _)| *word == name) {
+        Some((_, which)) => Ok(*which),
+        None => Err(BAD_WORDS),
+    }
+}
+
+fn moment(word: &[u8]) -> Result<u64, CaseError>
+    ensures { IfOk result (λ now. now < 32503680000) }
+{
+    let now = number::<u64>(word)?;
+    if now >= 32_503_680_000 {
+        return Err(BAD_NUMBER);
+    }
+    Ok(now)
+}
+
+fn take(queues: &mut Queues, now: u64, out: &mut Sink)
+    requires { now < 32503680000 }
+{
+    match queues.take(now) {
+        Some(line) => out.put(line.as_bytes()),
+        None => out.put(b"none"),
+    }
+}
+
+fn drain(alloc: Global, queues: &mut Queues, now: u64, out: &mut Sink) -> Result<(), CaseError>
+    requires { now < 32503680000 }
+{
+    let lines = queues.drain(alloc, now)?;
+    for (i, line) in lines.as_slice().iter().enumerate() {
+        out.between(b", ", i);
+        out.put(line.as_bytes());
+    }
+    out.put_if(lines.is_empty(), b"none");
+    Ok(())
+}
+
+// QUEUE COUNT LINE
+fn put(alloc: Global, queues: &mut Queues, rest: &[u8], out: &mut Sink) -> Result<(), CaseError> {
+    let (name, rest) = cut(rest, b' ');
+    let (count, line) = cut(rest, b' ');
+    let Which::One(queue) = which(name)? else {
+        return Err(BAD_WORDS);
+    };
+    match put_often(alloc, queues, queue, number(count)?, line)? {
+        Some(fault) => out.put(fault.code().as_bytes()),
+        None => out.put(b"ok"),
+    }
+    Ok(())
+}
+
+// Puts a line so often, up to the first refusal.
+fn put_often(
+    alloc: Global,
+    queues: &mut Queues,
+    queue: Queue,
+    count: u32,
+    line: &[u8],
+) -> Result<Option<QueueFault>, CaseError> {
+    for _ in 0..count {
+        match queues.put(queue, Text::from_slice(alloc, line)?) {
+            Ok(()) => {}
+            Err(PutError::Refused(fault)) => return Ok(Some(fault)),
+            Err(PutError::NoMemory) => return Err(CaseError::NoMemory),
+        }
+    }
+    Ok(None)
+}

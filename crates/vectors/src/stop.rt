@@ -1,0 +1,97 @@
+// Why there is no answer.
+use bytetext::{Failure, NoMemory};
+use std::alloc::AllocError;
+use std::io;
+use std::io::ErrorKind;
+use thiserror::Error;
+
+/// Why a line is no case.
+#[derive(Clone, Copy, Debug, Error)]
+pub enum CaseFault {
+    /// Its first word asks for nothing that there is.
+    #[error("no such case")]
+    NoSuchCase,
+    /// The words behind the first aren't those that it takes.
+    #[error("other words than this case takes")]
+    BadWords,
+    /// A word in hexadecimal spells no bytes.
+    #[error("after x: come hexadecimal digits, two for a byte")]
+    BadHex,
+    /// A word that is to be a number is none, or is out of its range.
+    #[error("a number that is none or is out of its range")]
+    BadNumber,
+}
+
+/// Why a case was not answered.
+pub type CaseError = Failure<CaseFault>;
+
+/// The words behind the first aren't those that the case takes.
+pub const BAD_WORDS: CaseError = Failure::Refused(CaseFault::BadWords);
+
+/// A word that is to be a number is none, or is out of its range.
+pub const BAD_NUMBER: CaseError = Failure::Refused(CaseFault::BadNumber);
+
+/// The case's first word asks for nothing that there is.
+pub const NO_SUCH_CASE: CaseError = Failure::Refused(CaseFault::NoSuchCase);
+
+/// Why the program ends early.
+#[derive(Clone, Copy, Debug, Error)]
+pub enum Stop {
+    /// There is more input than is read.
+    #[error("more than 1048576 bytes of input")]
+    TooLong,
+    /// A line is no case.
+    #[error("line {line}: {fault}")]
+    NoCase {
+        /// The line's number, from 1.
+        line: usize,
+        /// What is wrong with it.
+        fault: CaseFault,
+    },
+    /// The input can't be read, or the answers can't be written.
+    #[error("reading or writing failed")]
+    Stream,
+    /// A growth was refused.
+    #[error("out of memory: free some and try again")]
+    NoMemory,
+}
+
+impl Stop {
+    /// The status that the program ends with.
+    pub fn status(self) -> u8 {
+        match self {
+            Stop::TooLong | Stop::NoCase { .. } => 1,
+            Stop::Stream => 3,
+            Stop::NoMemory => 4,
+        }
+    }
+
+    /// Why this line ended the program.
+    pub fn at(line: usize, error: CaseError) -> Stop {
+        match error {
+            CaseError::Refused(fault) => Stop::NoCase { line, fault },
+            CaseError::NoMemory => Stop::NoMemory,
+        }
+    }
+}
+
+impl From<NoMemory> for Stop {
+    fn from(_refused: NoMemory) -> Stop {
+        Stop::NoMemory
+    }
+}
+
+impl From<AllocError> for Stop {
+    fn from(_refused: AllocError) -> Stop {
+        Stop::NoMemory
+    }
+}
+
+impl From<io::Error> for Stop {
+    fn from(error: io::Error) -> Stop {
+        match error.kind() {
+            ErrorKind::OutOfMemory => Stop::NoMemory,
+            _ => Stop::Stream,
+        }
+    }
+}

@@ -1,0 +1,24 @@
+-- One byte for each item: a literal as its lower case, and a special item as a byte that is no lower case.
+use Rattle.std.specs.Prelude.{ℕ, ◌==◌, if◌then◌else◌, List, map}
+use Rattle.rfccase.specs.Casemapping.{low}
+use Rattle.wildmask.specs.declared.items.Item.{Item}
+use Rattle.wildmask.specs.declared.items.Item.TheVariants.{Literal, AnyByte, AnyText, NoSpace, Spaces}
+
+-- an item with the lower case of its literal
+abbrev pub lower : Item → Item
+lower (Literal b) = Literal (low b)
+lower AnyByte = AnyByte
+lower AnyText = AnyText
+lower NoSpace = NoSpace
+lower Spaces = Spaces
+
+-- the bytes of A to D are no lower cases
+abbrev pub decoded : ℕ → Item
+decoded code =
+    if code == 65 then AnyByte else
+    (if code == 66 then AnyText else
+    (if code == 67 then NoSpace else
+    (if code == 68 then Spaces else Literal code)))
+
+abbrev pub items_in : List ℕ → List Item
+items_in codes = map decoded codes

@@ -1,0 +1,59 @@
+-- A set of places among the items of a mask, moved over a text one byte at a time.
+use Rattle.std.specs.Prelude.{◌≡◌, ◌≢◌, ◌⊎◌, ℕ, ◌+◌, ◌≤◌, ◌<◌, Bool, true, false, not, ◌==◌, List, [], ◌∷◌, length, drop, get_or}
+use Rattle.std.specs.Int.{bit_at}
+use Rattle.wildmask.specs.declared.items.Item.{Item}
+use Rattle.wildmask.specs.declared.items.Item.TheVariants.{Literal, AnyByte, AnyText, NoSpace, Spaces}
+use Rattle.wildmask.specs.Codes.{decoded, lower}
+use Rattle.wildmask.specs.Matching.{Matches}
+
+-- a place of the set, not before this one, from which on the items match the text
+abbrev pub MatchesFrom : ℕ → List Item → ℕ → List ℕ → Type 0
+MatchesFrom from items places text =
+    (p : ℕ) × ((from ≤ p) × (p ≤ length items) × (bit_at places p ≡ 1) × Matches (drop p items) text)
+
+-- whether an item takes nothing too
+abbrev pub may_be_empty : Item → Bool
+may_be_empty (Literal b) = false
+may_be_empty AnyByte = false
+may_be_empty AnyText = true
+may_be_empty NoSpace = true
+may_be_empty Spaces = false
+
+-- whether an item takes just one byte
+abbrev pub takes_one : Item → Bool
+takes_one (Literal b) = true
+takes_one AnyByte = true
+takes_one AnyText = false
+takes_one NoSpace = false
+takes_one Spaces = false
+
+-- whether a piece that an item takes may begin with a byte, of which the lower case is given
+abbrev pub takes_byte : Item → ℕ → Bool
+takes_byte (Literal b) lower = b == lower
+takes_byte AnyByte lower = true
+takes_byte AnyText lower = true
+takes_byte NoSpace lower = not (lower == 32)
+takes_byte Spaces lower = lower == 32
+
+-- what is left to match after an item took a byte: the item may stay, be done, or both
+abbrev pub MatchesAfter : Item → List Item → List ℕ → Type 0
+MatchesAfter (Literal b) others text = Matches others text
+MatchesAfter AnyByte others text = Matches others text
+MatchesAfter AnyText others text = Matches (AnyText ∷ others) text
+MatchesAfter NoSpace others text = Matches (NoSpace ∷ others) text
+MatchesAfter Spaces others text = Matches (Spaces ∷ others) text ⊎ Matches others text
+
+-- each place of a set whose item may take nothing has the next one in the set
+abbrev pub IsClosed : List Item → ℕ → Type 0
+IsClosed items places =
+    (p : ℕ) → p < length items → bit_at places p ≡ 1 → may_be_empty (get_or items p AnyByte) ≡ true → bit_at places (p + 1) ≡ 1
+
+-- each literal of items is a lower case
+abbrev pub AllLower : List Item → Type 0
+AllLower [] = Unit {0}
+AllLower (item ∷ items) = (lower item ≡ item) × AllLower items
+
+-- each item takes just one byte
+abbrev pub AllOne : List Item → Type 0
+AllOne [] = Unit {0}
+AllOne (item ∷ items) = (takes_one item ≡ true) × AllOne items

@@ -1,0 +1,54 @@
+// The items of a mask, one byte each, ready to match.
+ghost use Rattle.std.specs.Prelude.{◌≡◌, ◌↔◌, IsTrue};
+ghost use Rattle.wildmask.specs.declared.items.Item.TheVariants.{AnyText};
+ghost use Rattle.wildmask.specs.Codes.{decoded, lower};
+ghost use Rattle.wildmask.specs.Items.{is_literal};
+
+use crate::items::Item;
+use rfccase::fold;
+
+// Bytes that are no lower case, so that no literal has them.
+const ANY_BYTE: u8 = b'A';
+const ANY_TEXT: u8 = b'B';
+const NO_SPACE: u8 = b'C';
+const SPACES: u8 = b'D';
+
+/// The byte of an item: the lower case of a literal, or one that no literal has.
+pub fn code_of(item: Item) -> u8
+    ensures { decoded result ≡ lower item }
+{
+    match item {
+        Item::Literal(byte) => fold(byte),
+        Item::AnyByte => ANY_BYTE,
+        Item::AnyText => ANY_TEXT,
+        Item::NoSpace => NO_SPACE,
+        Item::Spaces => SPACES,
+    }
+}
+
+/// The item of a byte.
+pub fn item_of(code: u8) -> Item
+    ensures { result ≡ decoded code }
+{
+    match code {
+        ANY_BYTE => Item::AnyByte,
+        ANY_TEXT => Item::AnyText,
+        NO_SPACE => Item::NoSpace,
+        SPACES => Item::Spaces,
+        byte => Item::Literal(byte),
+    }
+}
+
+/// Whether the item of a byte is a literal.
+pub fn is_literal(code: u8) -> bool
+    ensures { result ≡ is_literal (decoded code) }
+{
+    !(ANY_BYTE..=SPACES).contains(&code)
+}
+
+/// Whether the item of a byte is a star.
+pub fn is_star(code: u8) -> bool
+    ensures { IsTrue result ↔ (decoded code ≡ AnyText) }
+{
+    code == ANY_TEXT
+}

@@ -1,0 +1,115 @@
+// The items of a mask, ready to match: apart from `Mask`, so that its text and its items are tied in one place.
+ghost use Rattle.std.specs.Prelude.{◌≡◌, ◌↔◌, ◌+◌, ◌*◌, ◌≤◌, IsTrue, count_by, length, map};
+ghost use Rattle.wildmask.specs.Codes.{items_in, lower};
+ghost use Rattle.wildmask.specs.Items.{items_of, is_literal};
+ghost use Rattle.wildmask.specs.Matching.{Matches};
+ghost use Rattle.wildmask.specs.Signatures.{items_signature};
+ghost use Rattle.wildmask.specs.Tails.{front_len, tail_of};
+
+use crate::codes::{code_of, is_literal};
+use crate::counts::Count;
+use crate::items::{MaskKind, next_item};
+use crate::runs::matches_end_first;
+use crate::signatures::Signature;
+use crate::tails::Tail;
+use std::marker::Model;
+
+// The items that a mask has at most: as many as bytes.
+const MOST_ITEMS: usize = 120;
+
+/// The items of a mask, each literal as its lower case. Contracts see the list of them.
+#[derive(Debug, Drop)]
+pub struct Pattern {
+    codes: [u8; MOST_ITEMS],
+    len: usize,
+    // how many items there are up to the last special one
+    front: usize,
+}
+
+impl Model for Pattern {
+    ghost use Rattle.std.specs.Prelude.{◌≡◌, ◌≤◌, List, drop, take};
+    ghost use Rattle.wildmask.specs.declared.items.Item.{Item};
+    ghost use Rattle.wildmask.specs.Codes.{items_in};
+    ghost use Rattle.wildmask.specs.Tails.{front_len};
+    ghost use Rattle.wildmask.specs.Walks.{AllLower};
+
+    ghost Value = { List Item };
+
+    ghost view = { λ p. items_in (take p.len p.codes) };
+
+    ghost invariant = { λ p. (p.len ≤ 120) × (p.front ≡ front_len (items_in (take p.len p.codes)))
+        × AllLower (items_in (take p.len p.codes)) };
+}
+
+impl Pattern {
+    /// The items of a mask's text.
+    pub fn of(kind: MaskKind, text: &[u8]) -> Pattern
+        requires { length text.now ≤ 120 }
+        ensures { result ≡ map lower (items_of kind text.now) }
+    {
+        let mut codes = [0; MOST_ITEMS];
+        let mut len = 0;
+        let mut rest = text;
+        while let Some((item, others)) = next_item(kind, rest) {
+            codes[len] = code_of(item);
+            len += 1;
+            rest = others;
+        }
+        let front = front_of(&codes[..len]);
+        Pattern { codes, len, front }
+    }
+
+    /// Whether the items match all of a text: the literals at the end first.
+    pub fn matches(&self, text: &[u8], count: &mut Count) -> bool
+        ensures matches { IsTrue result ↔ Matches self.now text.now }
+        ensures counted { count.new.steps ≤ count.old.steps + (length self.now + 1) * (length text.now + 1) }
+    {
+        let (front, end) = self.codes[..self.len].split_at(self.front);
+        matches_end_first(front, end, text, count)
+    }
+
+    /// How many of the items are literals.
+    pub fn literals(&self) -> u8
+        ensures { result ≡ count_by is_literal self.now }
+    {
+        let count = self.codes[..self.len].iter().filter(|code| is_literal(**code)).count();
+        count as u8
+    }
+
+    /// The literals at the end.
+    pub fn tail(&self) -> Tail
+        ensures { result ≡ tail_of self.now }
+    {
+        Tail::of_end(&self.codes[self.front..self.len], MOST_ITEMS)
+    }
+
+    /// The pairs that the items need.
+    pub fn signature(&self) -> Signature
+        ensures { result ≡ items_signature self.now }
+    {
+        Signature::needed_by(&self.codes[..self.len])
+    }
+
+    /// An equal pattern of its own. Takes no memory.
+    pub fn copy(&self) -> Pattern
+        ensures { result ≡ self.now }
+    {
+        Pattern {
+            codes: self.codes,
+            len: self.len,
+            front: self.front,
+        }
+    }
+}
+
+// How many items there are up to the last special one.
+fn front_of(codes: &[u8]) -> usize
+    ensures value { result ≡ front_len (items_in codes.now) }
+    ensures within { result ≤ length codes.now }
+{
+    let mut front = codes.len();
+    while front > 0 && is_literal(codes[front - 1]) {
+        front -= 1;
+    }
+    front
+}

@@ -1,0 +1,151 @@
+// Runs of items that take one byte each, before, between and after stars. They are settled without a set of places.
+ghost use Rattle.std.specs.Prelude.{◌≡◌, ◌↔◌, ℕ, List, ◌∷◌, ◌++◌, ◌+◌, ◌-◌, ◌*◌, ◌≤◌, IsTrue, MatchOption, length, take};
+ghost use Rattle.wildmask.specs.declared.items.Item.{Item};
+ghost use Rattle.wildmask.specs.declared.items.Item.TheVariants.{AnyText};
+ghost use Rattle.wildmask.specs.Codes.{decoded, items_in};
+ghost use Rattle.wildmask.specs.Matching.{Matches};
+ghost use Rattle.wildmask.specs.Walks.{AllLower, AllOne, takes_one};
+
+use crate::codes::{is_star, item_of};
+use crate::counts::Count;
+use crate::items::Item;
+use crate::walks::{takes, walk};
+use rfccase::fold;
+
+/// Whether the items match all of a text: first the literals after the last special item (`end`), from the last on.
+pub fn matches_end_first(front: &[u8], end: &[u8], text: &[u8], count: &mut Count) -> bool
+    requires few { length front.now ≤ 120 }
+    requires lower { AllLower (items_in front.now) }
+    requires lower_end { AllLower (items_in end.now) }
+    requires one { AllOne (items_in end.now) }
+    ensures matches { IsTrue result ↔ Matches (items_in front.now ++ items_in end.now) text.now }
+    ensures counted { count.new.steps ≤ count.old.steps + (length front.now + length end.now + 1) * (length text.now + 1) }
+{
+    if text.len() < end.len() {
+        return false;
+    }
+    let (rest, last) = text.split_at(text.len() - end.len());
+    fits(end, last, count) && matches_run_first(front, rest, count)
+}
+
+// Whether the items match all of a text: first those that take one byte each.
+fn matches_run_first(codes: &[u8], text: &[u8], count: &mut Count) -> bool
+    requires few { length codes.now ≤ 120 }
+    requires lower { AllLower (items_in codes.now) }
+    ensures matches { IsTrue result ↔ Matches (items_in codes.now) text.now }
+    ensures counted { count.new.steps ≤ count.old.steps + length codes.now + length codes.now * length text.now }
+{
+    let (run, others) = split_run(codes);
+    if text.len() < run.len() {
+        return false;
+    }
+    let (first, rest) = text.split_at(run.len());
+    fits(run, first, count) && matches_stars(others, rest, count)
+}
+
+// Whether the items match all of a text: a run between two stars takes its first place, and what is left is walked.
+fn matches_stars(codes: &[u8], text: &[u8], count: &mut Count) -> bool
+    requires few { length codes.now ≤ 120 }
+    requires lower { AllLower (items_in codes.now) }
+    ensures matches { IsTrue result ↔ Matches (items_in codes.now) text.now }
+    ensures counted { count.new.steps ≤ count.old.steps + length codes.now * length text.now }
+{
+    let mut left = codes;
+    let mut rest = text;
+    while let Some((run, others)) = run_between_stars(left) {
+        match after_run(run, rest, count) {
+            None => return false,
+            Some(after) => {
+                left = others;
+                rest = after;
+            }
+        }
+    }
+    walk(left, rest, count)
+}
+
+// Where a star stands first and after it a run and another star, the run, and what begins with the other star.
+fn run_between_stars(codes: &[u8]) -> Option<(&[u8], &[u8])>
+    ensures parts { MatchOption result (Unit {0}) (λ parts. (items : List Item)
+        × (items_in codes.now ≡ AnyText ∷ items_in parts.0.now ++ AnyText ∷ items)
+        × (items_in parts.1.now ≡ AnyText ∷ items) × AllOne (items_in parts.0.now)) }
+    ensures shorter { MatchOption result (Unit {0}) (λ parts. length parts.0.now + length parts.1.now + 1 ≡ length codes.now) }
+{
+    match codes {
+        [first, after @ ..] if is_star(*first) => {
+            let (run, others) = split_run(after);
+            match others {
+                [other, ..] if is_star(*other) => Some((run, others)),
+                _ => None,
+            }
+        }
+        _ => None,
+    }
+}
+
+// The items in front that take one byte each, and the others.
+fn split_run(codes: &[u8]) -> (&[u8], &[u8])
+    ensures whole { items_in codes.now ≡ items_in result.0.now ++ items_in result.1.now }
+    ensures one { AllOne (items_in result.0.now) }
+    ensures len { length result.0.now + length result.1.now ≡ length codes.now }
+{
+    let mut len = 0;
+    while len < codes.len() && takes_one(codes[len]) {
+        len += 1;
+    }
+    codes.split_at(len)
+}
+
+// Whether an item takes just one byte.
+fn takes_one(code: u8) -> bool
+    ensures { result ≡ takes_one (decoded code) }
+{
+    match item_of(code) {
+        Item::Literal(_) | Item::AnyByte => true,
+        Item::AnyText | Item::NoSpace | Item::Spaces => false,
+    }
+}
+
+// What is left of a text after the first piece that a run of items takes; none where it takes none.
+fn after_run<'a>(run: &[u8], text: &'a [u8], count: &mut Count) -> Option<&'a [u8]>
+    requires one { AllOne (items_in run.now) }
+    requires lower { AllLower (items_in run.now) }
+    ensures first { MatchOption result
+        ((items : List Item) → Matches (AnyText ∷ items_in run.now ++ items) text.now → ⊥)
+        (λ left. (items : List Item) →
+            Matches (AnyText ∷ items_in run.now ++ AnyText ∷ items) text.now ↔ Matches (AnyText ∷ items) left.now) }
+    ensures shorter { MatchOption result (Unit {0}) (λ left. length left.now ≤ length text.now) }
+    ensures counted { MatchOption result (count.new.steps ≤ count.old.steps + length run.now * length text.now)
+        (λ left. count.new.steps ≤ count.old.steps + length run.now * (length text.now - length left.now)) }
+{
+    let mut rest = text;
+    while run.len() <= rest.len() {
+        let (first, left) = rest.split_at(run.len());
+        if fits(run, first, count) {
+            return Some(left);
+        }
+        match rest {
+            [_, others @ ..] => rest = others,
+            [] => return None,
+        }
+    }
+    None
+}
+
+// Whether items that take one byte each match a text of as many bytes, from the last on.
+fn fits(codes: &[u8], text: &[u8], count: &mut Count) -> bool
+    requires len { length codes.now ≡ length text.now }
+    requires one { AllOne (items_in codes.now) }
+    requires lower { AllLower (items_in codes.now) }
+    ensures value { IsTrue result ↔ Matches (items_in codes.now) text.now }
+    ensures counted { count.new.steps ≤ count.old.steps + length codes.now }
+{
+    let mut left = codes.len();
+    while left > 0 {
+        if !takes(item_of(codes[left - 1]), fold(text[left - 1]), count) {
+            return false;
+        }
+        left -= 1;
+    }
+    true
+}

@@ -1,0 +1,81 @@
+// The pairs of adjacent bytes that a text has, and those that a mask needs.
+ghost use Rattle.std.specs.Prelude.{◌≡◌, ◌^◌};
+ghost use Rattle.rfccase.specs.Casemapping.{low};
+ghost use Rattle.wildmask.specs.Codes.{decoded, items_in};
+ghost use Rattle.wildmask.specs.Signatures.{needed, place_of, text_signature, items_signature, is_within};
+
+use crate::codes::item_of;
+use crate::items::Item;
+use rfccase::fold;
+use std::marker::Model;
+
+/// A set of pairs of adjacent bytes: those that a text has, or those of literals that a mask needs. A mask that needs a
+/// pair which a text hasn't does not match it. Several pairs share one of 128 places, so one that seems to be there may
+/// not be. Contracts see the places as the bits of a number.
+#[derive(Clone, Copy, Debug, PartialEq, Eq)]
+pub struct Signature {
+    bits: u128,
+}
+
+impl Model for Signature {
+    ghost use Rattle.std.specs.Prelude.{ℕ};
+
+    ghost Value = { ℕ };
+
+    ghost view = { λ s. s.bits };
+
+    ghost inverse = { λ n. record { bits = n } };
+}
+
+impl Signature {
+    /// The pairs that a text has, by lower case. Takes no memory.
+    pub fn of(text: &[u8]) -> Signature
+        ensures { result ≡ text_signature text.now }
+    {
+        let mut bits = 0;
+        let mut rest = text;
+        while let [first, second, ..] = rest {
+            bits |= bit_of(*first, *second);
+            rest = &rest[1..];
+        }
+        Signature { bits }
+    }
+
+    /// Whether each pair of this signature, a mask's, is one of the other, a text's. Where not, the mask does not match.
+    pub fn is_within(self, text: Signature) -> bool
+        ensures { result ≡ is_within self text }
+    {
+        self.bits & text.bits == self.bits
+    }
+
+    // The pairs that a mask of these items needs.
+    pub(crate) fn needed_by(codes: &[u8]) -> Signature
+        ensures { result ≡ items_signature (items_in codes.now) }
+    {
+        let mut bits = 0;
+        let mut rest = codes;
+        while let [first, second, ..] = rest {
+            bits |= needed_bit(*first, *second);
+            rest = &rest[1..];
+        }
+        Signature { bits }
+    }
+}
+
+// What two adjacent items need: two literals their pair.
+fn needed_bit(first: u8, second: u8) -> u128
+    ensures { result ≡ needed (decoded first) (decoded second) }
+{
+    match (item_of(first), item_of(second)) {
+        (Item::Literal(a), Item::Literal(b)) => bit_of(a, b),
+        _ => 0,
+    }
+}
+
+// The bit of a pair, by lower case.
+fn bit_of(first: u8, second: u8) -> u128
+    ensures { result ≡ 2 ^ place_of (low first) (low second) }
+{
+    let place = (u32::from(fold(first)) * 37 + u32::from(fold(second))) % 128;
+    1 << place
+}

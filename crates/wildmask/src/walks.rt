@@ -1,0 +1,145 @@
+// Whether items match a text: a set of places among them is moved over the text once.
+ghost use Rattle.std.specs.Prelude.{◌≡◌, ◌↔◌, ◌⊎◌, ℕ, List, [], ◌∷◌, ◌+◌, ◌*◌, ◌≤◌, ◌<◌, IsTrue, MatchOption, drop, get_or, length, true};
+ghost use Rattle.std.specs.Int.{bit_at};
+ghost use Rattle.wildmask.specs.declared.items.Item.TheVariants.{AnyText};
+ghost use Rattle.wildmask.specs.Codes.{decoded, items_in};
+ghost use Rattle.wildmask.specs.Matching.{Matches};
+ghost use Rattle.wildmask.specs.Walks.{MatchesFrom, MatchesAfter, IsClosed, AllLower, takes_byte, may_be_empty};
+
+use crate::codes::{is_star, item_of};
+use crate::counts::Count;
+use crate::items::Item;
+use crate::places::Places;
+use rfccase::fold;
+
+/// Whether the items match all of a text.
+pub fn walk(codes: &[u8], text: &[u8], count: &mut Count) -> bool
+    requires few { length codes.now ≤ 120 }
+    requires lower { AllLower (items_in codes.now) }
+    ensures matches { IsTrue result ↔ Matches (items_in codes.now) text.now }
+    ensures counted { count.new.steps ≤ count.old.steps + length codes.now * length text.now }
+{
+    let mut places = with_skipped(codes, Places::none(), 0);
+    for byte in text {
+        if is_at_last_star(codes, places) {
+            return true;
+        }
+        places = step(codes, places, *byte, count);
+    }
+    places.has(codes.len())
+}
+
+// Whether the last item is a star and one of the places: then whatever is left of the text matches.
+fn is_at_last_star(codes: &[u8], places: Places) -> bool
+    requires { length codes.now ≤ 120 }
+    ensures { IsTrue result → (text : List ℕ) → MatchesFrom 0 (items_in codes.now) places.bits text }
+{
+    match codes {
+        [.., last] => is_star(*last) && places.has(codes.len() - 1),
+        [] => false,
+    }
+}
+
+// The places after one more byte.
+fn step(codes: &[u8], places: Places, byte: u8, count: &mut Count) -> Places
+    requires few { length codes.now ≤ 120 }
+    requires lower { AllLower (items_in codes.now) }
+    requires closed { IsClosed (items_in codes.now) places.bits }
+    ensures moved { (text : List ℕ) →
+        MatchesFrom 0 (items_in codes.now) places.bits (byte ∷ text) ↔ MatchesFrom 0 (items_in codes.now) result.bits text }
+    ensures closed { IsClosed (items_in codes.now) result.bits }
+    ensures counted { count.new.steps ≤ count.old.steps + length codes.now }
+{
+    let lower = fold(byte);
+    let mut after = Places::none();
+    let mut from = 0;
+    while let Some(at) = next_item(codes, places, from) {
+        after = moved(codes, after, at, lower, count);
+        from = at + 1;
+    }
+    after
+}
+
+// The first place from this one on that has an item.
+fn next_item(codes: &[u8], places: Places, from: usize) -> Option<usize>
+    requires few { length codes.now ≤ 120 }
+    requires from { from ≤ length codes.now }
+    ensures { MatchOption result ((q : ℕ) → from ≤ q → q < length codes.now → bit_at places.bits q ≡ 0)
+        (λ at. (from ≤ at) × (at < length codes.now) × (bit_at places.bits at ≡ 1)
+            × ((q : ℕ) → from ≤ q → q < at → bit_at places.bits q ≡ 0)) }
+{
+    match places.first_from(from) {
+        Some(at) if at < codes.len() => Some(at),
+        _ => None,
+    }
+}
+
+// The places with those at which the mask stands after the item at a place met a byte of this lower case. A star drops the
+// others: whatever matches from them matches from the star too.
+fn moved(codes: &[u8], places: Places, at: usize, lower: u8, count: &mut Count) -> Places
+    requires few { length codes.now ≤ 120 }
+    requires at { at < length codes.now }
+    requires closed { IsClosed (items_in codes.now) places.bits }
+    requires star { decoded (get_or codes.now at 0) ≡ AnyText → (text : List ℕ) →
+        MatchesFrom 0 (items_in codes.now) places.bits text → Matches (drop at (items_in codes.now)) text }
+    ensures moved { (text : List ℕ) → MatchesFrom 0 (items_in codes.now) result.bits text ↔
+        (MatchesFrom 0 (items_in codes.now) places.bits text
+        ⊎ ((takes_byte (decoded (get_or codes.now at 0)) lower ≡ true)
+            × MatchesAfter (decoded (get_or codes.now at 0)) (drop (at + 1) (items_in codes.now)) text)) }
+    ensures closed { IsClosed (items_in codes.now) result.bits }
+    ensures counted { count.new.steps ≡ count.old.steps + 1 }
+{
+    let item = item_of(codes[at]);
+    if takes(item, lower, count) {
+        match item {
+            Item::Literal(_) | Item::AnyByte => with_skipped(codes, places, at + 1),
+            Item::AnyText => with_skipped(codes, Places::none(), at),
+            Item::NoSpace => with_skipped(codes, places, at),
+            Item::Spaces => with_skipped(codes, with_skipped(codes, places, at), at + 1),
+        }
+    } else {
+        places
+    }
+}
+
+// The places with this one, and with those after it up to which the items may take nothing.
+fn with_skipped(codes: &[u8], places: Places, at: usize) -> Places
+    requires few { length codes.now ≤ 120 }
+    requires at { at ≤ length codes.now }
+    requires closed { IsClosed (items_in codes.now) places.bits }
+    ensures with { (text : List ℕ) → MatchesFrom 0 (items_in codes.now) result.bits text ↔
+        (MatchesFrom 0 (items_in codes.now) places.bits text ⊎ Matches (drop at (items_in codes.now)) text) }
+    ensures closed { IsClosed (items_in codes.now) result.bits }
+{
+    let mut places = places.with(at);
+    let mut last = at;
+    while last < codes.len() && may_be_empty(item_of(codes[last])) {
+        last += 1;
+        places = places.with(last);
+    }
+    places
+}
+
+/// Whether a piece that an item takes may begin with a byte of this lower case: the one comparison of an item with a byte.
+pub fn takes(item: Item, lower: u8, count: &mut Count) -> bool
+    ensures value { result ≡ takes_byte item lower }
+    ensures counted { count.new.steps ≡ count.old.steps + 1 }
+{
+    count.note();
+    match item {
+        Item::Literal(byte) => byte == lower,
+        Item::AnyByte | Item::AnyText => true,
+        Item::NoSpace => lower != b' ',
+        Item::Spaces => lower == b' ',
+    }
+}
+
+// Whether an item takes nothing too.
+fn may_be_empty(item: Item) -> bool
+    ensures { result ≡ may_be_empty item }
+{
+    match item {
+        Item::AnyText | Item::NoSpace => true,
+        Item::Literal(_) | Item::AnyByte | Item::Spaces => false,
+    }
+}
