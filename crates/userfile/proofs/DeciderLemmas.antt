@@ -1,10 +1,10 @@
 -- Which claim decides, by its place among all.
-use Rattle.std.proofs.Common.{◌≡◌, ℕ, zero, suc, ◌<◌, ◌≤◌, ◌⊎◌, inl, inr, nat_le, Bool, true, false, cond, ◌&&◌, List, [], ◌∷◌, refl, sym, ap, subst, ◌∙◌, arith, Option, None, Some, slice_get, codes, true≢false}
-use Rattle.std.specs.List.{list_all}
+use Rattle.std.proofs.Common.{◌≡◌, ℕ, zero, suc, ◌<◌, ◌≤◌, ◌⊎◌, inl, inr, nat_le, Bool, true, false, cond, ◌&&◌, List, [], ◌∷◌, refl, sym, ap, subst, ◌∙◌}
+use Rattle.std.proofs.Common.{arith, None, Some, slice_get, true≢false}
 use Rattle.std.proofs.lemmas.Bool.{cases_lt}
 use Rattle.std.proofs.lemmas.Bool.Decides.{nat_tests}
 use Rattle.userfile.specs.declared.user.User.{User}
-use Rattle.userfile.specs.Persons.{Claim, claims, is_most, decider, user_for, handle_of, handle_or_star, IsDecider, IsHandleFor}
+use Rattle.userfile.specs.Persons.{Claim, claims, is_most, decider, handle_of, handle_or_star, IsDecider, IsHandleFor}
 
 and_true : (a b : Bool) → (a && b) ≡ true → (a ≡ true) × (b ≡ true)
 and_true true b e = (refl, e)
@@ -32,8 +32,14 @@ abbrev Decided : List Claim → Type 0
 Decided cs = ((cs ≡ []) × (decider cs ≡ None)) ⊎ ((k : ℕ) × ((c : Claim) × (IsDecider cs k c × (decider cs ≡ Some c.user))))
 
 -- the claim of a decider is among the largest
-decider-most : (cs : List Claim) (k : ℕ) (c : Claim) → IsDecider cs k c → (j : ℕ) (other : Claim) → slice_get cs j ≡ Some other → other.literals ≤ c.literals
-decider-most cs k c d j other at = elim (cases_lt j k) [ inl below ↦ (let lt = d.before j other below at in omega arith) | inr above ↦ elim (cases_lt k j) [ inl behind ↦ d.behind j other behind at | inr same ↦ here same above ] ]
+decider-most : (cs : List Claim) (k : ℕ) (c : Claim) → IsDecider cs k c → (j : ℕ) (other : Claim) → slice_get cs j ≡ Some other
+    → other.literals ≤ c.literals
+decider-most cs k c d j other at = elim
+    (cases_lt j k) [
+      | inl below ↦ (let lt = d.before j other below at in omega arith)
+      | inr above ↦ elim
+          (cases_lt k j) [ inl behind ↦ d.behind j other behind at | inr same ↦ here same above ]
+    ]
   where
     here : j ≤ k → k ≤ j → other.literals ≤ c.literals
     here le ge =
@@ -59,7 +65,11 @@ decided (c ∷ cs) = by (is_most c.literals cs) refl (decided cs)
     later few k d is = record { here = is.here; before = λ j other lt at. before j other lt at; behind = λ j other lt at. behind j other lt at }
       where
         more : c.literals < d.literals
-        more = elim (cases_lt c.literals d.literals) [ inl lt ↦ lt | inr ge ↦ absurd (true≢false (sym (is_most-all c.literals cs (λ j other at. omega (arith, decider-most cs k d is j other at))) ∙ few)) ]
+        more = elim (cases_lt c.literals d.literals) [
+          | inl lt ↦ lt
+          | inr ge ↦ absurd
+              (true≢false (sym (is_most-all c.literals cs (λ j other at. omega (arith, decider-most cs k d is j other at))) ∙ few))
+        ]
 
         before : (j : ℕ) (other : Claim) → j < suc k → slice_get (c ∷ cs) j ≡ Some other → other.literals < d.literals
         before zero other lt at =
@@ -75,7 +85,9 @@ decided (c ∷ cs) = by (is_most c.literals cs) refl (decided cs)
     none : is_most c.literals cs ≡ false → cs ≡ [] → ⊥
     none few empty = true≢false (sym (ap (is_most c.literals) empty) ∙ few)
 
-    by : (b : Bool) → is_most c.literals cs ≡ b → Decided cs → (((c ∷ cs) ≡ []) × (cond b (Some c.user) (decider cs) ≡ None)) ⊎ ((k : ℕ) × ((d : Claim) × (IsDecider (c ∷ cs) k d × (cond b (Some c.user) (decider cs) ≡ Some d.user))))
+    by : (b : Bool) → is_most c.literals cs ≡ b → Decided cs
+        → (((c ∷ cs) ≡ []) × (cond b (Some c.user) (decider cs) ≡ None))
+        ⊎ ((k : ℕ) × ((d : Claim) × (IsDecider (c ∷ cs) k d × (cond b (Some c.user) (decider cs) ≡ Some d.user))))
     by true e rest = inr (0, (c, (first e, refl)))
     by false e (inl r) = absurd (none e r.0)
     by false e (inr r) = inr (suc r.0, (r.1.0, (later e r.0 r.1.0 r.1.1.0, r.1.1.1)))

@@ -15,6 +15,7 @@ handle-edited (SetChannel c f) user = refl
 handle-edited (SetBot f) user = refl
 
 -- and so it does where it finds no memory
-pub handle_kept : (r : Result (Unit {0}) NoMemory) (edit : Edit) (old new : User) → OnOk r (new ≡ edited edit old) → OnErr r (new ≡ old) → new.handle ≡ old.handle
+pub handle_kept : (r : Result (Unit {0}) NoMemory) (edit : Edit) (old new : User) → OnOk r (new ≡ edited edit old) → OnErr r (new ≡ old)
+    → new.handle ≡ old.handle
 handle_kept (Ok _) edit old new ok err = ap (λ (u : User). u.handle) ok ∙ handle-edited edit old
 handle_kept (Err _) edit old new ok err = ap (λ (u : User). u.handle) err

@@ -1,5 +1,6 @@
 -- What a map's look-ups and edits mean for the users in it.
-use Rattle.std.proofs.Common.{◌≡◌, ℕ, ◌<◌, ◌≤◌, Bool, true, false, not, cond, List, [], ◌∷◌, ◌++◌, filter, find, length, nat_eq, refl, sym, ap, subst, ◌∙◌, Option, None, Some, arith}
+use Rattle.std.proofs.Common.{◌≡◌, ℕ, ◌<◌, ◌≤◌, Bool, true, false, cond, List, [], ◌∷◌, ◌++◌, filter, length, nat_eq, refl, sym, ap, subst, ◌∙◌}
+use Rattle.std.proofs.Common.{None, Some, arith}
 use Rattle.std.specs.Map.{values_of, lookup, set_value}
 use Rattle.std.specs.Cmp.Lexicographic.{pointwise}
 use Rattle.indexmap.specs.IndexMap.{insert_entry}
@@ -8,7 +9,7 @@ use Rattle.std.specs.declared.alloc.Global.{Global}
 use Rattle.rfccase.specs.Casemapping.{folded, is_same}
 use Rattle.userfile.specs.declared.user.User.{User}
 use Rattle.userfile.specs.declared.limits.TheConstants.{MAX_HANDLE}
-use Rattle.userfile.specs.Held.{user_of, users_without, with_user}
+use Rattle.userfile.specs.Held.{user_of, with_user}
 use Rattle.userfile.specs.Keys.{IsKeyed}
 use Rattle.userfile.proofs.TextLemmas.{is_same-length}
 
@@ -21,7 +22,8 @@ abbrev pub has_key : List ℕ → Vec ℕ Global → Bool
 has_key lower k = pointwise nat_eq lower k.items
 
 -- users that stand under their handles still do with one more that does
-pub IsKeyed-append : (es : List Entry) (k : Vec ℕ Global) (u : User) → IsKeyed es → k.items ≡ folded u.handle → length u.handle ≤ MAX_HANDLE → IsKeyed (es ++ (k, u) ∷ [])
+pub IsKeyed-append : (es : List Entry) (k : Vec ℕ Global) (u : User) → IsKeyed es → k.items ≡ folded u.handle → length u.handle ≤ MAX_HANDLE
+    → IsKeyed (es ++ (k, u) ∷ [])
 IsKeyed-append [] k u h e short = (e, short, tt)
 IsKeyed-append (x ∷ xs) k u h e short = (h.0, h.1, IsKeyed-append xs k u h.2 e short)
 
@@ -35,11 +37,13 @@ IsKeyed-filter p (x ∷ xs) h = by (p x) (IsKeyed-filter p xs h.2)
     by false rest = rest
 
 -- and so they do where one is edited and keeps its handle
-pub IsKeyed-set_value : (lower : List ℕ) (es : List Entry) (v w : User) → IsKeyed es → lookup (has_key lower) es ≡ Some v → w.handle ≡ v.handle → IsKeyed (set_value (has_key lower) es w)
+pub IsKeyed-set_value : (lower : List ℕ) (es : List Entry) (v w : User) → IsKeyed es → lookup (has_key lower) es ≡ Some v → w.handle ≡ v.handle
+    → IsKeyed (set_value (has_key lower) es w)
 IsKeyed-set_value lower [] v w keyed found same = tt
 IsKeyed-set_value lower (x ∷ xs) v w keyed found same = by (has_key lower x.0) found (λ f. IsKeyed-set_value lower xs v w keyed.2 f same)
   where
-    by : (b : Bool) → cond b (Some x.1) (lookup (has_key lower) xs) ≡ Some v → (lookup (has_key lower) xs ≡ Some v → IsKeyed (set_value (has_key lower) xs w))
+    by : (b : Bool) → cond b (Some x.1) (lookup (has_key lower) xs) ≡ Some v
+        → (lookup (has_key lower) xs ≡ Some v → IsKeyed (set_value (has_key lower) xs w))
         → IsKeyed (cond b ((x.0, w) ∷ xs) (x ∷ set_value (has_key lower) xs w))
     by true here rest =
         let user : x.1 ≡ v = cc in
@@ -52,7 +56,8 @@ pub values_of-filter : (p : User → Bool) (es : List Entry) → values_of (filt
 values_of-filter p [] = refl
 values_of-filter p (x ∷ xs) = by (p x.1) (values_of-filter p xs)
   where
-    by : (b : Bool) → values_of (filter (λ e. p e.1) xs) ≡ filter p (values_of xs) → values_of (cond b (x ∷ filter (λ e. p e.1) xs) (filter (λ e. p e.1) xs)) ≡ cond b (x.1 ∷ filter p (values_of xs)) (filter p (values_of xs))
+    by : (b : Bool) → values_of (filter (λ e. p e.1) xs) ≡ filter p (values_of xs)
+        → values_of (cond b (x ∷ filter (λ e. p e.1) xs) (filter (λ e. p e.1) xs)) ≡ cond b (x.1 ∷ filter p (values_of xs)) (filter p (values_of xs))
     by true rest = ap (λ us. x.1 ∷ us) rest
     by false rest = rest
 
@@ -67,7 +72,8 @@ lookup-user_of h lower [] same keyed = refl
 lookup-user_of h lower (x ∷ xs) same keyed =
     by (has_key lower x.0) (pointwise nat_eq (folded h) (folded x.1.handle)) (rw (keyed.0, same) refl) (lookup-user_of h lower xs same keyed.2)
   where
-    by : (b t : Bool) → b ≡ t → lookup (has_key lower) xs ≡ user_of h (values_of xs) → cond b (Some x.1) (lookup (has_key lower) xs) ≡ cond t (Some x.1) (user_of h (values_of xs))
+    by : (b t : Bool) → b ≡ t → lookup (has_key lower) xs ≡ user_of h (values_of xs)
+        → cond b (Some x.1) (lookup (has_key lower) xs) ≡ cond t (Some x.1) (user_of h (values_of xs))
     by true true e rest = refl
     by false false e rest = rest
     by true false e rest = cc
@@ -81,15 +87,18 @@ user_of-long h (x ∷ xs) long keyed =
     ap (λ b. cond b (Some x.1) (user_of h (values_of xs))) (is_same-length h x.1.handle (omega arith)) ∙ user_of-long h xs long keyed.2
 
 -- a value written where a handle's lower case stands is the user of the handle after an edit that gives it
-pub values_of-set_value : (h lower : List ℕ) (es : List Entry) (v : User) (edit : User → User) → lower ≡ folded h → IsKeyed es → lookup (has_key lower) es ≡ Some v
+pub values_of-set_value : (h lower : List ℕ) (es : List Entry) (v : User) (edit : User → User) → lower ≡ folded h → IsKeyed es
+    → lookup (has_key lower) es ≡ Some v
     → values_of (set_value (has_key lower) es (edit v)) ≡ with_user h edit (values_of es)
 values_of-set_value h lower [] v edit same keyed found = refl
 values_of-set_value h lower (x ∷ xs) v edit same keyed found =
-    by (has_key lower x.0) (pointwise nat_eq (folded h) (folded x.1.handle)) (rw (keyed.0, same) refl) found (values_of-set_value h lower xs v edit same keyed.2)
+    by (has_key lower x.0) (pointwise nat_eq (folded h) (folded x.1.handle)) (rw (keyed.0, same) refl) found
+    (values_of-set_value h lower xs v edit same keyed.2)
   where
     by : (b t : Bool) → b ≡ t → cond b (Some x.1) (lookup (has_key lower) xs) ≡ Some v
         → (lookup (has_key lower) xs ≡ Some v → values_of (set_value (has_key lower) xs (edit v)) ≡ with_user h edit (values_of xs))
-        → values_of (cond b ((x.0, edit v) ∷ xs) (x ∷ set_value (has_key lower) xs (edit v))) ≡ cond t (edit x.1 ∷ values_of xs) (x.1 ∷ with_user h edit (values_of xs))
+        → values_of (cond b ((x.0, edit v) ∷ xs) (x ∷ set_value (has_key lower) xs (edit v)))
+        ≡ cond t (edit x.1 ∷ values_of xs) (x.1 ∷ with_user h edit (values_of xs))
     by true true e here rest = let user : x.1 ≡ v = cc in ap (λ u. edit u ∷ values_of xs) (sym user)
     by false false e later rest = ap (λ us. x.1 ∷ us) (rest later)
     by true false e f rest = cc
@@ -100,7 +109,8 @@ pub with_user-absent : (h : List ℕ) (edit : User → User) (us : List User) �
 with_user-absent h edit [] none = refl
 with_user-absent h edit (u ∷ us) none = by (is_same h u.handle) none (with_user-absent h edit us)
   where
-    by : (b : Bool) → cond b (Some u) (user_of h us) ≡ None → (user_of h us ≡ None → with_user h edit us ≡ us) → cond b (edit u ∷ us) (u ∷ with_user h edit us) ≡ u ∷ us
+    by : (b : Bool) → cond b (Some u) (user_of h us) ≡ None → (user_of h us ≡ None → with_user h edit us ≡ us)
+        → cond b (edit u ∷ us) (u ∷ with_user h edit us) ≡ u ∷ us
     by true none rest = cc
     by false none rest = ap (λ us. u ∷ us) (rest none)
 
@@ -109,7 +119,8 @@ pub inserted_last : (h : List ℕ) (k : Vec ℕ Global) (u : User) (es : List En
     → insert_entry (λ a b. pointwise nat_eq a.items b.items) es k u ≡ es ++ (k, u) ∷ []
 inserted_last h k u [] same keyed none = refl
 inserted_last h k u (x ∷ xs) same keyed none =
-    by (pointwise nat_eq k.items x.0.items) (pointwise nat_eq (folded h) (folded x.1.handle)) (rw (same, keyed.0) refl) none (inserted_last h k u xs same keyed.2)
+    by (pointwise nat_eq k.items x.0.items) (pointwise nat_eq (folded h) (folded x.1.handle)) (rw (same, keyed.0) refl) none
+    (inserted_last h k u xs same keyed.2)
   where
     by : (b t : Bool) → b ≡ t → cond t (Some x.1) (user_of h (values_of xs)) ≡ None
         → (user_of h (values_of xs) ≡ None → insert_entry (λ a b. pointwise nat_eq a.items b.items) xs k u ≡ xs ++ (k, u) ∷ [])

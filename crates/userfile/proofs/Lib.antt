@@ -2,8 +2,8 @@ pub mod TextLemmas
 pub mod ListLemmas
 pub mod EntryLemmas
 pub mod EditLemmas
-pub mod MatchLemmas
-pub mod PersonLemmas
+pub mod MaskLemmas
+pub mod SearchLemmas
 pub mod GatherLemmas
 pub mod DeciderLemmas
 pub mod RepeatLemmas

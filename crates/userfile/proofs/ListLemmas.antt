@@ -1,7 +1,7 @@
 -- Lists with one element in the place of another.
-use Rattle.std.proofs.Common.{◌≡◌, ℕ, ◌+◌, ◌<◌, zero, suc, length, Bool, true, false, cond, List, [], ◌∷◌, ◌++◌, refl, sym, ap, ◌∙◌, arith, Some, None, Option, set}
+use Rattle.std.proofs.Common.{◌≡◌, ℕ, ◌+◌, ◌<◌, suc, length, Bool, true, false, cond, List, [], ◌∷◌, ◌++◌, refl, sym, ap, ◌∙◌, arith, Some, None}
+use Rattle.std.proofs.Common.{set}
 use Rattle.std.specs.List.{position_from}
-use Rattle.std.specs.Map.{values_of}
 use Rattle.userfile.specs.declared.channel_flags.ChannelFlags.{ChannelFlags}
 use Rattle.userfile.specs.Held.{with_entry}
 use Rattle.rfccase.specs.Casemapping.{is_same}
@@ -12,11 +12,13 @@ test entry e = is_same entry.channel e.channel
 -- what a search through these entries for this channel says of the entry's channel
 pub found_at : (entry : ChannelFlags) (channel : List ℕ) (seen es : List ChannelFlags) (j : ℕ) → seen ≡ es → channel ≡ entry.channel
     → Some j ≡ position_from (λ e. is_same channel e.channel) 0 seen → position_from (test entry) 0 es ≡ Some j
-found_at entry channel seen es j same name found = sym (found ∙ ap (λ xs. position_from (λ e. is_same channel e.channel) 0 xs) same ∙ ap (λ (c : List ℕ). position_from (λ e. is_same c e.channel) 0 es) name)
+found_at entry channel seen es j same name found = sym
+    (found ∙ ap (λ xs. position_from (λ e. is_same channel e.channel) 0 xs) same ∙ ap (λ (c : List ℕ). position_from (λ e. is_same c e.channel) 0 es) name)
 
 pub absent_from : (entry : ChannelFlags) (channel : List ℕ) (seen es : List ChannelFlags) → seen ≡ es → channel ≡ entry.channel
     → None ≡ position_from (λ e. is_same channel e.channel) 0 seen → position_from (test entry) 0 es ≡ None
-absent_from entry channel seen es same name found = sym (found ∙ ap (λ xs. position_from (λ e. is_same channel e.channel) 0 xs) same ∙ ap (λ (c : List ℕ). position_from (λ e. is_same c e.channel) 0 es) name)
+absent_from entry channel seen es same name found = sym
+    (found ∙ ap (λ xs. position_from (λ e. is_same channel e.channel) 0 xs) same ∙ ap (λ (c : List ℕ). position_from (λ e. is_same c e.channel) 0 es) name)
 
 -- where the channel has an entry, the new one takes its place
 pub with_entry-found : (entry : ChannelFlags) (es : List ChannelFlags) (i j : ℕ) → position_from (test entry) i es ≡ Some j
@@ -31,7 +33,8 @@ with_entry-found entry (e ∷ es) i j found = by (test entry e) found (with_entr
     by false later rest = let r = rest later in (suc r.0, (omega (arith, r.1.0), (omega (arith, r.1.1.0), ap (λ xs. e ∷ xs) r.1.1.1)))
 
 -- where it has none, the new one goes last
-pub with_entry-absent : (entry : ChannelFlags) (es : List ChannelFlags) (i : ℕ) → position_from (test entry) i es ≡ None → es ++ entry ∷ [] ≡ with_entry entry es
+pub with_entry-absent : (entry : ChannelFlags) (es : List ChannelFlags) (i : ℕ) → position_from (test entry) i es ≡ None
+    → es ++ entry ∷ [] ≡ with_entry entry es
 with_entry-absent entry [] i absent = refl
 with_entry-absent entry (e ∷ es) i absent = by (test entry e) absent (with_entry-absent entry es (i + 1))
   where

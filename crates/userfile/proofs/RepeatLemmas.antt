@@ -1,5 +1,6 @@
 -- Lists in which nothing is there twice, and tests of each element, after one is added or some are taken out.
-use Rattle.std.proofs.Common.{◌≡◌, ℕ, suc, ◌≤◌, Bool, true, false, cond, ◌&&◌, ◌||◌, List, [], ◌∷◌, ◌++◌, length, filter, find, Option, Some, None, is_some, refl, sym, ◌∙◌, ap, arith}
+use Rattle.std.proofs.Common.{◌≡◌, suc, ◌≤◌, Bool, true, false, cond, ◌&&◌, ◌||◌, List, [], ◌∷◌, ◌++◌, length, filter, find, Some, is_some}
+use Rattle.std.proofs.Common.{refl, ◌∙◌, arith}
 use Rattle.std.specs.List.{list_any, list_all}
 use Rattle.userfile.specs.Together.{repeats}
 
@@ -68,11 +69,13 @@ pub repeats-filter : {X : Type 0} (same : X → X → Bool) (p : X → Bool) (xs
 repeats-filter same p [] r = r
 repeats-filter same p (x ∷ xs) r = by (p x) (list_any-filter (same x) p xs (or_false r).0) (repeats-filter same p xs (or_false r).1)
   where
-    by : (b : Bool) → list_any (same x) (filter p xs) ≡ false → repeats same (filter p xs) ≡ false → repeats same (cond b (x ∷ filter p xs) (filter p xs)) ≡ false
+    by : (b : Bool) → list_any (same x) (filter p xs) ≡ false → repeats same (filter p xs) ≡ false
+        → repeats same (cond b (x ∷ filter p xs) (filter p xs)) ≡ false
     by true f rest = or_both f rest
     by false f rest = rest
 
-pub repeats-push : {X : Type 0} (same : X → X → Bool) → ((x y : X) → same x y ≡ same y x) → (xs : List X) (y : X) → repeats same xs ≡ false → list_any (same y) xs ≡ false → repeats same (xs ++ y ∷ []) ≡ false
+pub repeats-push : {X : Type 0} (same : X → X → Bool) → ((x y : X) → same x y ≡ same y x) → (xs : List X) (y : X) → repeats same xs ≡ false
+    → list_any (same y) xs ≡ false → repeats same (xs ++ y ∷ []) ≡ false
 repeats-push same symmetric [] y r h = refl
 repeats-push same symmetric (x ∷ xs) y r h =
     or_both (list_any-push (same x) xs y (or_false r).0 (symmetric x y ∙ (or_false h).0)) (repeats-push same symmetric xs y (or_false r).1 (or_false h).1)

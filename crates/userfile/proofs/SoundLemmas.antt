@@ -1,23 +1,28 @@
 -- A change that isn't refused leaves records that stand together and are of good shape.
-use Rattle.std.proofs.Common.{◌≡◌, ℕ, suc, ◌+◌, ◌<◌, ◌≤◌, ◌==◌, nat_eq, nat_lt, Bool, true, false, cond, not, ◌&&◌, ◌||◌, if◌then◌else◌, List, [], ◌∷◌, ◌++◌, length, filter, find, Option, None, Some, is_some, Result, Ok, Err, OnOk, OnErr, refl, ap, sym, subst, ◌∙◌, arith, ltb-false, ltb-true, le-ltb, length-append}
+use Rattle.std.proofs.Common.{◌≡◌, ℕ, suc, ◌+◌, ◌≤◌, ◌==◌, nat_eq, nat_lt, Bool, true, false, cond, not, ◌&&◌, ◌||◌, List, [], ◌∷◌}
+use Rattle.std.proofs.Common.{◌++◌, length, filter, Option, None, Some, is_some, Result, Ok, Err, OnOk, OnErr, refl, ap, sym, subst, ◌∙◌, arith}
+use Rattle.std.proofs.Common.{ltb-false, ltb-true, le-ltb, length-append}
 use Rattle.std.specs.List.{list_any, list_all}
 use Rattle.std.specs.Cmp.Lexicographic.{pointwise}
 use Rattle.rfccase.specs.Casemapping.{folded, is_same}
 use Rattle.rfccase.specs.Channels.{is_channel_name}
 use Rattle.userfile.specs.Records.{Records}
-use Rattle.userfile.specs.Shapes.{is_handle, is_ban_channel, is_hostmask, is_comment}
-use Rattle.userfile.specs.Apply.{fault_if, fault_unless, first_of_two, bad_shape, of_user, add_mask_fault, del_mask_fault, set_channel_fault, not_taken, refusal, new_user, with_mask, without_mask, with_global, set_channel, with_channel, with_bot, user_edited, new_ban, changed}
+use Rattle.userfile.specs.Shapes.{is_handle, is_ban_channel, is_comment}
+use Rattle.userfile.specs.Apply.{fault_if, fault_unless, first_of_two, bad_shape, of_user, add_mask_fault, set_channel_fault, not_taken}
+use Rattle.userfile.specs.Apply.{refusal, new_user, with_mask, without_mask, with_global, set_channel, with_channel, with_bot, user_edited, new_ban}
+use Rattle.userfile.specs.Apply.{changed}
 use Rattle.userfile.specs.Held.{user_of, with_user, entry_of, has_entry, entries_without, with_entry, is_ban}
-use Rattle.userfile.specs.Together.{repeats, repeats_channel, is_entry, is_user, is_good_ban, repeats_handle, repeats_mask, repeats_ban, is_over, records_fault, AreSound}
+use Rattle.userfile.specs.Together.{repeats_channel, is_entry, is_user, is_good_ban, repeats_handle, repeats_mask, repeats_ban, is_over}
+use Rattle.userfile.specs.Together.{records_fault, AreSound}
 use Rattle.userfile.specs.declared.user.User.{User}
 use Rattle.userfile.specs.declared.channel_flags.ChannelFlags.{ChannelFlags}
 use Rattle.userfile.specs.declared.ban.Ban.{Ban}
 use Rattle.userfile.specs.declared.change.Change.{Change}
 use Rattle.userfile.specs.declared.change.Change.TheVariants.{AddUser, DelUser, AddHost, DelHost, SetGlobal, SetChan, SetBot, AddBan, DelBan}
 use Rattle.userfile.specs.declared.error.ChangeFault.{ChangeFault}
-use Rattle.userfile.specs.declared.error.ChangeFault.TheVariants.{BadHandle, BadMask, BadChannel, BadComment, UserExists, MaskExists, BanExists, Full}
 use Rattle.userfile.proofs.TextLemmas.{is_same-sym, is_same-Decides}
-use Rattle.userfile.proofs.RepeatLemmas.{or_false, or_both, and_true, and_both, list_any-filter, list_all-filter, list_all-push, length-filter-le, is_some-find, repeats-filter, repeats-push}
+use Rattle.userfile.proofs.RepeatLemmas.{or_false, or_both, and_true, and_both, list_all-filter, list_all-push, length-filter-le}
+use Rattle.userfile.proofs.RepeatLemmas.{is_some-find, repeats-filter, repeats-push}
 
 -- ---- refusals that don't hold
 
@@ -49,17 +54,21 @@ is_same-like a b c e = ap (λ x. pointwise nat_eq x (folded c)) ((is_same-Decide
 names : List ℕ → List ChannelFlags → Bool
 names channel es = list_any (λ e. is_same channel e.channel) es
 
-names-like : (a b : List ℕ) (es : List ChannelFlags) → is_same a b ≡ true → list_any (λ (e : ChannelFlags). is_same a e.channel) es ≡ list_any (λ (e : ChannelFlags). is_same b e.channel) es
+names-like : (a b : List ℕ) (es : List ChannelFlags) → is_same a b ≡ true
+    → list_any (λ (e : ChannelFlags). is_same a e.channel) es ≡ list_any (λ (e : ChannelFlags). is_same b e.channel) es
 names-like a b [] e = refl
 names-like a b (x ∷ es) e =
-    ap (λ t. t || list_any (λ (e : ChannelFlags). is_same a e.channel) es) (is_same-like a b x.channel e) ∙ ap (λ t. is_same b x.channel || t) (names-like a b es e)
+    ap (λ t. t || list_any (λ (e : ChannelFlags). is_same a e.channel) es) (is_same-like a b x.channel e)
+    ∙ ap (λ t. is_same b x.channel || t) (names-like a b es e)
 
-names-with_entry : (k : List ℕ) (entry : ChannelFlags) (es : List ChannelFlags) → is_same k entry.channel ≡ false → list_any (λ (e : ChannelFlags). is_same k e.channel) es ≡ false
+names-with_entry : (k : List ℕ) (entry : ChannelFlags) (es : List ChannelFlags) → is_same k entry.channel ≡ false
+    → list_any (λ (e : ChannelFlags). is_same k e.channel) es ≡ false
     → list_any (λ (e : ChannelFlags). is_same k e.channel) (with_entry entry es) ≡ false
 names-with_entry k entry [] other h = or_both other refl
 names-with_entry k entry (x ∷ es) other h = by (is_same entry.channel x.channel) (names-with_entry k entry es other (or_false h).1)
   where
-    by : (b : Bool) → list_any (λ (e : ChannelFlags). is_same k e.channel) (with_entry entry es) ≡ false → list_any (λ (e : ChannelFlags). is_same k e.channel) (cond b (entry ∷ es) (x ∷ with_entry entry es)) ≡ false
+    by : (b : Bool) → list_any (λ (e : ChannelFlags). is_same k e.channel) (with_entry entry es) ≡ false
+        → list_any (λ (e : ChannelFlags). is_same k e.channel) (cond b (entry ∷ es) (x ∷ with_entry entry es)) ≡ false
     by true r = or_both other (or_false h).1
     by false r = or_both (or_false h).0 r
 
@@ -67,11 +76,13 @@ repeats-with_entry : (entry : ChannelFlags) (es : List ChannelFlags) → repeats
 repeats-with_entry entry [] r = refl
 repeats-with_entry entry (x ∷ es) r = by (is_same entry.channel x.channel) refl (repeats-with_entry entry es (or_false r).1)
   where
-    by : (b : Bool) → is_same entry.channel x.channel ≡ b → repeats_channel (with_entry entry es) ≡ false → repeats_channel (cond b (entry ∷ es) (x ∷ with_entry entry es)) ≡ false
+    by : (b : Bool) → is_same entry.channel x.channel ≡ b → repeats_channel (with_entry entry es) ≡ false
+        → repeats_channel (cond b (entry ∷ es) (x ∷ with_entry entry es)) ≡ false
     by true e rest = or_both (names-like entry.channel x.channel es e ∙ (or_false r).0) (or_false r).1
     by false e rest = or_both (names-with_entry x.channel entry es (is_same-sym x.channel entry.channel ∙ e) (or_false r).0) rest
 
-list_all-with_entry : (entry : ChannelFlags) (es : List ChannelFlags) → is_entry entry ≡ true → list_all is_entry es ≡ true → list_all is_entry (with_entry entry es) ≡ true
+list_all-with_entry : (entry : ChannelFlags) (es : List ChannelFlags) → is_entry entry ≡ true → list_all is_entry es ≡ true
+    → list_all is_entry (with_entry entry es) ≡ true
 list_all-with_entry entry [] g e = and_both g refl
 list_all-with_entry entry (x ∷ es) g e = by (is_same entry.channel x.channel) (list_all-with_entry entry es g (and_true e).1)
   where
@@ -80,12 +91,14 @@ list_all-with_entry entry (x ∷ es) g e = by (is_same entry.channel x.channel) 
     by false r = and_both (and_true e).0 r
 
 -- an entry that is there is replaced, so that there are no more; else there is one more
-length-with_entry : (entry : ChannelFlags) (es : List ChannelFlags) → (has_entry entry.channel es ≡ true → length (with_entry entry es) ≡ length es) × (length (with_entry entry es) ≤ length es + 1)
+length-with_entry : (entry : ChannelFlags) (es : List ChannelFlags)
+    → (has_entry entry.channel es ≡ true → length (with_entry entry es) ≡ length es) × (length (with_entry entry es) ≤ length es + 1)
 length-with_entry entry [] = (λ e. cc, omega arith)
 length-with_entry entry (x ∷ es) = by (is_same entry.channel x.channel) (length-with_entry entry es)
   where
     by : (b : Bool) → (has_entry entry.channel es ≡ true → length (with_entry entry es) ≡ length es) × (length (with_entry entry es) ≤ length es + 1)
-        → (is_some (cond b (Some x) (entry_of entry.channel es)) ≡ true → length (cond b (entry ∷ es) (x ∷ with_entry entry es)) ≡ suc (length es)) × (length (cond b (entry ∷ es) (x ∷ with_entry entry es)) ≤ suc (length es) + 1)
+        → (is_some (cond b (Some x) (entry_of entry.channel es)) ≡ true → length (cond b (entry ∷ es) (x ∷ with_entry entry es)) ≡ suc (length es))
+        × (length (cond b (entry ∷ es) (x ∷ with_entry entry es)) ≤ suc (length es) + 1)
     by true r = (λ e. refl, omega arith)
     by false r = (λ e. ap suc (r.0 e), omega (arith, r.1))
 
@@ -94,17 +107,20 @@ record AreGoodEntries (es : List ChannelFlags) : Type 0 where
   apart : repeats_channel es ≡ false
   within : length es ≤ 16
 
-entries-set_channel : (channel : List ℕ) (flags : ℕ) (es : List ChannelFlags) → is_channel_name channel ≡ true → (flags == 0 || has_entry channel es || nat_lt (length es) 16) ≡ true → AreGoodEntries es → AreGoodEntries (set_channel channel flags es)
+entries-set_channel : (channel : List ℕ) (flags : ℕ) (es : List ChannelFlags) → is_channel_name channel ≡ true
+    → (flags == 0 || has_entry channel es || nat_lt (length es) 16) ≡ true → AreGoodEntries es → AreGoodEntries (set_channel channel flags es)
 entries-set_channel channel flags es named room g = by (flags == 0) refl room
   where
     entry : ChannelFlags
     entry = record { channel = channel; flags = flags }
 
-    more : (b : Bool) → has_entry channel es ≡ b → (b || nat_lt (length es) 16) ≡ true → length (with_entry (record { channel = channel; flags = flags }) es) ≤ 16
+    more : (b : Bool) → has_entry channel es ≡ b → (b || nat_lt (length es) 16) ≡ true
+        → length (with_entry (record { channel = channel; flags = flags }) es) ≤ 16
     more true e r = omega (arith, (length-with_entry (record { channel = channel; flags = flags }) es).0 e, g.within)
     more false e r = omega (arith, (length-with_entry (record { channel = channel; flags = flags }) es).1, ltb-true (length es) 16 r)
 
-    by : (b : Bool) → (flags == 0) ≡ b → (b || has_entry channel es || nat_lt (length es) 16) ≡ true → AreGoodEntries (cond b (entries_without channel es) (with_entry (record { channel = channel; flags = flags }) es))
+    by : (b : Bool) → (flags == 0) ≡ b → (b || has_entry channel es || nat_lt (length es) 16) ≡ true
+        → AreGoodEntries (cond b (entries_without channel es) (with_entry (record { channel = channel; flags = flags }) es))
     by true e r = record {
       good = list_all-filter is_entry (λ x. not (is_same channel x.channel)) es g.good;
       apart = repeats-filter (λ (a b : ChannelFlags). is_same a.channel b.channel) (λ x. not (is_same channel x.channel)) es g.apart;
@@ -128,7 +144,12 @@ sound_user : (u : User) → is_user u ≡ true → repeats_mask u.masks ≡ fals
 unfolding is_user
 sound_user u good apart over = record {
   handle = (and_true (and_true good).0).0;
-  channels = record { good = (and_true (and_true good).0).1; apart = not_true (and_true good).1; within = ltb-false 16 (length u.channels) (or_false over).1 };
+  channels = record {
+    good = (and_true (and_true good).0).1;
+    apart = not_true (and_true good).1;
+    within = ltb-false 16 (length u.channels)
+        (or_false over).1;
+  };
   apart = apart;
   within = ltb-false 16 (length u.masks) (or_false over).0;
 }
@@ -147,7 +168,13 @@ sound-with_mask : (mask : List ℕ) (u : User) → add_mask_fault mask u ≡ Non
 sound-with_mask mask u free s =
     let n = first_none free in
     let room = ltb-true (length u.masks) 16 (unless_none _ n.1) in
-    record { handle = s.handle; channels = s.channels; apart = repeats-push is_same is_same-sym u.masks mask s.apart (if_none _ n.0); within = omega (arith, room, length-append u.masks (mask ∷ [])) }
+    record {
+      handle = s.handle;
+      channels = s.channels;
+      apart = repeats-push is_same is_same-sym u.masks mask s.apart (if_none _ n.0);
+      within = omega
+          (arith, room, length-append u.masks (mask ∷ []));
+    }
 
 sound-without_mask : (mask : List ℕ) (u : User) → IsSoundUser u → IsSoundUser (without_mask mask u)
 sound-without_mask mask u s = record {
@@ -160,8 +187,15 @@ sound-without_mask mask u s = record {
 sound-with_global : (flags : ℕ) (u : User) → IsSoundUser u → IsSoundUser (with_global flags u)
 sound-with_global flags u s = record { handle = s.handle; channels = s.channels; apart = s.apart; within = s.within }
 
-sound-with_channel : (channel : List ℕ) (flags : ℕ) (u : User) → is_channel_name channel ≡ true → set_channel_fault channel flags u ≡ None → IsSoundUser u → IsSoundUser (with_channel channel flags u)
-sound-with_channel channel flags u named free s = record { handle = s.handle; channels = entries-set_channel channel flags u.channels named (unless_none _ free) s.channels; apart = s.apart; within = s.within }
+sound-with_channel : (channel : List ℕ) (flags : ℕ) (u : User) → is_channel_name channel ≡ true → set_channel_fault channel flags u ≡ None → IsSoundUser u
+    → IsSoundUser (with_channel channel flags u)
+sound-with_channel channel flags u named free s = record {
+  handle = s.handle;
+  channels = entries-set_channel channel flags u.channels named
+      (unless_none _ free) s.channels;
+  apart = s.apart;
+  within = s.within;
+}
 
 sound-with_bot : (flags : ℕ) (u : User) → IsSoundUser u → IsSoundUser (with_bot flags u)
 sound-with_bot flags u s = record { handle = s.handle; channels = s.channels; apart = s.apart; within = s.within }
@@ -172,7 +206,8 @@ abbrev AreSoundUsers : List User → Type 0
 AreSoundUsers [] = Unit {0}
 AreSoundUsers (u ∷ us) = IsSoundUser u × AreSoundUsers us
 
-users_of : (us : List User) → list_all is_user us ≡ true → list_any (λ (u : User). repeats_mask u.masks) us ≡ false → list_any is_over us ≡ false → AreSoundUsers us
+users_of : (us : List User) → list_all is_user us ≡ true → list_any (λ (u : User). repeats_mask u.masks) us ≡ false → list_any is_over us ≡ false
+    → AreSoundUsers us
 users_of [] good apart within = tt
 users_of (u ∷ us) good apart within =
     (sound_user u (and_true good).0 (or_false apart).0 (or_false within).0, users_of us (and_true good).1 (or_false apart).1 (or_false within).1)
@@ -202,12 +237,14 @@ users-filter p (u ∷ us) s = by (p u) (users-filter p us s.1)
     by false r = r
 
 module _ (handle : List ℕ) (edit : User → User) where
-  users-with_user : (us : List User) → ((u : User) → user_of handle us ≡ Some u → IsSoundUser u → IsSoundUser (edit u)) → AreSoundUsers us → AreSoundUsers (with_user handle edit us)
+  users-with_user : (us : List User) → ((u : User) → user_of handle us ≡ Some u → IsSoundUser u → IsSoundUser (edit u)) → AreSoundUsers us
+      → AreSoundUsers (with_user handle edit us)
   users-with_user [] f s = tt
   users-with_user (x ∷ us) f s = by (is_same handle x.handle) f (λ g. users-with_user us g s.1)
     where
       by : (b : Bool) → ((u : User) → cond b (Some x) (user_of handle us) ≡ Some u → IsSoundUser u → IsSoundUser (edit u))
-          → (((u : User) → user_of handle us ≡ Some u → IsSoundUser u → IsSoundUser (edit u)) → AreSoundUsers (with_user handle edit us)) → AreSoundUsers (cond b (edit x ∷ us) (x ∷ with_user handle edit us))
+          → (((u : User) → user_of handle us ≡ Some u → IsSoundUser u → IsSoundUser (edit u)) → AreSoundUsers (with_user handle edit us))
+          → AreSoundUsers (cond b (edit x ∷ us) (x ∷ with_user handle edit us))
       by true f r = (f x refl s.0, s.1)
       by false f r = (s.0, r f)
 
@@ -219,12 +256,14 @@ module _ (handle : List ℕ) (edit : User → User) where
       by true r = refl
       by false r = ap suc r
 
-  named-with_user : ((u : User) → (edit u).handle ≡ u.handle) → (k : List ℕ) (us : List User) → list_any (λ (u : User). is_same k u.handle) (with_user handle edit us) ≡ list_any (λ (u : User). is_same k u.handle) us
+  named-with_user : ((u : User) → (edit u).handle ≡ u.handle) → (k : List ℕ) (us : List User)
+      → list_any (λ (u : User). is_same k u.handle) (with_user handle edit us) ≡ list_any (λ (u : User). is_same k u.handle) us
   named-with_user keeps k [] = refl
   named-with_user keeps k (x ∷ us) = by (is_same handle x.handle) (named-with_user keeps k us)
     where
       by : (b : Bool) → list_any (λ (u : User). is_same k u.handle) (with_user handle edit us) ≡ list_any (λ (u : User). is_same k u.handle) us
-          → list_any (λ (u : User). is_same k u.handle) (cond b (edit x ∷ us) (x ∷ with_user handle edit us)) ≡ list_any (λ (u : User). is_same k u.handle) (x ∷ us)
+          → list_any (λ (u : User). is_same k u.handle) (cond b (edit x ∷ us) (x ∷ with_user handle edit us))
+          ≡ list_any (λ (u : User). is_same k u.handle) (x ∷ us)
       by true r = ap (λ h. is_same k h || list_any (λ (u : User). is_same k u.handle) us) (keeps x)
       by false r = ap (λ b. is_same k x.handle || b) r
 
@@ -232,9 +271,11 @@ module _ (handle : List ℕ) (edit : User → User) where
   repeats-with_user keeps [] = refl
   repeats-with_user keeps (x ∷ us) = by (is_same handle x.handle) (repeats-with_user keeps us)
     where
-      by : (b : Bool) → repeats_handle (with_user handle edit us) ≡ repeats_handle us → repeats_handle (cond b (edit x ∷ us) (x ∷ with_user handle edit us)) ≡ repeats_handle (x ∷ us)
+      by : (b : Bool) → repeats_handle (with_user handle edit us) ≡ repeats_handle us
+          → repeats_handle (cond b (edit x ∷ us) (x ∷ with_user handle edit us)) ≡ repeats_handle (x ∷ us)
       by true r = ap (λ h. list_any (λ (u : User). is_same h u.handle) us || repeats_handle us) (keeps x)
-      by false r = ap (λ b. b || repeats_handle (with_user handle edit us)) (named-with_user keeps x.handle us) ∙ ap (λ b. list_any (λ (u : User). is_same x.handle u.handle) us || b) r
+      by false r = ap (λ b. b || repeats_handle (with_user handle edit us)) (named-with_user keeps x.handle us)
+          ∙ ap (λ b. list_any (λ (u : User). is_same x.handle u.handle) us || b) r
 
 -- ---- all records
 
@@ -263,12 +304,14 @@ parts_of us bs users bans together =
     }
 
 fault_of : (us : List User) (bs : List Ban) → Parts us bs → records_fault us bs ≡ None
-fault_of us bs p = rw (p.handles, all_apart us p.users, p.apart, le-ltb 500 (length us) p.few_users, le-ltb 200 (length bs) p.few_bans, all_within us p.users) refl
+fault_of us bs p = rw
+    (p.handles, all_apart us p.users, p.apart, le-ltb 500 (length us) p.few_users, le-ltb 200 (length bs) p.few_bans, all_within us p.users) refl
 
 sound_of : (r : Records) → Parts r.users r.bans → AreSound r
 sound_of r p = record { users = all_good r.users p.users; bans = p.bans; together = fault_of r.users r.bans p }
 
-edit_keeps : (r : Records) (handle : List ℕ) (edit : User → User) → ((u : User) → (edit u).handle ≡ u.handle) → Parts r.users r.bans → ((u : User) → user_of handle r.users ≡ Some u → IsSoundUser u → IsSoundUser (edit u))
+edit_keeps : (r : Records) (handle : List ℕ) (edit : User → User) → ((u : User) → (edit u).handle ≡ u.handle) → Parts r.users r.bans
+    → ((u : User) → user_of handle r.users ≡ Some u → IsSoundUser u → IsSoundUser (edit u))
     → Parts (user_edited r handle edit).users (user_edited r handle edit).bans
 edit_keeps r handle edit keeps p f = record {
   users = users-with_user handle edit r.users f p.users;
@@ -284,7 +327,8 @@ unfolding is_good_ban
 ban_parts b creator channel comment = and_both (and_both creator channel) comment
 
 bans-sym : (a b : Ban) → is_ban a.channel a.mask b ≡ is_ban b.channel b.mask a
-bans-sym a b = ap (λ t. t && is_same a.mask b.mask) (is_same-sym a.channel b.channel) ∙ ap (λ t. is_same b.channel a.channel && t) (is_same-sym a.mask b.mask)
+bans-sym a b = ap (λ t. t && is_same a.mask b.mask) (is_same-sym a.channel b.channel)
+    ∙ ap (λ t. is_same b.channel a.channel && t) (is_same-sym a.mask b.mask)
 
 keeps_parts : (r : Records) (c : Change) → Parts r.users r.bans → bad_shape c ≡ None → not_taken r c ≡ None → Parts (changed r c).users (changed r c).bans
 keeps_parts r (AddUser h) p shape taken =
@@ -292,7 +336,8 @@ keeps_parts r (AddUser h) p shape taken =
     let room = ltb-true (length r.users) 500 (unless_none _ n.1) in
     record {
       users = users-push r.users (new_user h) p.users (sound-new_user h (unless_none _ shape));
-      handles = repeats-push (λ (a b : User). is_same a.handle b.handle) (λ a b. is_same-sym a.handle b.handle) r.users (new_user h) p.handles (sym (is_some-find (λ (u : User). is_same h u.handle) r.users) ∙ if_none _ n.0);
+      handles = repeats-push (λ (a b : User). is_same a.handle b.handle) (λ a b. is_same-sym a.handle b.handle) r.users (new_user h) p.handles
+          (sym (is_some-find (λ (u : User). is_same h u.handle) r.users) ∙ if_none _ n.0);
       few_users = omega (arith, room, length-append r.users (new_user h ∷ []));
       bans = p.bans;
       apart = p.apart;
@@ -311,7 +356,8 @@ keeps_parts r (DelUser h) p shape taken =
 keeps_parts r (AddHost h m) p shape taken = edit_keeps r h (with_mask m) (λ u. refl) p (λ u at s. sound-with_mask m u (of_user_none _ _ taken u at) s)
 keeps_parts r (DelHost h m) p shape taken = edit_keeps r h (without_mask m) (λ u. refl) p (λ u at s. sound-without_mask m u s)
 keeps_parts r (SetGlobal h f) p shape taken = edit_keeps r h (with_global f) (λ u. refl) p (λ u at s. sound-with_global f u s)
-keeps_parts r (SetChan h ch f) p shape taken = edit_keeps r h (with_channel ch f) (λ u. refl) p (λ u at s. sound-with_channel ch f u (unless_none _ (first_none shape).1) (of_user_none _ _ taken u at) s)
+keeps_parts r (SetChan h ch f) p shape taken = edit_keeps r h (with_channel ch f) (λ u. refl) p
+    (λ u at s. sound-with_channel ch f u (unless_none _ (first_none shape).1) (of_user_none _ _ taken u at) s)
 keeps_parts r (SetBot h f) p shape taken = edit_keeps r h (with_bot f) (λ u. refl) p (λ u at s. sound-with_bot f u s)
 keeps_parts r (AddBan ch m cr ex co) p shape taken =
     let a = first_none shape in
@@ -340,9 +386,11 @@ keeps_parts r (DelBan ch m) p shape taken =
     }
 
 pub changed-sound : (r : Records) (c : Change) → AreSound r → refusal r c ≡ None → AreSound (changed r c)
-changed-sound r c s free = sound_of (changed r c) (keeps_parts r c (parts_of r.users r.bans s.users s.bans s.together) (first_none free).0 (first_none free).1)
+changed-sound r c s free = sound_of (changed r c)
+    (keeps_parts r c (parts_of r.users r.bans s.users s.bans s.together) (first_none free).0 (first_none free).1)
 
 -- and so is what making a change leaves, whatever it answers
-pub made-sound : {E : Type 0} (result : Result (Unit {0}) E) (old new : Records) (c : Change) → AreSound old → refusal old c ≡ None → OnOk result (new ≡ changed old c) → OnErr result (new ≡ old) → AreSound new
+pub made-sound : {E : Type 0} (result : Result (Unit {0}) E) (old new : Records) (c : Change) → AreSound old → refusal old c ≡ None
+    → OnOk result (new ≡ changed old c) → OnErr result (new ≡ old) → AreSound new
 made-sound (Ok _) old new c s free ok err = subst AreSound (sym ok) (changed-sound old c s free)
 made-sound (Err _) old new c s free ok err = subst AreSound (sym err) s

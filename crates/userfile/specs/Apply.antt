@@ -1,19 +1,22 @@
 -- What a change makes of the records, and when it is refused. The changes are those of Eggdrop's .+user, .-user, .+host,
 -- .-host, .chattr, .botattr, .+ban and .-ban; the order of the refusals is our own choice.
-use Rattle.std.specs.Prelude.{◌≡◌, ℕ, List, [], ◌∷◌, ◌++◌, Bool, true, false, not, ◌||◌, nat_lt, ◌==◌, length, if◌then◌else◌, Option, None, Some, Result, Ok, Err}
+use Rattle.std.specs.Prelude.{◌≡◌, ℕ, List, [], ◌∷◌, ◌++◌, Bool, true, false, not, ◌||◌, nat_lt, ◌==◌, length, if◌then◌else◌, Option, None, Some, Result}
+use Rattle.std.specs.Prelude.{Ok, Err}
 use Rattle.bytetext.specs.declared.failure.Failure.{Failure}
 use Rattle.bytetext.specs.declared.failure.Failure.TheVariants.{Refused, NoMemory}
 use Rattle.rfccase.specs.Channels.{is_channel_name}
 use Rattle.userfile.specs.Shapes.{is_handle, is_ban_channel, is_hostmask, is_comment}
 use Rattle.userfile.specs.Records.{Records}
-use Rattle.userfile.specs.Held.{user_of, has_user, users_without, with_user, has_mask, masks_without, has_entry, entries_without, with_entry, has_ban, bans_without}
+use Rattle.userfile.specs.Held.{user_of, has_user, users_without, with_user, has_mask, masks_without, has_entry, entries_without, with_entry, has_ban}
+use Rattle.userfile.specs.Held.{bans_without}
 use Rattle.userfile.specs.declared.user.User.{User}
 use Rattle.userfile.specs.declared.channel_flags.ChannelFlags.{ChannelFlags}
 use Rattle.userfile.specs.declared.ban.Ban.{Ban}
 use Rattle.userfile.specs.declared.change.Change.{Change}
 use Rattle.userfile.specs.declared.change.Change.TheVariants.{AddUser, DelUser, AddHost, DelHost, SetGlobal, SetChan, SetBot, AddBan, DelBan}
 use Rattle.userfile.specs.declared.error.ChangeFault.{ChangeFault}
-use Rattle.userfile.specs.declared.error.ChangeFault.TheVariants.{BadHandle, BadMask, BadChannel, BadComment, NoSuchUser, UserExists, MaskExists, NoSuchMask, BanExists, NoSuchBan, Full}
+use Rattle.userfile.specs.declared.error.ChangeFault.TheVariants.{BadHandle, BadMask, BadChannel, BadComment, NoSuchUser, UserExists, MaskExists}
+use Rattle.userfile.specs.declared.error.ChangeFault.TheVariants.{NoSuchMask, BanExists, NoSuchBan, Full}
 use Rattle.userfile.specs.declared.limits.TheConstants.{MAX_USERS, MAX_BANS, MAX_MASKS, MAX_CHANNELS}
 
 -- ---- refusals

@@ -8,5 +8,5 @@ pub mod Edits
 pub mod Versions
 pub mod Persons
 pub mod Keys
-pub mod Best
 pub mod Together
+pub mod Search

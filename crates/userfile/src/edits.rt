@@ -13,7 +13,6 @@ use crate::user::User;
 use bytetext::{Failure, NoMemory, Text};
 use flagexpr::Flags;
 use std::alloc::Global;
-use wildmask::MaskError;
 
 // Why a user can't be given a mask.
 pub(crate) fn add_mask_fault(mask: &[u8], user: &User) -> Option<ChangeFault>
@@ -83,7 +82,7 @@ pub(crate) fn hostmask_of(alloc: Global, mask: &Text) -> Result<Hostmask, Change
 {
     match Hostmask::new(alloc, mask.as_bytes()) {
         Ok(made) => Ok(made),
-        Err(MaskError::NoMemory) => Err(Failure::NoMemory),
-        Err(MaskError::Refused(_)) => Err(Failure::Refused(ChangeFault::BadMask)),
+        Err(Failure::NoMemory) => Err(Failure::NoMemory),
+        Err(Failure::Refused(_)) => Err(Failure::Refused(ChangeFault::BadMask)),
     }
 }

@@ -1,76 +1,103 @@
-// Who a person is.
-ghost use Rattle.std.specs.Prelude.{◌≡◌, ◌+◌, ◌<◌, List, [], ◌∷◌, ◌++◌, length, drop};
+// Who a person is: the best claim of the hostmasks that match.
+ghost use Rattle.std.specs.Prelude.{◌≡◌, None, slice_get};
 ghost use Rattle.std.specs.Option.{option_copied};
-ghost use Rattle.userfile.specs.Persons.{Claim, claims_of, claims, decider, user_for};
-ghost use Rattle.userfile.specs.Best.{best_list};
 ghost use Rattle.indexmap.specs.IndexMap.{values};
+ghost use Rattle.userfile.specs.Persons.{user_for};
+ghost use Rattle.userfile.specs.Search.{is_better, after_mask, after_masks, after_user, after_users, user_at};
 
 use crate::hostmask::Hostmask;
 use crate::user::User;
 use indexmap::IndexMap;
 
+// The best claim to be a person: how many literals the mask has, and the place of its user.
+#[derive(Clone, Copy)]
+pub(crate) struct Winner {
+    pub(crate) literals: u8,
+    pub(crate) place: usize,
+}
+
 // The user whose hostmask decides who a person is.
 pub(crate) fn user_for<'a>(users: &'a IndexMap<Vec<u8>, User>, who: &[u8]) -> Option<&'a User>
     ensures { option_copied result ≡ user_for who.now (values users.now) }
 {
-    let mut best = None;
-    for place in 0..users.len() {
-        best = best_with(best, users, place, who);
-    }
+    user_at(users, best_claim(users, who))
+}
+
+// The user of the best claim.
+fn user_at<'a>(users: &'a IndexMap<Vec<u8>, User>, best: Option<Winner>) -> Option<&'a User>
+    ensures { option_copied result ≡ user_at (values users.now) best }
+{
     match best {
-        Some(found) => Some(found.1),
+        Some(best) => match users.get_index(best.place) {
+            Some((_, user)) => Some(user),
+            None => None,
+        },
         None => None,
     }
 }
 
-// The better of the best claim so far and those of the user at a place.
-fn best_with<'a>(
-    best: Option<(u8, &'a User)>,
-    users: &'a IndexMap<Vec<u8>, User>,
+// The best claim of all users.
+fn best_claim(users: &IndexMap<Vec<u8>, User>, who: &[u8]) -> Option<Winner>
+    ensures { result ≡ after_users who.now 0 (values users.now) None }
+{
+    let mut best = None;
+    for place in 0..users.len() {
+        best = best_of_user(best, users, place, who);
+    }
+    best
+}
+
+// The better of the best claim so far and those of the masks of the user at a place.
+fn best_of_user(
+    best: Option<Winner>,
+    users: &IndexMap<Vec<u8>, User>,
     place: usize,
     who: &[u8],
-) -> Option<(u8, &'a User)>
-    requires { place < length (values users.now) }
-    ensures { decider (best_list result ++ claims who.now (drop (place + 1) (values users.now))) ≡ decider (best_list best.entry ++ claims who.now (drop place (values users.now))) }
+) -> Option<Winner>
+    ensures { result ≡ after_user who.now place (slice_get (values users.now) place) best }
 {
     match users.get_index(place) {
-        Some(entry) => best_of(best, entry.1, who),
+        Some((_, user)) => best_of_masks(best, user.masks.as_slice(), place, who),
         None => best,
     }
 }
 
-// The better of the best claim so far and those of a user's masks.
-fn best_of<'a>(best: Option<(u8, &'a User)>, user: &'a User, who: &[u8]) -> Option<(u8, &'a User)>
-    ensures { (rest : List Claim) → decider (best_list result ++ rest) ≡ decider (best_list best.entry ++ (claims_of who.now user.now user.now.masks ++ rest)) }
+// The better of the best claim so far and those of these masks, of the user at a place.
+fn best_of_masks(
+    best: Option<Winner>,
+    masks: &[Hostmask],
+    place: usize,
+    who: &[u8],
+) -> Option<Winner>
+    ensures { result ≡ after_masks who.now place masks.now best }
 {
     let mut so_far = best;
-    for mask in user.masks.as_slice() {
-        so_far = better(so_far, mask, user, who);
+    for mask in masks {
+        so_far = better(so_far, mask, place, who);
     }
     so_far
 }
 
-// The better of the best claim so far and that of a later mask, if it matches.
-fn better<'a>(
-    best: Option<(u8, &'a User)>,
-    mask: &Hostmask,
-    user: &'a User,
-    who: &[u8],
-) -> Option<(u8, &'a User)>
-    ensures { (rest : List Claim) → decider (best_list result ++ rest) ≡ decider (best_list best.entry ++ (claims_of who.now user.now (mask.now ∷ []) ++ rest)) }
+// The better of the best claim so far and that of a mask, if it matches. A mask that can't win isn't tried.
+fn better(best: Option<Winner>, mask: &Hostmask, place: usize, who: &[u8]) -> Option<Winner>
+    ensures { result ≡ after_mask who.now place mask.now best }
 {
-    if !mask.matches(who) {
-        return best;
-    }
     let literals = mask.literals();
+    if is_better(literals, place, best) && mask.matches(who) {
+        Some(Winner { literals, place })
+    } else {
+        best
+    }
+}
+
+// Whether a mask of so many literals, of the user at a place, is better than the best claim so far.
+fn is_better(literals: u8, place: usize, best: Option<Winner>) -> bool
+    ensures { result ≡ is_better literals place best }
+{
     match best {
-        Some(found) => {
-            if literals <= found.0 {
-                best
-            } else {
-                Some((literals, user))
-            }
+        Some(best) => {
+            literals > best.literals || (literals == best.literals && place < best.place)
         }
-        None => Some((literals, user)),
+        None => true,
     }
 }
