@@ -18,7 +18,8 @@ at_most_one key name [] distinct = tt
 at_most_one key name (x ∷ xs) distinct =
     (λ is. any-agree (by key name) (by key (key x)) (λ y. is_same-left name (key x) (key y) is) xs ∙ distinct.0, at_most_one key name xs distinct.1)
 
-removed_step : {X : Type 0} (key : X → List ℕ) (b : Bool) (x : X) (xs ys : List X) → Distinct key xs → (list_any (by key (key x)) ys ≡ false) × Distinct key ys → Distinct key (cond b xs (x ∷ ys))
+removed_step : {X : Type 0} (key : X → List ℕ) (b : Bool) (x : X) (xs ys : List X) → Distinct key xs
+    → (list_any (by key (key x)) ys ≡ false) × Distinct key ys → Distinct key (cond b xs (x ∷ ys))
 removed_step key true x xs ys distinct rest = distinct
 removed_step key false x xs ys distinct rest = rest
 
@@ -27,19 +28,22 @@ distinct-removed key q [] distinct = tt
 distinct-removed key q (x ∷ xs) distinct =
     removed_step key (q x) x xs (first_removed q xs) distinct.1 (any-removed (by key (key x)) q xs distinct.0, distinct-removed key q xs distinct.1)
 
-changed_step : {X : Type 0} (key : X → List ℕ) (b : Bool) (y x : X) (xs ys : List X) → (b ≡ true → Distinct key (y ∷ xs)) → (b ≡ false → Distinct key (x ∷ ys)) → Distinct key (cond b (y ∷ xs) (x ∷ ys))
+changed_step : {X : Type 0} (key : X → List ℕ) (b : Bool) (y x : X) (xs ys : List X) → (b ≡ true → Distinct key (y ∷ xs))
+    → (b ≡ false → Distinct key (x ∷ ys)) → Distinct key (cond b (y ∷ xs) (x ∷ ys))
 changed_step key true y x xs ys here there = here refl
 changed_step key false y x xs ys here there = there refl
 
 -- an edit that keeps the names
-pub distinct-changed : {X : Type 0} (key : X → List ℕ) (q : X → Bool) (f : X → X) → ((x : X) → key (f x) ≡ key x) → (xs : List X) → Distinct key xs → Distinct key (first_changed q f xs)
+pub distinct-changed : {X : Type 0} (key : X → List ℕ) (q : X → Bool) (f : X → X) → ((x : X) → key (f x) ≡ key x) → (xs : List X) → Distinct key xs
+    → Distinct key (first_changed q f xs)
 distinct-changed key q f keeps [] distinct = tt
 distinct-changed key q f keeps (x ∷ xs) distinct =
     changed_step key (q x) (f x) x xs (first_changed q f xs)
     (λ _. (ap (λ name. list_any (by key name) xs) (keeps x) ∙ distinct.0, distinct.1))
     (λ _. (any-changed (by key (key x)) q f xs distinct.0 (λ y none. ap (is_same (key x)) (keeps y) ∙ none), distinct-changed key q f keeps xs distinct.1))
 
-pub distinct-end : {X : Type 0} (key : X → List ℕ) (xs : List X) (y : X) → Distinct key xs → list_any (by key (key y)) xs ≡ false → Distinct key (xs ++ y ∷ [])
+pub distinct-end : {X : Type 0} (key : X → List ℕ) (xs : List X) (y : X) → Distinct key xs → list_any (by key (key y)) xs ≡ false
+    → Distinct key (xs ++ y ∷ [])
 distinct-end key [] y distinct none = (refl, tt)
 distinct-end key (x ∷ xs) y distinct none =
     let parts = or-parts (is_same (key y) (key x)) (list_any (by key (key y)) xs) none in
@@ -59,11 +63,16 @@ none_within p q [] within none = refl
 none_within p q (x ∷ xs) within none = let parts = or-parts (q x) (list_any q xs) none in rw (within.0 parts.0) (none_within p q xs within.1 parts.1)
 
 -- an edit that gives the first of a name a new one, which nothing else has
-pub distinct-renamed : {X : Type 0} (key : X → List ℕ) (f : X → X) (old new : List ℕ) → ((x : X) → key (f x) ≡ new) → (xs : List X) → Distinct key xs → Within (by key new) (by key old) xs → Distinct key (first_changed (by key old) f xs)
+pub distinct-renamed : {X : Type 0} (key : X → List ℕ) (f : X → X) (old new : List ℕ) → ((x : X) → key (f x) ≡ new) → (xs : List X) → Distinct key xs
+    → Within (by key new) (by key old) xs → Distinct key (first_changed (by key old) f xs)
 distinct-renamed key f old new made [] distinct within = tt
 distinct-renamed key f old new made (x ∷ xs) distinct within =
     changed_step key (by key old x) (f x) x xs (first_changed (by key old) f xs)
-    (λ is. (ap (λ name. list_any (by key name) xs) (made x) ∙ none_within (by key new) (by key old) xs within.1 ((at_most_one key old (x ∷ xs) distinct).0 is), distinct.1))
+    (λ is. (
+      ap (λ name. list_any (by key name) xs) (made x)
+          ∙ none_within (by key new) (by key old) xs within.1 ((at_most_one key old (x ∷ xs) distinct).0 is),
+      distinct.1,
+    ))
     (λ is. (
       any-changed (by key (key x)) (by key old) f xs distinct.0 (λ y none. ap (is_same (key x)) (made y) ∙ (is_same-sym (key x) new ∙ within.0 is)),
       distinct-renamed key f old new made xs distinct.1 within.1,
@@ -76,6 +85,7 @@ any-map p q f same (x ∷ xs) = ap (λ b. b || list_any p (map f xs)) (same x) �
 pub distinct-map : {X : Type 0} (key : X → List ℕ) (f : X → X) → ((x : X) → key (f x) ≡ key x) → (xs : List X) → Distinct key xs → Distinct key (map f xs)
 distinct-map key f keeps [] distinct = tt
 distinct-map key f keeps (x ∷ xs) distinct = (
-  ap (λ name. list_any (by key name) (map f xs)) (keeps x) ∙ (any-map (by key (key x)) (by key (key x)) f (λ y. ap (is_same (key x)) (keeps y)) xs ∙ distinct.0),
+  ap (λ name. list_any (by key name) (map f xs)) (keeps x)
+      ∙ (any-map (by key (key x)) (by key (key x)) f (λ y. ap (is_same (key x)) (keeps y)) xs ∙ distinct.0),
   distinct-map key f keeps xs distinct.1,
 )

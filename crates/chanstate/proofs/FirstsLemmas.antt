@@ -1,5 +1,6 @@
 -- Edits of the first element that passes, at the place that `position` gives.
-use Rattle.std.proofs.Common.{◌≡◌, ℕ, zero, suc, ◌<◌, ◌≤◌, Bool, true, false, cond, Option, Some, None, List, [], ◌∷◌, ◌++◌, length, get_or, set, refl, sym, ap, ◌∙◌, arith}
+use Rattle.std.proofs.Common.{◌≡◌, ℕ, zero, suc, ◌<◌, ◌≤◌, Bool, true, false, cond, Option, Some, None, List, [], ◌∷◌, ◌++◌, length, get_or, set, refl, sym}
+use Rattle.std.proofs.Common.{ap, ◌∙◌, arith}
 use Rattle.std.specs.List.{position, position_or_len, list_any, remove}
 use Rattle.std.proofs.Common.{◌||◌, ltb}
 use Rattle.std.proofs.lemmas.List.Quantifiers.{position-Some}
@@ -32,7 +33,8 @@ tail-first p x xs i d first = record {
   before = λ k less. first.before (suc k) (omega arith);
 }
 
-pub first_changed-first : {X : Type 0} (p : X → Bool) (f : X → X) (xs : List X) (i : ℕ) (d : X) → IsFirst p xs i d → first_changed p f xs ≡ set xs i (f (get_or xs i d))
+pub first_changed-first : {X : Type 0} (p : X → Bool) (f : X → X) (xs : List X) (i : ℕ) (d : X) → IsFirst p xs i d
+    → first_changed p f xs ≡ set xs i (f (get_or xs i d))
 first_changed-first p f [] i d first = absurd (let within : i < 0 = first.within in omega arith)
 first_changed-first p f (x ∷ xs) zero d first = cond-true (p x) _ _ first.passes
 first_changed-first p f (x ∷ xs) (suc i) d first =
@@ -80,7 +82,8 @@ first_removed-nowhere p (x ∷ xs) none =
 
 -- the same, as the code writes them: ys is the list before as the caller sees it, and o the answer of the search
 
-pub changed_at : {X : Type 0} (p : X → Bool) (f : X → X) (xs ys : List X) (i : ℕ) (x y : X) → xs ≡ ys → Some i ≡ position p ys → x ≡ get_or xs i x → f x ≡ y → set xs i y ≡ first_changed p f ys
+pub changed_at : {X : Type 0} (p : X → Bool) (f : X → X) (xs ys : List X) (i : ℕ) (x y : X) → xs ≡ ys → Some i ≡ position p ys → x ≡ get_or xs i x
+    → f x ≡ y → set xs i y ≡ first_changed p f ys
 changed_at p f xs ys i x y same is read made =
     let at : x ≡ get_or ys i x = read ∙ ap (λ zs. get_or zs i x) same in
     ap (λ zs. set zs i y) same ∙ (ap (λ z. set ys i z) (sym made ∙ ap f at) ∙ sym (first_changed-first p f ys i x (first-from_position p ys i x (sym is))))
@@ -102,7 +105,8 @@ pub removed_nowhere : {X : Type 0} (p : X → Bool) (ys : List X) (o : Option �
 removed_nowhere p ys o is none = sym (first_removed-nowhere p ys (nowhere p ys o is none))
 
 -- one more at the end, and then the first that passes is taken out
-pub removed_behind : {X : Type 0} (p : X → Bool) (xs ys : List X) (i : ℕ) (one : X) → xs ≡ ys → Some i ≡ position p ys → remove (xs ++ one ∷ []) i ≡ first_removed p ys ++ one ∷ []
+pub removed_behind : {X : Type 0} (p : X → Bool) (xs ys : List X) (i : ℕ) (one : X) → xs ≡ ys → Some i ≡ position p ys
+    → remove (xs ++ one ∷ []) i ≡ first_removed p ys ++ one ∷ []
 removed_behind p xs ys i one same is =
     let within : i < length xs = rw same (first-from_position p ys i one (sym is)).within in
     remove-append_left xs (one ∷ []) i within ∙ ap (λ zs. zs ++ one ∷ []) (removed_at p xs ys i one same is)

@@ -1,5 +1,6 @@
 -- The state after some items is what looking back over them says.
-use Rattle.std.proofs.Common.{◌≡◌, ℕ, Bool, true, false, cond, not, ◌||◌, ◌&&◌, suc, map, length, Option, Some, None, List, [], ◌∷◌, refl, sym, ap, subst, ◌∙◌}
+use Rattle.std.proofs.Common.{◌≡◌, ℕ, Bool, true, false, cond, not, ◌||◌, ◌&&◌, suc, map, length, Option, Some, None, List, [], ◌∷◌, refl, sym, ap, subst}
+use Rattle.std.proofs.Common.{◌∙◌}
 use Rattle.std.specs.Prelude.{find, is_some, unwrap_or, IfSome}
 use Rattle.std.specs.Option.{option_map}
 use Rattle.chanstate.specs.declared.member.Member.{Member}
@@ -13,7 +14,9 @@ use Rattle.chanstate.specs.Channels.{with_topic, with_members}
 use Rattle.chanstate.specs.Items.{Item, Welcomed, Joined, Left, Departed, Renamed, Marked, Titled, Listed, Addressed, items_of}
 use Rattle.chanstate.specs.Steps.{step, steps, after}
 use Rattle.chanstate.specs.Views.{connected, channel_in, members_of, member_in}
-use Rattle.chanstate.specs.History.{own, own_said, held, channel_said, topic, topic_said, spelling, name_said, on, nick_said, known, member_said, has_mark, marked, mark_begins, mark_says, user_begins, user_says, host_begins, host_says, nick_begins, nick_says, IsAsSaid, Agrees, before, history_from, history, after_all, arrival, joins, opening}
+use Rattle.chanstate.specs.History.{own, own_said, held, channel_said, topic, topic_said, spelling, name_said, on, nick_said, known, member_said, has_mark}
+use Rattle.chanstate.specs.History.{marked, mark_begins, mark_says, user_begins, user_says, host_begins, host_says, nick_begins, nick_says, IsAsSaid}
+use Rattle.chanstate.specs.History.{Agrees, before, history_from, history, after_all, arrival, joins, opening}
 use Rattle.chanstate.proofs.FindLemmas.{list_any-find}
 use Rattle.chanstate.proofs.DistinctLemmas.{Distinct}
 use Rattle.chanstate.proofs.OrderLemmas.{Ordered, at, on_name, arrival-is_same, order-after, channels-in-order}
@@ -52,12 +55,14 @@ some_same : {X : Type 0} (b : Bool) (o w : Option X) → is_some w ≡ is_some o
 some_same true o w is = is
 some_same false o w is = refl
 
-h_joined : (b1 b2 : Bool) (v : Channel) (w o : Option Channel) → is_some w ≡ is_some o → is_some (cond b1 (cond b2 (Some v) w) o) ≡ unwrap_or (cond (b1 && b2) (Some true) None) (is_some o)
+h_joined : (b1 b2 : Bool) (v : Channel) (w o : Option Channel) → is_some w ≡ is_some o
+    → is_some (cond b1 (cond b2 (Some v) w) o) ≡ unwrap_or (cond (b1 && b2) (Some true) None) (is_some o)
 h_joined true true v w o is = refl
 h_joined true false v w o is = is
 h_joined false b2 v w o is = refl
 
-h_left : (b1 b2 : Bool) (w o : Option Channel) → is_some w ≡ is_some o → is_some (cond b1 (cond b2 None w) o) ≡ unwrap_or (cond (b1 && b2) (Some false) None) (is_some o)
+h_left : (b1 b2 : Bool) (w o : Option Channel) → is_some w ≡ is_some o
+    → is_some (cond b1 (cond b2 None w) o) ≡ unwrap_or (cond (b1 && b2) (Some false) None) (is_some o)
 h_left true true w o is = refl
 h_left true false w o is = is
 h_left false b2 w o is = refl
@@ -86,7 +91,8 @@ t_same : (b : Bool) (t : List ℕ) (w o : Option Channel) → HasTopic t w → H
 t_same true t w o one two = one
 t_same false t w o one two = two
 
-t_joined : (b1 b2 : Bool) (t : List ℕ) (v : Channel) (w o : Option Channel) → v.topic ≡ [] → HasTopic t w → HasTopic t o → HasTopic (unwrap_or (cond (b1 && b2) (Some []) None) t) (cond b1 (cond b2 (Some v) w) o)
+t_joined : (b1 b2 : Bool) (t : List ℕ) (v : Channel) (w o : Option Channel) → v.topic ≡ [] → HasTopic t w → HasTopic t o
+    → HasTopic (unwrap_or (cond (b1 && b2) (Some []) None) t) (cond b1 (cond b2 (Some v) w) o)
 t_joined true true t v w o new one two = new
 t_joined true false t v w o new one two = one
 t_joined false b2 t v w o new one two = two
@@ -96,12 +102,14 @@ t_left true true t w o one two = tt
 t_left true false t w o one two = one
 t_left false b2 t w o one two = two
 
-t_titled : (b : Bool) (t new : List ℕ) (o : Option Channel) → HasTopic t o → HasTopic (unwrap_or (cond b (Some new) None) t) (cond b (option_map (with_topic new) o) o)
+t_titled : (b : Bool) (t new : List ℕ) (o : Option Channel) → HasTopic t o
+    → HasTopic (unwrap_or (cond b (Some new) None) t) (cond b (option_map (with_topic new) o) o)
 t_titled true t new None is = tt
 t_titled true t new (Some ch) is = refl
 t_titled false t new o is = is
 
-topic-after : (item : Item) (me c t : List ℕ) (o : Option Channel) → HasTopic t o → HasTopic (unwrap_or (topic_said item me c) t) (channel_after item me c o)
+topic-after : (item : Item) (me c t : List ℕ) (o : Option Channel) → HasTopic t o
+    → HasTopic (unwrap_or (topic_said item me c) t) (channel_after item me c o)
 topic-after (Welcomed nick) me c t o is = tt
 topic-after (Joined nick user host d) me c t o is = t_joined (is_same c d) (is_same nick me) t _ _ o refl (t_members t _ o is) is
 topic-after (Left nick d) me c t o is = t_left (is_same c d) (is_same nick me) t _ o (t_members t _ o is) is
@@ -125,7 +133,8 @@ n_same : (b : Bool) (t : List ℕ) (w o : Option Channel) → HasName t w → Ha
 n_same true t w o one two = one
 n_same false t w o one two = two
 
-n_joined : (b1 b2 : Bool) (t d : List ℕ) (v : Channel) (w o : Option Channel) → v.name ≡ d → HasName t w → HasName t o → HasName (unwrap_or (cond (b1 && b2) (Some d) None) t) (cond b1 (cond b2 (Some v) w) o)
+n_joined : (b1 b2 : Bool) (t d : List ℕ) (v : Channel) (w o : Option Channel) → v.name ≡ d → HasName t w → HasName t o
+    → HasName (unwrap_or (cond (b1 && b2) (Some d) None) t) (cond b1 (cond b2 (Some v) w) o)
 n_joined true true t d v w o new one two = new
 n_joined true false t d v w o new one two = one
 n_joined false b2 t d v w o new one two = two
@@ -149,7 +158,8 @@ name-after (Addressed d nick user host) me c t o is = n_same (is_same c d) t _ o
 -- ---- who is on a channel
 
 o_joined : (b1 b2 b3 here : Bool) (v w : Member) (o : Option Member) →
-    is_some (cond b1 (cond b2 (cond b3 (Some v) None) (cond (here && b3) (Some w) o)) o) ≡ unwrap_or (cond b1 (cond b2 (Some b3) (cond (here && b3) (Some true) None)) None) (is_some o)
+    is_some (cond b1 (cond b2 (cond b3 (Some v) None) (cond (here && b3) (Some w) o)) o)
+    ≡ unwrap_or (cond b1 (cond b2 (Some b3) (cond (here && b3) (Some true) None)) None) (is_some o)
 o_joined true true true here v w o = refl
 o_joined true true false here v w o = refl
 o_joined true false true true v w o = refl
@@ -166,13 +176,15 @@ o_listed : (b : Bool) (w : Member) (o : Option Member) → is_some (cond b (Some
 o_listed true w o = refl
 o_listed false w o = refl
 
-o_renamed_some : (b2 b3 : Bool) (m : Member) (o : Option Member) → is_some (cond b2 (Some m) (cond b3 None o)) ≡ unwrap_or (cond b2 (Some true) (cond b3 (Some false) None)) (is_some o)
+o_renamed_some : (b2 b3 : Bool) (m : Member) (o : Option Member)
+    → is_some (cond b2 (Some m) (cond b3 None o)) ≡ unwrap_or (cond b2 (Some true) (cond b3 (Some false) None)) (is_some o)
 o_renamed_some true b3 m o = refl
 o_renamed_some false true m o = refl
 o_renamed_some false false m o = refl
 
 o_renamed : (old new x : List ℕ) (w o : Option Member) →
-    is_some (rename_as old new x w o) ≡ unwrap_or (cond (is_some w) (cond (is_same x new) (Some true) (cond (is_same x old) (Some false) None)) None) (is_some o)
+    is_some (rename_as old new x w o)
+    ≡ unwrap_or (cond (is_some w) (cond (is_same x new) (Some true) (cond (is_same x old) (Some false) None)) None) (is_some o)
 o_renamed old new x None o = ap is_some (rename_as-none old new x o)
 o_renamed old new x (Some m) o = ap is_some (rename_as-some old new x m o) ∙ o_renamed_some (is_same x new) (is_same x old) (with_nick new m) o
 
@@ -190,25 +202,30 @@ on-after (Addressed d nick user host) me here c x look = some_same (is_same c d 
 
 -- ---- all of it
 
-nick_said-same : (item : Item) (me : List ℕ) (here : Bool) (c x : List ℕ) (was now : List ℕ → Bool) → ((y : List ℕ) → was y ≡ now y) → nick_said item me here c was x ≡ nick_said item me here c now x
+nick_said-same : (item : Item) (me : List ℕ) (here : Bool) (c x : List ℕ) (was now : List ℕ → Bool) → ((y : List ℕ) → was y ≡ now y)
+    → nick_said item me here c was x ≡ nick_said item me here c now x
 nick_said-same (Welcomed nick) me here c x was now same = refl
 nick_said-same (Joined nick user host d) me here c x was now same = refl
 nick_said-same (Left nick d) me here c x was now same = refl
 nick_said-same (Departed nick) me here c x was now same = refl
-nick_said-same (Renamed old new) me here c x was now same = ap (λ b. cond b (cond (is_same x new) (Some true) (cond (is_same x old) (Some false) None)) None) (same old)
+nick_said-same (Renamed old new) me here c x was now same = ap
+    (λ b. cond b (cond (is_same x new) (Some true) (cond (is_same x old) (Some false) None)) None) (same old)
 nick_said-same (Marked d mark set nick) me here c x was now same = refl
 nick_said-same (Titled d topic) me here c x was now same = refl
 nick_said-same (Listed d one) me here c x was now same = refl
 nick_said-same (Addressed d nick user host) me here c x was now same = refl
 
-member_said-same : {A : Type 0} (begins : Item → A) (says : Item → Option A) (item : Item) (me c x : List ℕ) (was now : List ℕ → Bool) (old_values : List ℕ → A) → ((y : List ℕ) → was y ≡ now y) →
+member_said-same : {A : Type 0} (begins : Item → A) (says : Item → Option A) (item : Item) (me c x : List ℕ) (was now : List ℕ → Bool)
+    (old_values : List ℕ → A) → ((y : List ℕ) → was y ≡ now y) →
     member_said begins says item me c was old_values x ≡ member_said begins says item me c now old_values x
 member_said-same begins says (Welcomed nick) me c x was now vs same = refl
 member_said-same begins says (Joined nick user host d) me c x was now vs same =
-    ap (λ b. cond (is_same c d && is_same x nick) (cond (is_same nick me || not b) (begins (Joined nick user host d)) (unwrap_or (says (Joined nick user host d)) (vs x))) (vs x)) (same x)
+    ap (λ b. cond (is_same c d && is_same x nick)
+    (cond (is_same nick me || not b) (begins (Joined nick user host d)) (unwrap_or (says (Joined nick user host d)) (vs x))) (vs x)) (same x)
 member_said-same begins says (Left nick d) me c x was now vs same = refl
 member_said-same begins says (Departed nick) me c x was now vs same = refl
-member_said-same begins says (Renamed old new) me c x was now vs same = ap (λ b. cond (b && is_same x new) (unwrap_or (says (Renamed old new)) (vs old)) (vs x)) (same old)
+member_said-same begins says (Renamed old new) me c x was now vs same = ap
+    (λ b. cond (b && is_same x new) (unwrap_or (says (Renamed old new)) (vs old)) (vs x)) (same old)
 member_said-same begins says (Marked d mark set nick) me c x was now vs same = refl
 member_said-same begins says (Titled d topic) me c x was now vs same = refl
 member_said-same begins says (Listed d one) me c x was now vs same =
@@ -220,8 +237,10 @@ if_some P Q None f is = tt
 if_some P Q (Some x) f is = f x is
 
 gather : (first c : List ℕ) (past : List Item) (x : List ℕ) (o : Option Member) →
-    Has (λ m. m.nick) (known nick_begins nick_says [] first c past x) o → Has (λ m. m.user) (known user_begins user_says [] first c past x) o → Has (λ m. m.host) (known host_begins host_says [] first c past x) o →
-    Has (has_mark Op) (marked Op first c past x) o → Has (has_mark Voice) (marked Voice first c past x) o → Has (has_mark HalfOp) (marked HalfOp first c past x) o → IfSome o (IsAsSaid first c past x)
+    Has (λ m. m.nick) (known nick_begins nick_says [] first c past x) o → Has (λ m. m.user) (known user_begins user_says [] first c past x) o
+    → Has (λ m. m.host) (known host_begins host_says [] first c past x) o →
+    Has (has_mark Op) (marked Op first c past x) o → Has (has_mark Voice) (marked Voice first c past x) o
+    → Has (has_mark HalfOp) (marked HalfOp first c past x) o → IfSome o (IsAsSaid first c past x)
 gather first c past x None a b d e f g = tt
 gather first c past x (Some m) a b d e f g = record { nick = a; user = b; host = d; op = e; voice = f; half_op = g }
 
@@ -246,35 +265,43 @@ member_is item s first c x past stands =
     ∙ ap (λ here. member_after item (own first past) here c (λ y. member_in c y s) x) (stands.agrees.channels c)))
 
 part_is : {A : Type 0} (get : Member → A) (begins : Item → A) (says : Item → Option A) (none : A) → Part get begins says →
-    (item : Item) (s : ChanState) (first c x : List ℕ) (past : List Item) → Stands first past s → ((y : List ℕ) → Has get (known begins says none first c past y) (member_in c y s)) →
+    (item : Item) (s : ChanState) (first c x : List ℕ) (past : List Item) → Stands first past s
+    → ((y : List ℕ) → Has get (known begins says none first c past y) (member_in c y s)) →
     Has get (known begins says none first c (item ∷ past) x) (member_in c x (step item s))
 part_is get begins says none part item s first c x past stands is =
     subst (λ o. Has get (known begins says none first c (item ∷ past) x) o) (sym (member_is item s first c x past stands))
     (subst (λ a. Has get a (member_after item (own first past) (held first c past) c (λ y. member_in c y s) x))
-    (member_said-same begins says item (own first past) c x (λ y. is_some (member_in c y s)) (on first c past) (known begins says none first c past) (stands.agrees.members c))
+    (member_said-same begins says item (own first past) c x (λ y. is_some (member_in c y s)) (on first c past) (known begins says none first c past)
+    (stands.agrees.members c))
     (known-after get begins says part item (own first past) (held first c past) c x (λ y. member_in c y s) (known begins says none first c past)
     (λ away. no_channel x (channel_in c s) (stands.agrees.channels c ∙ away)) is))
 
 -- the places of members and of channels
 
-places-step : (item : Item) (s : ChanState) (first c : List ℕ) (past : List Item) → Stands first past s → Ordered (suc (length past)) (map (at (arrival first c (item ∷ past))) (members_of (channel_in c (step item s))))
+places-step : (item : Item) (s : ChanState) (first c : List ℕ) (past : List Item) → Stands first past s
+    → Ordered (suc (length past)) (map (at (arrival first c (item ∷ past))) (members_of (channel_in c (step item s))))
 places-step item s first c past stands =
     subst (λ o. Ordered (suc (length past)) (map (at (arrival first c (item ∷ past))) (members_of o))) (sym (channel_in-step item s c stands.names))
-    (subst (λ me. Ordered (suc (length past)) (map (at (member_said (λ _. length past) (λ _. None) item me c (on first c past) (arrival first c past))) (members_of (channel_after item s.nick c (channel_in c s))))) stands.agrees.own_nick
+    (subst (λ me. Ordered (suc (length past))
+    (map (at (member_said (λ _. length past) (λ _. None) item me c (on first c past) (arrival first c past)))
+    (members_of (channel_after item s.nick c (channel_in c s))))) stands.agrees.own_nick
     (order-after item s.nick c (channel_in c s) (on first c past) (arrival first c past) (length past) (stands.nicks c)
     (λ x. sym (stands.agrees.members c x) ∙ sym (list_any-find (is_called x) (members_of (channel_in c s))))
     (λ x y is. arrival-is_same first c x y past is) (stands.places c)))
 
-joined-step : (item : Item) (s : ChanState) (first : List ℕ) (past : List Item) → Stands first past s → Ordered (suc (length past)) (map (on_name (opening first (item ∷ past))) (step item s).channels)
+joined-step : (item : Item) (s : ChanState) (first : List ℕ) (past : List Item) → Stands first past s
+    → Ordered (suc (length past)) (map (on_name (opening first (item ∷ past))) (step item s).channels)
 joined-step item s first past stands =
-    subst (λ me. Ordered (suc (length past)) (map (on_name (λ c. cond (joins item me c) (length past) (opening first past c))) (step item s).channels)) stands.agrees.own_nick
+    subst (λ me. Ordered (suc (length past))
+    (map (on_name (λ c. cond (joins item me c) (length past) (opening first past c))) (step item s).channels)) stands.agrees.own_nick
     (channels-in-order item s (opening first past) (length past) stands.names stands.joined)
 
 agrees-step : (item : Item) (s : ChanState) (first : List ℕ) (past : List Item) → Stands first past s → Agrees first (item ∷ past) (step item s)
 agrees-step item s first past stands = record {
   own_nick = own-step item s ∙ ap (λ nick. unwrap_or (own_said item nick) nick) stands.agrees.own_nick;
   channels = λ c. ap is_some (channel_in-step item s c stands.names) ∙ (held-after item s.nick c (channel_in c s)
-      ∙ (ap (λ me. unwrap_or (channel_said item me c) (is_some (channel_in c s))) stands.agrees.own_nick ∙ ap (λ b. unwrap_or (channel_said item (own first past) c) b) (stands.agrees.channels c)));
+      ∙ (ap (λ me. unwrap_or (channel_said item me c) (is_some (channel_in c s))) stands.agrees.own_nick
+      ∙ ap (λ b. unwrap_or (channel_said item (own first past) c) b) (stands.agrees.channels c)));
   names = λ c. subst (λ o. HasName (spelling first c (item ∷ past)) o) (sym (channel_in-step item s c stands.names))
       (subst (λ me. HasName (unwrap_or (name_said item me c) (spelling first c past)) (channel_after item s.nick c (channel_in c s))) stands.agrees.own_nick
       (name-after item s.nick c (spelling first c past) (channel_in c s) (stands.agrees.names c)));
@@ -282,33 +309,43 @@ agrees-step item s first past stands = record {
       (subst (λ me. HasTopic (unwrap_or (topic_said item me c) (topic first c past)) (channel_after item s.nick c (channel_in c s))) stands.agrees.own_nick
       (topic-after item s.nick c (topic first c past) (channel_in c s) (stands.agrees.topics c)));
   members = λ c x. ap is_some (member_is item s first c x past stands) ∙ (on-after item (own first past) (held first c past) c x (λ y. member_in c y s)
-      ∙ (ap (λ o. unwrap_or o (is_some (member_in c x s))) (nick_said-same item (own first past) (held first c past) c x (λ y. is_some (member_in c y s)) (on first c past) (stands.agrees.members c))
+      ∙ (ap (λ o. unwrap_or o (is_some (member_in c x s)))
+      (nick_said-same item (own first past) (held first c past) c x (λ y. is_some (member_in c y s)) (on first c past) (stands.agrees.members c))
       ∙ ap (λ b. unwrap_or (nick_said item (own first past) (held first c past) c (on first c past) x) b) (stands.agrees.members c x)));
   member_order = λ c. (places-step item s first c past stands).0;
   channel_order = (joined-step item s first past stands).0;
   details = λ c x. gather first c (item ∷ past) x (member_in c x (step item s))
-      (part_is (λ m. m.nick) nick_begins nick_says [] nick_part item s first c x past stands (λ y. if_some (IsAsSaid first c past y) _ (member_in c y s) (λ m known. known.nick) (stands.agrees.details c y)))
-      (part_is (λ m. m.user) user_begins user_says [] user_part item s first c x past stands (λ y. if_some (IsAsSaid first c past y) _ (member_in c y s) (λ m known. known.user) (stands.agrees.details c y)))
-      (part_is (λ m. m.host) host_begins host_says [] host_part item s first c x past stands (λ y. if_some (IsAsSaid first c past y) _ (member_in c y s) (λ m known. known.host) (stands.agrees.details c y)))
-      (part_is (has_mark Op) (mark_begins Op) (mark_says Op) false op_part item s first c x past stands (λ y. if_some (IsAsSaid first c past y) _ (member_in c y s) (λ m known. known.op) (stands.agrees.details c y)))
-      (part_is (has_mark Voice) (mark_begins Voice) (mark_says Voice) false voice_part item s first c x past stands (λ y. if_some (IsAsSaid first c past y) _ (member_in c y s) (λ m known. known.voice) (stands.agrees.details c y)))
-      (part_is (has_mark HalfOp) (mark_begins HalfOp) (mark_says HalfOp) false half_op_part item s first c x past stands (λ y. if_some (IsAsSaid first c past y) _ (member_in c y s) (λ m known. known.half_op) (stands.agrees.details c y)));
+      (part_is (λ m. m.nick) nick_begins nick_says [] nick_part item s first c x past stands
+      (λ y. if_some (IsAsSaid first c past y) _ (member_in c y s) (λ m known. known.nick) (stands.agrees.details c y)))
+      (part_is (λ m. m.user) user_begins user_says [] user_part item s first c x past stands
+      (λ y. if_some (IsAsSaid first c past y) _ (member_in c y s) (λ m known. known.user) (stands.agrees.details c y)))
+      (part_is (λ m. m.host) host_begins host_says [] host_part item s first c x past stands
+      (λ y. if_some (IsAsSaid first c past y) _ (member_in c y s) (λ m known. known.host) (stands.agrees.details c y)))
+      (part_is (has_mark Op) (mark_begins Op) (mark_says Op) false op_part item s first c x past stands
+      (λ y. if_some (IsAsSaid first c past y) _ (member_in c y s) (λ m known. known.op) (stands.agrees.details c y)))
+      (part_is (has_mark Voice) (mark_begins Voice) (mark_says Voice) false voice_part item s first c x past stands
+      (λ y. if_some (IsAsSaid first c past y) _ (member_in c y s) (λ m known. known.voice) (stands.agrees.details c y)))
+      (part_is (has_mark HalfOp) (mark_begins HalfOp) (mark_says HalfOp) false half_op_part item s first c x past stands
+      (λ y. if_some (IsAsSaid first c past y) _ (member_in c y s) (λ m known. known.half_op) (stands.agrees.details c y)));
 }
 
 stands-step : (item : Item) (s : ChanState) (first : List ℕ) (past : List Item) → Stands first past s → Stands first (item ∷ past) (step item s)
 stands-step item s first past stands = record {
   names = distinct-step item s stands.names;
-  nicks = λ c. subst (λ o. Distinct nick_of_member (members_of o)) (sym (channel_in-step item s c stands.names)) (members-after item s.nick c (channel_in c s) (stands.nicks c));
+  nicks = λ c. subst (λ o. Distinct nick_of_member (members_of o)) (sym (channel_in-step item s c stands.names))
+      (members-after item s.nick c (channel_in c s) (stands.nicks c));
   places = λ c. places-step item s first c past stands;
   joined = joined-step item s first past stands;
   agrees = agrees-step item s first past stands;
 }
 
-stands-steps : (items : List Item) (s : ChanState) (first : List ℕ) (past : List Item) → Stands first past s → Stands first (before past items) (steps items s)
+stands-steps : (items : List Item) (s : ChanState) (first : List ℕ) (past : List Item) → Stands first past s
+    → Stands first (before past items) (steps items s)
 stands-steps [] s first past stands = stands
 stands-steps (item ∷ more) s first past stands = stands-steps more (step item s) first (item ∷ past) (stands-step item s first past stands)
 
-stands-all : (messages : List Message) (s : ChanState) (first : List ℕ) (past : List Item) → Stands first past s → Stands first (history_from past messages) (after_all messages s)
+stands-all : (messages : List Message) (s : ChanState) (first : List ℕ) (past : List Item) → Stands first past s
+    → Stands first (history_from past messages) (after_all messages s)
 stands-all [] s first past stands = stands
 stands-all (m ∷ more) s first past stands = stands-all more (after m s) first (before past (items_of m)) (stands-steps (items_of m) s first past stands)
 

@@ -10,14 +10,18 @@ use Rattle.chanstate.specs.declared.channel.Channel.{Channel}
 use Rattle.chanstate.specs.declared.state.ChanState.{ChanState}
 use Rattle.rfccase.specs.Casemapping.{is_same}
 use Rattle.chanstate.specs.Firsts.{first_removed, first_changed}
-use Rattle.chanstate.specs.Members.{is_called, has_member, unmarked, with_mark, with_address, with_marks_of, with_nick, arrived, listed, renamed, without_namesake}
+use Rattle.chanstate.specs.Members.{is_called, has_member, unmarked, with_mark, with_address, with_marks_of, with_nick, arrived, listed, renamed}
+use Rattle.chanstate.specs.Members.{without_namesake}
 use Rattle.chanstate.specs.Channels.{is_named, opened, with_topic, with_members, on_channel, put_last}
 use Rattle.chanstate.specs.Items.{Item, Welcomed, Joined, Left, Departed, Renamed, Marked, Titled, Listed, Addressed}
 use Rattle.chanstate.specs.Steps.{step}
 use Rattle.chanstate.specs.Views.{channel_in, members_of}
-use Rattle.chanstate.proofs.FindLemmas.{is_same-left, is_same-right, is_same-apart, list_any-find, find-agree, find-changed_other, find-removed_same, find-changed_new, find-changed_old, find-map}
-use Rattle.chanstate.proofs.DistinctLemmas.{Distinct, at_most_one, distinct-removed, distinct-changed, distinct-end, distinct-renamed, distinct-map, within-all, within-none}
-use Rattle.chanstate.proofs.LookLemmas.{find-changed, find-removed, find-put_last, find-arrived, find-listed, come_as, rename_as, rename_as-none, rename_as-some}
+use Rattle.chanstate.proofs.FindLemmas.{is_same-left, is_same-right, is_same-apart, list_any-find, find-agree, find-changed_other, find-removed_same}
+use Rattle.chanstate.proofs.FindLemmas.{find-changed_new, find-changed_old, find-map}
+use Rattle.chanstate.proofs.DistinctLemmas.{Distinct, at_most_one, distinct-removed, distinct-changed, distinct-end, distinct-renamed, distinct-map}
+use Rattle.chanstate.proofs.DistinctLemmas.{within-all, within-none}
+use Rattle.chanstate.proofs.LookLemmas.{find-changed, find-removed, find-put_last, find-arrived, find-listed, come_as, rename_as, rename_as-none}
+use Rattle.chanstate.proofs.LookLemmas.{rename_as-some}
 
 abbrev pub nick_of_member : Member → List ℕ
 nick_of_member m = m.nick
@@ -29,7 +33,8 @@ name_of channel = channel.name
 
 ren_some : (old new x : List ℕ) (ms : List Member) (m : Member) (b1 b2 b3 : Bool) → Distinct nick_of_member ms → find (is_called old) ms ≡ Some m →
     is_same old new ≡ b1 → is_same x new ≡ b2 → is_same x old ≡ b3 →
-    find (is_called x) (first_changed (is_called old) (with_nick new) (cond b1 ms (first_removed (is_called new) ms))) ≡ cond b2 (Some (with_nick new m)) (cond b3 None (find (is_called x) ms))
+    find (is_called x) (first_changed (is_called old) (with_nick new) (cond b1 ms (first_removed (is_called new) ms)))
+    ≡ cond b2 (Some (with_nick new m)) (cond b3 None (find (is_called x) ms))
 ren_some old new x ms m true true b3 distinct found one two three =
     find-changed_new (is_called x) (is_called old) (with_nick new) (λ y. two) ms
     (within-all (is_called x) (is_called old) (λ y none. is_same-left x old y.nick (is_same-right old new x one ∙ two) ∙ none) ms)
@@ -49,24 +54,30 @@ ren_some old new x ms m false false true distinct found one two three =
     let rest = first_removed (is_called new) ms in
     let all = first_changed (is_called old) (with_nick new) rest in
     find-agree (is_called x) (is_called old) (λ y. is_same-left x old y.nick three) all
-    ∙ find-changed_old (is_called old) (with_nick new) (λ y. one) rest (at_most_one nick_of_member old rest (distinct-removed nick_of_member (is_called new) ms distinct))
+    ∙ find-changed_old (is_called old) (with_nick new) (λ y. one) rest
+    (at_most_one nick_of_member old rest (distinct-removed nick_of_member (is_called new) ms distinct))
 ren_some old new x ms m false false false distinct found one two three =
     let rest = first_removed (is_called new) ms in
     find-changed_other (is_called x) (is_called old) (with_nick new) (λ y same. is_same-apart x old y.nick three same) (λ y same. two) rest
     ∙ (find-removed nick_of_member x new ms distinct ∙ cond-false (is_same x new) _ _ two)
 
-ren_by : (old new x : List ℕ) (ms : List Member) (was : Option Member) (h : Bool) → Distinct nick_of_member ms → find (is_called old) ms ≡ was → is_some was ≡ h →
-    find (is_called x) (cond h (first_changed (is_called old) (with_nick new) (without_namesake old new ms)) ms) ≡ rename_as old new x was (find (is_called x) ms)
+ren_by : (old new x : List ℕ) (ms : List Member) (was : Option Member) (h : Bool) → Distinct nick_of_member ms → find (is_called old) ms ≡ was
+    → is_some was ≡ h →
+    find (is_called x) (cond h (first_changed (is_called old) (with_nick new) (without_namesake old new ms)) ms)
+    ≡ rename_as old new x was (find (is_called x) ms)
 ren_by old new x ms None true distinct found is = cc
 ren_by old new x ms None false distinct found is = sym (rename_as-none old new x _)
 ren_by old new x ms (Some m) true distinct found is =
     ren_some old new x ms m (is_same old new) (is_same x new) (is_same x old) distinct found refl refl refl ∙ sym (rename_as-some old new x m _)
 ren_by old new x ms (Some m) false distinct found is = cc
 
-pub find-renamed : (old new x : List ℕ) (ms : List Member) → Distinct nick_of_member ms → find (is_called x) (renamed old new ms) ≡ rename_as old new x (find (is_called old) ms) (find (is_called x) ms)
-find-renamed old new x ms distinct = ren_by old new x ms (find (is_called old) ms) (has_member old ms) distinct refl (sym (list_any-find (is_called old) ms))
+pub find-renamed : (old new x : List ℕ) (ms : List Member) → Distinct nick_of_member ms
+    → find (is_called x) (renamed old new ms) ≡ rename_as old new x (find (is_called old) ms) (find (is_called x) ms)
+find-renamed old new x ms distinct = ren_by old new x ms (find (is_called old) ms) (has_member old ms) distinct refl
+    (sym (list_any-find (is_called old) ms))
 
-dis_ren : (old new : List ℕ) (ms : List Member) (b : Bool) → Distinct nick_of_member ms → is_same old new ≡ b → Distinct nick_of_member (first_changed (is_called old) (with_nick new) (cond b ms (first_removed (is_called new) ms)))
+dis_ren : (old new : List ℕ) (ms : List Member) (b : Bool) → Distinct nick_of_member ms → is_same old new ≡ b
+    → Distinct nick_of_member (first_changed (is_called old) (with_nick new) (cond b ms (first_removed (is_called new) ms)))
 dis_ren old new ms true distinct is =
     distinct-renamed nick_of_member (with_nick new) old new (λ y. refl) ms distinct
     (within-all (is_called new) (is_called old) (λ y none. sym (is_same-left old new y.nick is) ∙ none) ms)
@@ -84,7 +95,8 @@ pub distinct-renamed_members : (old new : List ℕ) (ms : List Member) → Disti
 distinct-renamed_members old new ms distinct =
     either (Distinct nick_of_member) (has_member old ms) _ ms (dis_ren old new ms (is_same old new) distinct refl) distinct
 
-dis_come : (one : Member) (f : Member → Member) → ((m : Member) → (f m).nick ≡ m.nick) → (ms : List Member) (h : Bool) → has_member one.nick ms ≡ h → Distinct nick_of_member ms →
+dis_come : (one : Member) (f : Member → Member) → ((m : Member) → (f m).nick ≡ m.nick) → (ms : List Member) (h : Bool) → has_member one.nick ms ≡ h
+    → Distinct nick_of_member ms →
     Distinct nick_of_member (cond h (first_changed (is_called one.nick) f ms) (ms ++ one ∷ []))
 dis_come one f keeps ms true is distinct = distinct-changed nick_of_member (is_called one.nick) f keeps ms distinct
 dis_come one f keeps ms false is distinct = distinct-end nick_of_member ms one distinct is
@@ -106,35 +118,42 @@ mark_keeps HalfOp set m = refl
 abbrev pub channel_after : Item → List ℕ → List ℕ → Option Channel → Option Channel
 channel_after (Welcomed nick) me c o = None
 channel_after (Joined nick user host d) me c o =
-    cond (is_same c d) (cond (is_same nick me) (Some (opened d (unmarked nick user host))) (option_map (with_members (arrived (unmarked nick user host))) o)) o
+    cond (is_same c d) (cond (is_same nick me) (Some (opened d (unmarked nick user host)))
+    (option_map (with_members (arrived (unmarked nick user host))) o)) o
 channel_after (Left nick d) me c o = cond (is_same c d) (cond (is_same nick me) None (option_map (with_members (first_removed (is_called nick))) o)) o
 channel_after (Departed nick) me c o = cond (is_same nick me) None (option_map (with_members (first_removed (is_called nick))) o)
 channel_after (Renamed old new) me c o = option_map (with_members (renamed old new)) o
 channel_after (Marked d mark set nick) me c o = cond (is_same c d) (option_map (with_members (first_changed (is_called nick) (with_mark mark set))) o) o
 channel_after (Titled d topic) me c o = cond (is_same c d) (option_map (with_topic topic) o) o
 channel_after (Listed d one) me c o = cond (is_same c d) (option_map (with_members (listed one)) o) o
-channel_after (Addressed d nick user host) me c o = cond (is_same c d) (option_map (with_members (first_changed (is_called nick) (with_address user host))) o) o
+channel_after (Addressed d nick user host) me c o = cond (is_same c d)
+    (option_map (with_members (first_changed (is_called nick) (with_address user host))) o) o
 
-on_channel_is : (f : List Member → List Member) (c d : List ℕ) (chs : List Channel) → find (is_named c) (on_channel d f chs) ≡ cond (is_same c d) (option_map (with_members f) (find (is_named c) chs)) (find (is_named c) chs)
+on_channel_is : (f : List Member → List Member) (c d : List ℕ) (chs : List Channel)
+    → find (is_named c) (on_channel d f chs) ≡ cond (is_same c d) (option_map (with_members f) (find (is_named c) chs)) (find (is_named c) chs)
 on_channel_is f c d chs = find-changed name_of (with_members f) (λ ch. refl) c d chs
 
-choose : (c : List ℕ) (s : ChanState) (b e : Bool) (xs ys : List Channel) (o p q : Option Channel) → find (is_named c) xs ≡ cond e p o → find (is_named c) ys ≡ cond e q o →
+choose : (c : List ℕ) (s : ChanState) (b e : Bool) (xs ys : List Channel) (o p q : Option Channel) → find (is_named c) xs ≡ cond e p o
+    → find (is_named c) ys ≡ cond e q o →
     channel_in c (cond b (record s { channels = xs }) (record s { channels = ys })) ≡ cond e (cond b p q) o
 choose c s true e xs ys o p q one two = one
 choose c s false e xs ys o p q one two = two
 
-depart_by : (c : List ℕ) (s : ChanState) (b : Bool) (xs : List Channel) (o : Option Channel) → find (is_named c) xs ≡ o → channel_in c (cond b (record s { channels = [] }) (record s { channels = xs })) ≡ cond b None o
+depart_by : (c : List ℕ) (s : ChanState) (b : Bool) (xs : List Channel) (o : Option Channel) → find (is_named c) xs ≡ o
+    → channel_in c (cond b (record s { channels = [] }) (record s { channels = xs })) ≡ cond b None o
 depart_by c s true xs o is = refl
 depart_by c s false xs o is = is
 
-pub channel_in-step : (item : Item) (s : ChanState) (c : List ℕ) → Distinct name_of s.channels → channel_in c (step item s) ≡ channel_after item s.nick c (channel_in c s)
+pub channel_in-step : (item : Item) (s : ChanState) (c : List ℕ) → Distinct name_of s.channels
+    → channel_in c (step item s) ≡ channel_after item s.nick c (channel_in c s)
 channel_in-step (Welcomed nick) s c distinct = refl
 channel_in-step (Joined nick user host d) s c distinct =
     choose c s (is_same nick s.nick) (is_same c d) _ _ (channel_in c s) _ _
     (find-put_last name_of c (opened d (unmarked nick user host)) s.channels distinct)
     (on_channel_is (arrived (unmarked nick user host)) c d s.channels)
 channel_in-step (Left nick d) s c distinct =
-    choose c s (is_same nick s.nick) (is_same c d) _ _ (channel_in c s) _ _ (find-removed name_of c d s.channels distinct) (on_channel_is (first_removed (is_called nick)) c d s.channels)
+    choose c s (is_same nick s.nick) (is_same c d) _ _ (channel_in c s) _ _ (find-removed name_of c d s.channels distinct)
+    (on_channel_is (first_removed (is_called nick)) c d s.channels)
 channel_in-step (Departed nick) s c distinct =
     depart_by c s (is_same nick s.nick) _ _ (find-map (is_named c) (is_named c) (with_members (first_removed (is_called nick))) (λ ch. refl) s.channels)
 channel_in-step (Renamed old new) s c distinct = find-map (is_named c) (is_named c) (with_members (renamed old new)) (λ ch. refl) s.channels
@@ -160,11 +179,14 @@ distinct_on f d chs distinct = distinct-changed name_of (is_named d) (with_membe
 pub distinct-step : (item : Item) (s : ChanState) → Distinct name_of s.channels → Distinct name_of (step item s).channels
 distinct-step (Welcomed nick) s distinct = tt
 distinct-step (Joined nick user host d) s distinct =
-    either DistinctChannels (is_same nick s.nick) _ _ (distinct_put (opened d (unmarked nick user host)) s.channels distinct) (distinct_on (arrived (unmarked nick user host)) d s.channels distinct)
+    either DistinctChannels (is_same nick s.nick) _ _ (distinct_put (opened d (unmarked nick user host)) s.channels distinct)
+    (distinct_on (arrived (unmarked nick user host)) d s.channels distinct)
 distinct-step (Left nick d) s distinct =
-    either DistinctChannels (is_same nick s.nick) _ _ (distinct-removed name_of (is_named d) s.channels distinct) (distinct_on (first_removed (is_called nick)) d s.channels distinct)
+    either DistinctChannels (is_same nick s.nick) _ _ (distinct-removed name_of (is_named d) s.channels distinct)
+    (distinct_on (first_removed (is_called nick)) d s.channels distinct)
 distinct-step (Departed nick) s distinct =
-    either DistinctChannels (is_same nick s.nick) (record s { channels = [] }) _ tt (distinct-map name_of (with_members (first_removed (is_called nick))) (λ ch. refl) s.channels distinct)
+    either DistinctChannels (is_same nick s.nick) (record s { channels = [] }) _ tt
+    (distinct-map name_of (with_members (first_removed (is_called nick))) (λ ch. refl) s.channels distinct)
 distinct-step (Renamed old new) s distinct = distinct-map name_of (with_members (renamed old new)) (λ ch. refl) s.channels distinct
 distinct-step (Marked d mark set nick) s distinct = distinct_on (first_changed (is_called nick) (with_mark mark set)) d s.channels distinct
 distinct-step (Titled d topic) s distinct = distinct-changed name_of (is_named d) (with_topic topic) (λ ch. refl) s.channels distinct
@@ -176,7 +198,8 @@ distinct-step (Addressed d nick user host) s distinct = distinct_on (first_chang
 abbrev DistinctMembers : Option Channel → Type 0
 DistinctMembers o = Distinct nick_of_member (members_of o)
 
-members_by : (f : List Member → List Member) → ((ms : List Member) → Distinct nick_of_member ms → Distinct nick_of_member (f ms)) → (o : Option Channel) → DistinctMembers o → DistinctMembers (option_map (with_members f) o)
+members_by : (f : List Member → List Member) → ((ms : List Member) → Distinct nick_of_member ms → Distinct nick_of_member (f ms)) → (o : Option Channel)
+    → DistinctMembers o → DistinctMembers (option_map (with_members f) o)
 members_by f keeps None distinct = tt
 members_by f keeps (Some ch) distinct = keeps ch.members distinct
 
@@ -184,25 +207,33 @@ distinct_titled : (topic : List ℕ) (o : Option Channel) → DistinctMembers o 
 distinct_titled topic None distinct = tt
 distinct_titled topic (Some ch) distinct = distinct
 
-pub members-after : (item : Item) (me c : List ℕ) (o : Option Channel) → Distinct nick_of_member (members_of o) → Distinct nick_of_member (members_of (channel_after item me c o))
+pub members-after : (item : Item) (me c : List ℕ) (o : Option Channel) → Distinct nick_of_member (members_of o)
+    → Distinct nick_of_member (members_of (channel_after item me c o))
 members-after (Welcomed nick) me c o distinct = tt
 members-after (Joined nick user host d) me c o distinct =
     either DistinctMembers (is_same c d) _ o
-    (either DistinctMembers (is_same nick me) (Some (opened d (unmarked nick user host))) _ (refl, tt) (members_by (arrived (unmarked nick user host)) (distinct-arrived (unmarked nick user host)) o distinct))
+    (either DistinctMembers (is_same nick me) (Some (opened d (unmarked nick user host))) _ (refl, tt)
+    (members_by (arrived (unmarked nick user host)) (distinct-arrived (unmarked nick user host)) o distinct))
     distinct
 members-after (Left nick d) me c o distinct =
     either DistinctMembers (is_same c d) _ o
-    (either DistinctMembers (is_same nick me) None _ tt (members_by (first_removed (is_called nick)) (distinct-removed nick_of_member (is_called nick)) o distinct))
+    (either DistinctMembers (is_same nick me) None _ tt
+    (members_by (first_removed (is_called nick)) (distinct-removed nick_of_member (is_called nick)) o distinct))
     distinct
 members-after (Departed nick) me c o distinct =
-    either DistinctMembers (is_same nick me) None _ tt (members_by (first_removed (is_called nick)) (distinct-removed nick_of_member (is_called nick)) o distinct)
+    either DistinctMembers (is_same nick me) None _ tt
+    (members_by (first_removed (is_called nick)) (distinct-removed nick_of_member (is_called nick)) o distinct)
 members-after (Renamed old new) me c o distinct = members_by (renamed old new) (distinct-renamed_members old new) o distinct
 members-after (Marked d mark set nick) me c o distinct =
-    either DistinctMembers (is_same c d) _ o (members_by (first_changed (is_called nick) (with_mark mark set)) (distinct-changed nick_of_member (is_called nick) (with_mark mark set) (mark_keeps mark set)) o distinct) distinct
+    either DistinctMembers (is_same c d) _ o
+    (members_by (first_changed (is_called nick) (with_mark mark set))
+    (distinct-changed nick_of_member (is_called nick) (with_mark mark set) (mark_keeps mark set)) o distinct) distinct
 members-after (Titled d topic) me c o distinct = either DistinctMembers (is_same c d) _ o (distinct_titled topic o distinct) distinct
 members-after (Listed d one) me c o distinct = either DistinctMembers (is_same c d) _ o (members_by (listed one) (distinct-listed one) o distinct) distinct
 members-after (Addressed d nick user host) me c o distinct =
-    either DistinctMembers (is_same c d) _ o (members_by (first_changed (is_called nick) (with_address user host)) (distinct-changed nick_of_member (is_called nick) (with_address user host) (λ m. refl)) o distinct) distinct
+    either DistinctMembers (is_same c d) _ o
+    (members_by (first_changed (is_called nick) (with_address user host))
+    (distinct-changed nick_of_member (is_called nick) (with_address user host) (λ m. refl)) o distinct) distinct
 
 -- ---- members
 
@@ -210,7 +241,8 @@ members-after (Addressed d nick user host) me c o distinct =
 abbrev pub member_after : Item → List ℕ → Bool → List ℕ → (List ℕ → Option Member) → List ℕ → Option Member
 member_after (Welcomed nick) me here c look x = None
 member_after (Joined nick user host d) me here c look x =
-    cond (is_same c d) (cond (is_same nick me) (cond (is_same x nick) (Some (unmarked nick user host)) None) (cond (here && is_same x nick) (Some (come_as (unmarked nick user host) (with_address user host) (look x))) (look x))) (look x)
+    cond (is_same c d) (cond (is_same nick me) (cond (is_same x nick) (Some (unmarked nick user host)) None)
+    (cond (here && is_same x nick) (Some (come_as (unmarked nick user host) (with_address user host) (look x))) (look x))) (look x)
 member_after (Left nick d) me here c look x = cond (is_same c d && (is_same nick me || is_same x nick)) None (look x)
 member_after (Departed nick) me here c look x = cond (is_same nick me || is_same x nick) None (look x)
 member_after (Renamed old new) me here c look x = rename_as old new x (look old) (look x)
@@ -225,38 +257,46 @@ nothing false = refl
 
 m_joined : (x d : List ℕ) (one : Member) (b1 b2 : Bool) (o : Option Channel) →
     find (is_called x) (members_of (cond b1 (cond b2 (Some (opened d one)) (option_map (with_members (arrived one)) o)) o)) ≡
-    cond b1 (cond b2 (cond (is_same x one.nick) (Some one) None) (cond (is_some o && is_same x one.nick) (Some (come_as one (with_address one.user one.host) (find (is_called x) (members_of o)))) (find (is_called x) (members_of o)))) (find (is_called x) (members_of o))
+    cond b1 (cond b2 (cond (is_same x one.nick) (Some one) None)
+    (cond (is_some o && is_same x one.nick) (Some (come_as one (with_address one.user one.host) (find (is_called x) (members_of o))))
+    (find (is_called x) (members_of o)))) (find (is_called x) (members_of o))
 m_joined x d one true true o = refl
 m_joined x d one true false None = refl
 m_joined x d one true false (Some ch) = find-arrived one x ch.members
 m_joined x d one false b2 o = refl
 
 m_left : (x nick : List ℕ) (b1 b2 : Bool) (o : Option Channel) → Distinct nick_of_member (members_of o) →
-    find (is_called x) (members_of (cond b1 (cond b2 None (option_map (with_members (first_removed (is_called nick))) o)) o)) ≡ cond (b1 && (b2 || is_same x nick)) None (find (is_called x) (members_of o))
+    find (is_called x) (members_of (cond b1 (cond b2 None (option_map (with_members (first_removed (is_called nick))) o)) o))
+    ≡ cond (b1 && (b2 || is_same x nick)) None (find (is_called x) (members_of o))
 m_left x nick true true o distinct = refl
 m_left x nick true false None distinct = sym (nothing (is_same x nick))
 m_left x nick true false (Some ch) distinct = find-removed nick_of_member x nick ch.members distinct
 m_left x nick false b2 o distinct = refl
 
 m_changed : (x nick : List ℕ) (f : Member → Member) → ((m : Member) → (f m).nick ≡ m.nick) → (b : Bool) (o : Option Channel) →
-    find (is_called x) (members_of (cond b (option_map (with_members (first_changed (is_called nick) f)) o) o)) ≡ cond (b && is_same x nick) (option_map f (find (is_called x) (members_of o))) (find (is_called x) (members_of o))
+    find (is_called x) (members_of (cond b (option_map (with_members (first_changed (is_called nick) f)) o) o))
+    ≡ cond (b && is_same x nick) (option_map f (find (is_called x) (members_of o))) (find (is_called x) (members_of o))
 m_changed x nick f keeps true None = sym (nothing (is_same x nick))
 m_changed x nick f keeps true (Some ch) = find-changed nick_of_member f keeps x nick ch.members
 m_changed x nick f keeps false o = refl
 
-m_titled : (x topic : List ℕ) (b : Bool) (o : Option Channel) → find (is_called x) (members_of (cond b (option_map (with_topic topic) o) o)) ≡ find (is_called x) (members_of o)
+m_titled : (x topic : List ℕ) (b : Bool) (o : Option Channel)
+    → find (is_called x) (members_of (cond b (option_map (with_topic topic) o) o)) ≡ find (is_called x) (members_of o)
 m_titled x topic true None = refl
 m_titled x topic true (Some ch) = refl
 m_titled x topic false o = refl
 
 m_listed : (x : List ℕ) (one : Member) (b : Bool) (o : Option Channel) →
-    find (is_called x) (members_of (cond b (option_map (with_members (listed one)) o) o)) ≡ cond (b && (is_some o && is_same x one.nick)) (Some (come_as one (with_marks_of one) (find (is_called x) (members_of o)))) (find (is_called x) (members_of o))
+    find (is_called x) (members_of (cond b (option_map (with_members (listed one)) o) o))
+    ≡ cond (b && (is_some o && is_same x one.nick)) (Some (come_as one (with_marks_of one) (find (is_called x) (members_of o))))
+    (find (is_called x) (members_of o))
 m_listed x one true None = refl
 m_listed x one true (Some ch) = find-listed one x ch.members
 m_listed x one false o = refl
 
 m_renamed : (x old new : List ℕ) (o : Option Channel) → Distinct nick_of_member (members_of o) →
-    find (is_called x) (members_of (option_map (with_members (renamed old new)) o)) ≡ rename_as old new x (find (is_called old) (members_of o)) (find (is_called x) (members_of o))
+    find (is_called x) (members_of (option_map (with_members (renamed old new)) o))
+    ≡ rename_as old new x (find (is_called old) (members_of o)) (find (is_called x) (members_of o))
 m_renamed x old new None distinct = sym (rename_as-none old new x None)
 m_renamed x old new (Some ch) distinct = find-renamed old new x ch.members distinct
 

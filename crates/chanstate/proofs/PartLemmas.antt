@@ -8,7 +8,8 @@ use Rattle.chanstate.specs.declared.member.Mark.TheVariants.{Op, Voice, HalfOp}
 use Rattle.rfccase.specs.Casemapping.{is_same}
 use Rattle.chanstate.specs.Members.{unmarked, with_mark, with_address, with_marks_of, with_nick}
 use Rattle.chanstate.specs.Items.{Item, Welcomed, Joined, Left, Departed, Renamed, Marked, Titled, Listed, Addressed}
-use Rattle.chanstate.specs.History.{topic, member_said, has_mark, mark_begins, mark_says, if_same_mark, user_begins, user_says, host_begins, host_says, nick_begins, nick_says, before}
+use Rattle.chanstate.specs.History.{topic, member_said, has_mark, mark_begins, mark_says, if_same_mark, user_begins, user_says, host_begins, host_says}
+use Rattle.chanstate.specs.History.{nick_begins, nick_says, before}
 use Rattle.chanstate.proofs.LookLemmas.{come_as, come_as-none, come_as-some, rename_as, rename_as-none, rename_as-some}
 use Rattle.chanstate.proofs.ItemLemmas.{member_after, mark_keeps}
 
@@ -19,24 +20,29 @@ pub record Part {A : Type 0} (get : Member → A) (begins : Item → A) (says : 
   pub lists : (d : List ℕ) (one : Member) → get one ≡ begins (Listed d one)
   pub relists : (d : List ℕ) (one m : Member) → get (with_marks_of one m) ≡ unwrap_or (says (Listed d one)) (get m)
   pub renames : (old new : List ℕ) (m : Member) → get (with_nick new m) ≡ unwrap_or (says (Renamed old new)) (get m)
-  pub marks : (d : List ℕ) (mark : Mark) (set : Bool) (nick : List ℕ) (m : Member) → get (with_mark mark set m) ≡ unwrap_or (says (Marked d mark set nick)) (get m)
+  pub marks : (d : List ℕ) (mark : Mark) (set : Bool) (nick : List ℕ) (m : Member)
+      → get (with_mark mark set m) ≡ unwrap_or (says (Marked d mark set nick)) (get m)
   pub addresses : (d nick user host : List ℕ) (m : Member) → get (with_address user host m) ≡ unwrap_or (says (Addressed d nick user host)) (get m)
 
 abbrev pub Has : {A : Type 0} → (Member → A) → A → Option Member → Type 0
 Has get a o = IfSome o (λ m. get m ≡ a)
 
 d_come : {A : Type 0} (get : Member → A) (one : Member) (f : Member → Member) (begins : A) (says : Option A) (a : A) (o : Option Member) →
-    get one ≡ begins → ((m : Member) → get (f m) ≡ unwrap_or says (get m)) → Has get a o → get (come_as one f o) ≡ cond (not (is_some o)) begins (unwrap_or says a)
+    get one ≡ begins → ((m : Member) → get (f m) ≡ unwrap_or says (get m)) → Has get a o
+    → get (come_as one f o) ≡ cond (not (is_some o)) begins (unwrap_or says a)
 d_come get one f begins says a None new old is = ap get (come_as-none one f) ∙ new
 d_come get one f begins says a (Some m) new old is = ap get (come_as-some one f m) ∙ (old m ∙ ap (unwrap_or says) is)
 
-d_joined : {A : Type 0} (get : Member → A) (one : Member) (f : Member → Member) (begins : A) (says : Option A) (a : A) (o : Option Member) (b1 b2 b3 here : Bool) →
+d_joined : {A : Type 0} (get : Member → A) (one : Member) (f : Member → Member) (begins : A) (says : Option A) (a : A) (o : Option Member)
+    (b1 b2 b3 here : Bool) →
     get one ≡ begins → ((m : Member) → get (f m) ≡ unwrap_or says (get m)) → (here ≡ false → o ≡ None) → Has get a o →
-    Has get (cond (b1 && b3) (cond (b2 || not (is_some o)) begins (unwrap_or says a)) a) (cond b1 (cond b2 (cond b3 (Some one) None) (cond (here && b3) (Some (come_as one f o)) o)) o)
+    Has get (cond (b1 && b3) (cond (b2 || not (is_some o)) begins (unwrap_or says a)) a)
+    (cond b1 (cond b2 (cond b3 (Some one) None) (cond (here && b3) (Some (come_as one f o)) o)) o)
 d_joined get one f begins says a o true true true here new old away is = new
 d_joined get one f begins says a o true true false here new old away is = tt
 d_joined get one f begins says a o true false true true new old away is = d_come get one f begins says a o new old is
-d_joined get one f begins says a o true false true false new old away is = subst (λ w. Has get (cond (not (is_some o)) begins (unwrap_or says a)) w) (sym (away refl)) tt
+d_joined get one f begins says a o true false true false new old away is = subst (λ w. Has get (cond (not (is_some o)) begins (unwrap_or says a)) w)
+    (sym (away refl)) tt
 d_joined get one f begins says a o true false false true new old away is = is
 d_joined get one f begins says a o true false false false new old away is = is
 d_joined get one f begins says a o false b2 b3 here new old away is = is
@@ -45,11 +51,14 @@ swapped : {A : Type 0} (b : Bool) (x y : A) → cond (not b) x y ≡ cond b y x
 swapped true x y = refl
 swapped false x y = refl
 
-d_listed : {A : Type 0} (get : Member → A) (one : Member) (f : Member → Member) (begins : A) (says : Option A) (a : A) (o : Option Member) (b1 b3 here : Bool) →
+d_listed : {A : Type 0} (get : Member → A) (one : Member) (f : Member → Member) (begins : A) (says : Option A) (a : A) (o : Option Member)
+    (b1 b3 here : Bool) →
     get one ≡ begins → ((m : Member) → get (f m) ≡ unwrap_or says (get m)) → (here ≡ false → o ≡ None) → Has get a o →
     Has get (cond (b1 && b3) (cond (is_some o) (unwrap_or says a) begins) a) (cond (b1 && (here && b3)) (Some (come_as one f o)) o)
-d_listed get one f begins says a o true true true new old away is = d_come get one f begins says a o new old is ∙ swapped (is_some o) begins (unwrap_or says a)
-d_listed get one f begins says a o true true false new old away is = subst (λ w. Has get (cond (is_some o) (unwrap_or says a) begins) w) (sym (away refl)) tt
+d_listed get one f begins says a o true true true new old away is = d_come get one f begins says a o new old is
+    ∙ swapped (is_some o) begins (unwrap_or says a)
+d_listed get one f begins says a o true true false new old away is = subst (λ w. Has get (cond (is_some o) (unwrap_or says a) begins) w)
+    (sym (away refl)) tt
 d_listed get one f begins says a o true false true new old away is = is
 d_listed get one f begins says a o true false false new old away is = is
 d_listed get one f begins says a o false b3 here new old away is = is
@@ -64,12 +73,14 @@ d_gone : {A : Type 0} (get : Member → A) (a : A) (o : Option Member) (b : Bool
 d_gone get a o true is = tt
 d_gone get a o false is = is
 
-d_renamed_some : {A : Type 0} (get : Member → A) (new : Member) (now a : A) (o : Option Member) (b2 b3 : Bool) → get new ≡ now → Has get a o → Has get (cond b2 now a) (cond b2 (Some new) (cond b3 None o))
+d_renamed_some : {A : Type 0} (get : Member → A) (new : Member) (now a : A) (o : Option Member) (b2 b3 : Bool) → get new ≡ now → Has get a o
+    → Has get (cond b2 now a) (cond b2 (Some new) (cond b3 None o))
 d_renamed_some get new now a o true b3 made is = made
 d_renamed_some get new now a o false true made is = tt
 d_renamed_some get new now a o false false made is = is
 
-d_renamed : {A : Type 0} (get : Member → A) (old new x : List ℕ) (says : Option A) (a e : A) (w o : Option Member) → ((m : Member) → get (with_nick new m) ≡ unwrap_or says (get m)) → Has get e w → Has get a o →
+d_renamed : {A : Type 0} (get : Member → A) (old new x : List ℕ) (says : Option A) (a e : A) (w o : Option Member)
+    → ((m : Member) → get (with_nick new m) ≡ unwrap_or says (get m)) → Has get e w → Has get a o →
     Has get (cond (is_some w && is_same x new) (unwrap_or says e) a) (rename_as old new x w o)
 d_renamed get old new x says a e None o made before is = subst (λ z. Has get a z) (sym (rename_as-none old new x o)) is
 d_renamed get old new x says a e (Some m) o made before is =
@@ -77,24 +88,29 @@ d_renamed get old new x says a e (Some m) o made before is =
     (d_renamed_some get (with_nick new m) (unwrap_or says e) a o (is_same x new) (is_same x old) (made m ∙ ap (unwrap_or says) before) is)
 
 pub known-after : {A : Type 0} (get : Member → A) (begins : Item → A) (says : Item → Option A) → Part get begins says →
-    (item : Item) (me : List ℕ) (here : Bool) (c x : List ℕ) (look : List ℕ → Option Member) (before : List ℕ → A) → (here ≡ false → look x ≡ None) → ((y : List ℕ) → Has get (before y) (look y)) →
+    (item : Item) (me : List ℕ) (here : Bool) (c x : List ℕ) (look : List ℕ → Option Member) (before : List ℕ → A) → (here ≡ false → look x ≡ None)
+    → ((y : List ℕ) → Has get (before y) (look y)) →
     Has get (member_said begins says item me c (λ y. is_some (look y)) before x) (member_after item me here c look x)
 known-after get begins says part (Welcomed nick) me here c x look before away is = tt
 known-after get begins says part (Joined nick user host d) me here c x look before away is =
-    d_joined get (unmarked nick user host) (with_address user host) (begins (Joined nick user host d)) (says (Joined nick user host d)) (before x) (look x) (is_same c d) (is_same nick me) (is_same x nick) here
+    d_joined get (unmarked nick user host) (with_address user host) (begins (Joined nick user host d)) (says (Joined nick user host d)) (before x)
+    (look x) (is_same c d) (is_same nick me) (is_same x nick) here
     (part.joins nick user host d) (part.rejoins nick user host d) away (is x)
-known-after get begins says part (Left nick d) me here c x look before away is = d_gone get (before x) (look x) (is_same c d && (is_same nick me || is_same x nick)) (is x)
+known-after get begins says part (Left nick d) me here c x look before away is = d_gone get (before x) (look x)
+    (is_same c d && (is_same nick me || is_same x nick)) (is x)
 known-after get begins says part (Departed nick) me here c x look before away is = d_gone get (before x) (look x) (is_same nick me || is_same x nick) (is x)
 known-after get begins says part (Renamed old new) me here c x look before away is =
     d_renamed get old new x (says (Renamed old new)) (before x) (before old) (look old) (look x) (part.renames old new) (is old) (is x)
 known-after get begins says part (Marked d mark set nick) me here c x look before away is =
-    d_changed get (with_mark mark set) (says (Marked d mark set nick)) (before x) (look x) (is_same c d && is_same x nick) (part.marks d mark set nick) (is x)
+    d_changed get (with_mark mark set) (says (Marked d mark set nick)) (before x) (look x) (is_same c d && is_same x nick) (part.marks d mark set nick)
+    (is x)
 known-after get begins says part (Titled d topic) me here c x look before away is = is x
 known-after get begins says part (Listed d one) me here c x look before away is =
     d_listed get one (with_marks_of one) (begins (Listed d one)) (says (Listed d one)) (before x) (look x) (is_same c d) (is_same x one.nick) here
     (part.lists d one) (part.relists d one) away (is x)
 known-after get begins says part (Addressed d nick user host) me here c x look before away is =
-    d_changed get (with_address user host) (says (Addressed d nick user host)) (before x) (look x) (is_same c d && is_same x nick) (part.addresses d nick user host) (is x)
+    d_changed get (with_address user host) (says (Addressed d nick user host)) (before x) (look x) (is_same c d && is_same x nick)
+    (part.addresses d nick user host) (is x)
 
 -- ---- the parts of a member
 

@@ -1,5 +1,7 @@
 -- Seats and their index: what edits of both mean for those who sit there.
-use Rattle.std.proofs.Common.{◌≡◌, ◌≢◌, ◌⊎◌, inl, inr, ⊎_elim, ℕ, zero, suc, ◌+◌, ◌<◌, Bool, true, false, cond, ◌||◌, List, [], ◌∷◌, ◌++◌, length, get_or, set, take, map, filter, nat_eq, eqb, refl, sym, ap, subst, ◌∙◌, Option, None, Some, is_some, Result, Ok, Err, IsOk, OnOk, true≢false, if◌then◌else◌, arith, rules}
+use Rattle.std.proofs.Common.{◌≡◌, ◌≢◌, ◌⊎◌, inl, inr, ⊎_elim, ℕ, zero, suc, ◌+◌, ◌<◌, Bool, true, false, cond, ◌||◌, List, [], ◌∷◌, ◌++◌, length, get_or}
+use Rattle.std.proofs.Common.{set, take, map, filter, nat_eq, eqb, refl, sym, ap, subst, ◌∙◌, Option, None, Some, is_some, Result, Ok, Err, IsOk, OnOk}
+use Rattle.std.proofs.Common.{true≢false, if◌then◌else◌, arith, rules}
 use Rattle.std.specs.Prelude.{find}
 use Rattle.std.specs.List.{list_any, filter_map, cons_option, position}
 use Rattle.std.specs.Option.{option_to_list, option_copied}
@@ -117,7 +119,8 @@ are_apart : (lower other : List ℕ) → pointwise nat_eq other lower ≡ false 
 are_apart lower other apart k is = ap (pointwise nat_eq other) (sym (pointwise-same lower k.items is)) ∙ apart
 
 -- an update of the index, as the map tells it
-pub changed-by : (lower : List ℕ) (w : Option ℕ) (old new : Entries) → place_under lower new ≡ w → KeepsOthers keys_alike (has_key lower) old new → IsChanged lower w old new
+pub changed-by : (lower : List ℕ) (w : Option ℕ) (old new : Entries) → place_under lower new ≡ w → KeepsOthers keys_alike (has_key lower) old new
+    → IsChanged lower w old new
 unfolding KeepsOthers
 changed-by lower w old new own keeps = record {
   own = own;
@@ -142,7 +145,8 @@ same_place i j is = cc
 -- the index after edits
 
 -- a member leaves the seat empty
-pub indexed-gone : (ps : Places) (es fs : Entries) (i : ℕ) (m : Member) → AreIndexed ps es → SitsAt ps i m → IsChanged (folded m.nick) None es fs → AreIndexed (set ps i None) fs
+pub indexed-gone : (ps : Places) (es fs : Entries) (i : ℕ) (m : Member) → AreIndexed ps es → SitsAt ps i m → IsChanged (folded m.nick) None es fs
+    → AreIndexed (set ps i None) fs
 indexed-gone ps es fs i m indexed at change = record { found = found; named = named }
   where
     found : (j : ℕ) (x : Member) → SitsAt (set ps i None) j x → place_under (folded x.nick) fs ≡ Some j
@@ -168,7 +172,8 @@ indexed-gone ps es fs i m indexed at change = record { found = found; named = na
         (by_lower (folded m.nick) lower None es fs change)
 
 -- someone takes an empty seat
-pub indexed-filled : (ps : Places) (es fs : Entries) (i : ℕ) (m : Member) → AreIndexed ps es → i < length ps → ((x : Member) → SitsAt ps i x → ⊥) → place_under (folded m.nick) es ≡ None
+pub indexed-filled : (ps : Places) (es fs : Entries) (i : ℕ) (m : Member) → AreIndexed ps es → i < length ps → ((x : Member) → SitsAt ps i x → ⊥)
+    → place_under (folded m.nick) es ≡ None
     → IsChanged (folded m.nick) (Some i) es fs → AreIndexed (set ps i (Some m)) fs
 indexed-filled ps es fs i m indexed less free none change = record { found = found; named = named }
   where
@@ -193,7 +198,8 @@ indexed-filled ps es fs i m indexed less free none change = record { found = fou
         (by_lower (folded m.nick) lower (Some i) es fs change)
 
 -- someone takes a new seat
-pub indexed-last : (ps : Places) (es fs : Entries) (m : Member) → AreIndexed ps es → place_under (folded m.nick) es ≡ None → IsChanged (folded m.nick) (Some (length ps)) es fs
+pub indexed-last : (ps : Places) (es fs : Entries) (m : Member) → AreIndexed ps es → place_under (folded m.nick) es ≡ None
+    → IsChanged (folded m.nick) (Some (length ps)) es fs
     → AreIndexed (ps ++ Some m ∷ []) fs
 indexed-last ps es fs m indexed none change = record { found = found; named = named }
   where
@@ -215,14 +221,16 @@ indexed-last ps es fs m indexed none change = record { found = found; named = na
         (by_lower (folded m.nick) lower (Some (length ps)) es fs change)
 
 -- someone is changed, and keeps the nick
-pub indexed-edited : (ps : Places) (es : Entries) (i : ℕ) (m n : Member) → AreIndexed ps es → SitsAt ps i m → n.nick ≡ m.nick → AreIndexed (set ps i (Some n)) es
+pub indexed-edited : (ps : Places) (es : Entries) (i : ℕ) (m n : Member) → AreIndexed ps es → SitsAt ps i m → n.nick ≡ m.nick
+    → AreIndexed (set ps i (Some n)) es
 indexed-edited ps es i m n indexed at same = record { found = found; named = named }
   where
     found : (j : ℕ) (x : Member) → SitsAt (set ps i (Some n)) j x → place_under (folded x.nick) es ≡ Some j
     found j x sits = ⊎_elim
         (λ here.
         let is : x ≡ n = cc in
-        ap (λ (y : Member). place_under (folded y.nick) es) is ∙ ap (λ l. place_under (folded l) es) same ∙ indexed.found i m at ∙ ap (λ k. Some k) (sym here.0))
+        ap (λ (y : Member). place_under (folded y.nick) es) is ∙ ap (λ l. place_under (folded l) es) same ∙ indexed.found i m at
+        ∙ ap (λ k. Some k) (sym here.0))
         (λ there. indexed.found j x there.1)
         (SitsAt-set ps i j (Some n) x sits)
 
@@ -235,8 +243,12 @@ indexed-edited ps es i m n indexed at same = record { found = found; named = nam
         by : (b : Bool) → eqb j i ≡ b → (x : Member) × SitsAt (set ps i (Some n)) j x × (folded x.nick ≡ lower)
         by true e =
             let here : j ≡ i = eqb-true j i e in
-            let old : was.0 ≡ m = SitsAt-same ps i was.0 m (subst (λ k. SitsAt ps k was.0) here was.1) at in
-            (n, subst (λ k. SitsAt (set ps i (Some n)) k n) (sym here) (SitsAt-set_same ps i n (SitsAt-within ps i m at)), ap folded same ∙ ap (λ (y : Member). folded y.nick) (sym old) ∙ was.2)
+            let old : was.0 ≡ m = SitsAt-same ps i was.0 m (subst (λ k. SitsAt ps k was.0) here was.1) at in (
+              n,
+              subst (λ k. SitsAt (set ps i (Some n)) k n) (sym here) (SitsAt-set_same ps i n (SitsAt-within ps i m at)),
+              ap folded same
+                  ∙ ap (λ (y : Member). folded y.nick) (sym old) ∙ was.2,
+            )
         by false e = (was.0, SitsAt-set_other ps i j (Some n) was.0 (eqb-false j i e) was.1, was.2)
 
 -- those who sit there, after edits
@@ -262,7 +274,8 @@ only-head nick x ps i only = by (is_called nick x) refl
     by true is = absurd (let e : 0 ≡ suc i = only 0 x refl is in omega (arith, e))
     by false is = refl
 
-pub seated-gone : (nick : List ℕ) (ps : Places) (i : ℕ) (m : Member) → SitsAt ps i m → is_called nick m ≡ true → IsOnly nick ps i → seated (set ps i None) ≡ first_removed (is_called nick) (seated ps)
+pub seated-gone : (nick : List ℕ) (ps : Places) (i : ℕ) (m : Member) → SitsAt ps i m → is_called nick m ≡ true → IsOnly nick ps i
+    → seated (set ps i None) ≡ first_removed (is_called nick) (seated ps)
 seated-gone nick [] i m at called only = absurd at
 seated-gone nick (None ∷ ps) zero m at called only = cc
 seated-gone nick (Some x ∷ ps) zero m at called only =
@@ -272,9 +285,11 @@ seated-gone nick (Some x ∷ ps) zero m at called only =
     same_one x m e = cc
 seated-gone nick (None ∷ ps) (suc i) m at called only = seated-gone nick ps i m at called (only-tail nick None ps i only)
 seated-gone nick (Some x ∷ ps) (suc i) m at called only =
-    ap (λ ms. x ∷ ms) (seated-gone nick ps i m at called (only-tail nick (Some x) ps i only)) ∙ sym (cond-false (is_called nick x) _ _ (only-head nick x ps i only))
+    ap (λ ms. x ∷ ms) (seated-gone nick ps i m at called (only-tail nick (Some x) ps i only))
+    ∙ sym (cond-false (is_called nick x) _ _ (only-head nick x ps i only))
 
-pub seated-edited : (nick : List ℕ) (f : Member → Member) (ps : Places) (i : ℕ) (m n : Member) → SitsAt ps i m → n ≡ f m → is_called nick m ≡ true → IsOnly nick ps i
+pub seated-edited : (nick : List ℕ) (f : Member → Member) (ps : Places) (i : ℕ) (m n : Member) → SitsAt ps i m → n ≡ f m → is_called nick m ≡ true
+    → IsOnly nick ps i
     → seated (set ps i (Some n)) ≡ first_changed (is_called nick) f (seated ps)
 seated-edited nick f [] i m n at made called only = absurd at
 seated-edited nick f (None ∷ ps) zero m n at made called only = cc
@@ -286,9 +301,11 @@ seated-edited nick f (Some x ∷ ps) zero m n at made called only =
     same_one x m e = cc
 seated-edited nick f (None ∷ ps) (suc i) m n at made called only = seated-edited nick f ps i m n at made called (only-tail nick None ps i only)
 seated-edited nick f (Some x ∷ ps) (suc i) m n at made called only =
-    ap (λ ms. x ∷ ms) (seated-edited nick f ps i m n at made called (only-tail nick (Some x) ps i only)) ∙ sym (cond-false (is_called nick x) _ _ (only-head nick x ps i only))
+    ap (λ ms. x ∷ ms) (seated-edited nick f ps i m n at made called (only-tail nick (Some x) ps i only))
+    ∙ sym (cond-false (is_called nick x) _ _ (only-head nick x ps i only))
 
-pub seated-found : (nick : List ℕ) (ps : Places) (i : ℕ) (m : Member) → SitsAt ps i m → is_called nick m ≡ true → IsOnly nick ps i → find (is_called nick) (seated ps) ≡ Some m
+pub seated-found : (nick : List ℕ) (ps : Places) (i : ℕ) (m : Member) → SitsAt ps i m → is_called nick m ≡ true → IsOnly nick ps i
+    → find (is_called nick) (seated ps) ≡ Some m
 seated-found nick [] i m at called only = absurd at
 seated-found nick (None ∷ ps) zero m at called only = cc
 seated-found nick (Some x ∷ ps) zero m at called only = cond-true (is_called nick x) _ _ (ap (is_called nick) (same_one x m at) ∙ called) ∙ at
@@ -317,7 +334,8 @@ nobody-from nick ps es indexed none j x sits = by (is_called nick x) refl
 
 -- by the index
 
-pub has-none : (nick : List ℕ) (ps : Places) (es : Entries) → AreIndexed ps es → place_under (folded nick) es ≡ None → list_any (is_called nick) (seated ps) ≡ false
+pub has-none : (nick : List ℕ) (ps : Places) (es : Entries) → AreIndexed ps es → place_under (folded nick) es ≡ None
+    → list_any (is_called nick) (seated ps) ≡ false
 has-none nick ps es indexed none = seated-nobody nick ps (nobody-from nick ps es indexed none)
 
 any_step : (a b : Bool) → (a ≡ true) ⊎ (b ≡ true) → (a || b) ≡ true
@@ -332,13 +350,15 @@ any-found : {X : Type 0} (p : X → Bool) (xs : List X) (x : X) → find p xs �
 any-found p [] x is = cc
 any-found p (y ∷ ys) x is = any_step (p y) (list_any p ys) (⊎_elim (λ e. inl e) (λ rest. inr (any-found p ys x rest)) (found_step (p y) x y (find p ys) is))
 
-pub has-some : (nick : List ℕ) (ps : Places) (es : Entries) (i : ℕ) → AreIndexed ps es → place_under (folded nick) es ≡ Some i → list_any (is_called nick) (seated ps) ≡ true
+pub has-some : (nick : List ℕ) (ps : Places) (es : Entries) (i : ℕ) → AreIndexed ps es → place_under (folded nick) es ≡ Some i
+    → list_any (is_called nick) (seated ps) ≡ true
 has-some nick ps es i indexed is =
     let who = indexed.named (folded nick) i is in
     any-found (is_called nick) (seated ps) who.0 (seated-found nick ps i who.0 who.1 (called-from nick who.0 who.2) (only-from nick ps es i indexed is))
 
 -- who has no seat has no place
-pub none-from : (nick : List ℕ) (ps : Places) (es : Entries) → AreIndexed ps es → list_any (is_called nick) (seated ps) ≡ false → place_under (folded nick) es ≡ None
+pub none-from : (nick : List ℕ) (ps : Places) (es : Entries) → AreIndexed ps es → list_any (is_called nick) (seated ps) ≡ false
+    → place_under (folded nick) es ≡ None
 none-from nick ps es indexed absent = by (place_under (folded nick) es) refl
   where
     by : (o : Option ℕ) → place_under (folded nick) es ≡ o → o ≡ None
@@ -354,9 +374,11 @@ one_of (Some y) = refl
 pub seated-append : (ps : Places) (o : Option Member) → seated (ps ++ o ∷ []) ≡ seated ps ++ option_to_list o
 seated-append ps o = filter_map-append (λ x. x) ps (o ∷ []) ∙ ap (λ ms. seated ps ++ ms) (one_of o)
 
-pub filter_map-more : {X Y : Type 0} (f : X → Option Y) (xs : List X) (i : ℕ) (d : X) → i < length xs → filter_map f (take (i + 1) xs) ≡ filter_map f (take i xs) ++ option_to_list (f (get_or xs i d))
+pub filter_map-more : {X Y : Type 0} (f : X → Option Y) (xs : List X) (i : ℕ) (d : X) → i < length xs
+    → filter_map f (take (i + 1) xs) ≡ filter_map f (take i xs) ++ option_to_list (f (get_or xs i d))
 filter_map-more f xs i d less =
-    ap (filter_map f) (take_more xs i d less) ∙ filter_map-append f (take i xs) (get_or xs i d ∷ []) ∙ ap (λ ys. filter_map f (take i xs) ++ ys) (one_of (f (get_or xs i d)))
+    ap (filter_map f) (take_more xs i d less) ∙ filter_map-append f (take i xs) (get_or xs i d ∷ [])
+    ∙ ap (λ ys. filter_map f (take i xs) ++ ys) (one_of (f (get_or xs i d)))
 
 pub seated-taken : (ps : Places) → seated (taken ps) ≡ seated ps
 seated-taken [] = refl
@@ -375,14 +397,16 @@ any_seated nick [] = refl
 any_seated nick (None ∷ ps) = any_seated nick ps
 any_seated nick (Some m ∷ ps) = ap (λ b. is_called nick m || b) (any_seated nick ps)
 
-seat_sits : (nick : List ℕ) (ps : Places) (i : ℕ) (d : Option Member) → i < length ps → is_seat_of nick (get_or ps i d) ≡ true → (m : Member) × SitsAt ps i m × (is_called nick m ≡ true)
+seat_sits : (nick : List ℕ) (ps : Places) (i : ℕ) (d : Option Member) → i < length ps → is_seat_of nick (get_or ps i d) ≡ true
+    → (m : Member) × SitsAt ps i m × (is_called nick m ≡ true)
 seat_sits nick ps i d less passes = by (get_or ps i d) refl passes
   where
     by : (o : Option Member) → get_or ps i d ≡ o → is_seat_of nick o ≡ true → (m : Member) × SitsAt ps i m × (is_called nick m ≡ true)
     by None is p = cc
     by (Some m) is p = (m, SitsAt-from ps i m d less is, p)
 
-pub walked : (nick : List ℕ) (ps : Places) (es : Entries) (o : Option ℕ) → AreIndexed ps es → o ≡ position (is_seat_of nick) ps → o ≡ place_under (folded nick) es
+pub walked : (nick : List ℕ) (ps : Places) (es : Entries) (o : Option ℕ) → AreIndexed ps es → o ≡ position (is_seat_of nick) ps
+    → o ≡ place_under (folded nick) es
 walked nick ps es None indexed is = sym (none-from nick ps es indexed (any_seated nick ps ∙ list_any-no_position (is_seat_of nick) ps (sym is)))
 walked nick ps es (Some i) indexed is =
     let first = first-from_position (is_seat_of nick) ps i None (sym is) in
@@ -428,14 +452,19 @@ made-next ps all i d es fs n k indexed less so_far count next = by (get_or ps i 
     more : take (i + 1) ps ≡ take i ps ++ get_or ps i d ∷ []
     more = take_more ps i d less
 
-    by : (o : Option Member) → get_or ps i d ≡ o → IsIndexedNext o n es k fs → AreIndexed (taken (take (i + 1) ps)) fs × (k ≡ length (taken (take (i + 1) ps)))
+    by : (o : Option Member) → get_or ps i d ≡ o → IsIndexedNext o n es k fs
+        → AreIndexed (taken (take (i + 1) ps)) fs × (k ≡ length (taken (take (i + 1) ps)))
     by None is step =
-        let whole : taken (take (i + 1) ps) ≡ before = ap taken (more ∙ ap (λ o. take i ps ++ o ∷ []) is) ∙ taken-none (take i ps) in
-        (subst (λ es. AreIndexed (taken (take (i + 1) ps)) es) (sym step.0) (subst (λ qs. AreIndexed qs es) (sym whole) so_far), step.1 ∙ count ∙ ap length (sym whole))
+        let whole : taken (take (i + 1) ps) ≡ before = ap taken (more ∙ ap (λ o. take i ps ++ o ∷ []) is) ∙ taken-none (take i ps) in (
+          subst (λ es. AreIndexed (taken (take (i + 1) ps)) es) (sym step.0) (subst (λ qs. AreIndexed qs es) (sym whole) so_far),
+          step.1 ∙ count
+              ∙ ap length (sym whole),
+        )
     by (Some m) is step =
         let whole : taken (take (i + 1) ps) ≡ before ++ Some m ∷ [] = ap taken (more ∙ ap (λ o. take i ps ++ o ∷ []) is) ∙ taken-some (take i ps) m in
         let absent = none (place_under (folded m.nick) es) refl m is in (
-          subst (λ qs. AreIndexed qs fs) (sym whole) (indexed-last before es fs m so_far absent (subst (λ c. IsChanged (folded m.nick) (Some c) es fs) count step.0)),
+          subst (λ qs. AreIndexed qs fs) (sym whole)
+              (indexed-last before es fs m so_far absent (subst (λ c. IsChanged (folded m.nick) (Some c) es fs) count step.0)),
           (let total = step.1 absent in let long = length-last before (Some m) in let same = ap length whole in omega (arith, total, long, same, count)),
         )
       where
@@ -454,7 +483,8 @@ made-next ps all i d es fs n k indexed less so_far count next = by (get_or ps i 
 -- edits as the code makes them: the seat at `at` is read as `o`, and the index is changed under `lower`
 
 -- a place of the index is taken
-pub not_vacant : (nick : List ℕ) (ps : Places) (es : Entries) (at : ℕ) (d : Option Member) → AreIndexed ps es → place_under (folded nick) es ≡ Some at → get_or ps at d ≡ None → ⊥
+pub not_vacant : (nick : List ℕ) (ps : Places) (es : Entries) (at : ℕ) (d : Option Member) → AreIndexed ps es → place_under (folded nick) es ≡ Some at
+    → get_or ps at d ≡ None → ⊥
 not_vacant nick ps es at d indexed is vacant =
     let who = indexed.named (folded nick) at is in
     some_apart who.0 (sym vacant ∙ SitsAt-get_or ps at who.0 d who.1)
@@ -462,9 +492,11 @@ not_vacant nick ps es at d indexed is vacant =
 one_member : (m n : Member) → Some m ≡ Some n → m ≡ n
 one_member m n is = cc
 
-pub vacated : (nick lower : List ℕ) (ps : Places) (es fs : Entries) (at : ℕ) (m : Member) (o d : Option Member) → AreIndexed ps es → place_under (folded nick) es ≡ Some at → get_or ps at d ≡ Some m → o ≡ None
+pub vacated : (nick lower : List ℕ) (ps : Places) (es fs : Entries) (at : ℕ) (m : Member) (o d : Option Member) → AreIndexed ps es
+    → place_under (folded nick) es ≡ Some at → get_or ps at d ≡ Some m → o ≡ None
     → lower ≡ folded m.nick → place_under lower fs ≡ None → KeepsOthers keys_alike (has_key lower) es fs
-    → AreIndexed (set ps at o) fs × (place_under (folded nick) fs ≡ None) × (seated (set ps at o) ≡ first_removed (is_called nick) (seated ps)) × IsChanged (folded nick) None es fs
+    → AreIndexed (set ps at o) fs × (place_under (folded nick) fs ≡ None) × (seated (set ps at o) ≡ first_removed (is_called nick) (seated ps))
+    × IsChanged (folded nick) None es fs
 vacated nick lower ps es fs at m o d indexed is read none lower-is own keeps =
     let who = indexed.named (folded nick) at is in
     let same : m ≡ who.0 = one_member m who.0 (sym read ∙ SitsAt-get_or ps at who.0 d who.1) in
@@ -479,7 +511,8 @@ vacated nick lower ps es fs at m o d indexed is read none lower-is own keeps =
 none_still : (o : Option ℕ) (i : ℕ) → o ≡ None → o ≡ Some i → ⊥
 none_still o i none some = cc
 
-pub respelled : (old nick lower : List ℕ) (key : Vec ℕ Global) (ps : Places) (es fs gs : Entries) (at : ℕ) (m n : Member) (o d : Option Member) → AreIndexed ps es → place_under (folded old) es ≡ Some at → get_or ps at d ≡ Some m → o ≡ None
+pub respelled : (old nick lower : List ℕ) (key : Vec ℕ Global) (ps : Places) (es fs gs : Entries) (at : ℕ) (m n : Member) (o d : Option Member)
+    → AreIndexed ps es → place_under (folded old) es ≡ Some at → get_or ps at d ≡ Some m → o ≡ None
     → lower ≡ folded m.nick → place_under lower fs ≡ None → KeepsOthers keys_alike (has_key lower) es fs
     → key.items ≡ folded nick → place_under key.items gs ≡ Some at → KeepsOthers keys_alike (has_key key.items) fs gs
     → ((i : ℕ) → place_under (folded nick) es ≡ Some i → is_same old nick ≡ true) → n ≡ with_nick nick m
@@ -491,10 +524,14 @@ respelled old nick lower key ps es fs gs at m n o d indexed is read none lower-i
     let within : at < length ps = SitsAt-within ps at who.0 who.1 in
     let long : length (set ps at o) ≡ length ps = length-set ps at o in
     let called : n.nick ≡ nick = ap (λ (y : Member). y.nick) made in
-    let change : IsChanged (folded n.nick) (Some at) fs gs = subst (λ l. IsChanged l (Some at) fs gs) (key-is ∙ ap folded (sym called)) (changed-by key.items (Some at) fs gs put others) in
-    let absent : place_under (folded n.nick) fs ≡ None = ap (λ l. place_under (folded l) fs) called ∙ vacant (place_under (folded nick) fs) refl gone.1 gone.3 in (
+    let change : IsChanged (folded n.nick) (Some at) fs gs = subst (λ l. IsChanged l (Some at) fs gs) (key-is ∙ ap folded (sym called))
+    (changed-by key.items (Some at) fs gs put others) in
+    let absent : place_under (folded n.nick) fs ≡ None = ap (λ l. place_under (folded l) fs) called
+    ∙ vacant (place_under (folded nick) fs) refl gone.1 gone.3 in (
       indexed-filled (set ps at o) fs gs at n gone.0 (omega (arith, within, long)) free absent change,
-      ap seated (set-set ps at o (Some n)) ∙ seated-edited old (with_nick nick) ps at who.0 n who.1 (made ∙ ap (with_nick nick) same) (called-from old who.0 who.2) (only-from old ps es at indexed is),
+      ap seated (set-set ps at o (Some n))
+          ∙ seated-edited old (with_nick nick) ps at who.0 n who.1 (made ∙ ap (with_nick nick) same) (called-from old who.0 who.2)
+          (only-from old ps es at indexed is),
     )
   where
     free : (x : Member) → SitsAt (set ps at o) at x → ⊥
@@ -504,7 +541,8 @@ respelled old nick lower key ps es fs gs at m n o d indexed is read none lower-i
     vacant None e left change = refl
     vacant (Some i) e left change = ⊎_elim
         (λ here. sym e ∙ here.1)
-        (λ kept. absurd (none_still (place_under (folded nick) fs) i (ap (λ l. place_under l fs) (sym (pointwise-same (folded old) (folded nick) (apart i (sym kept ∙ e)))) ∙ left) e))
+        (λ kept. absurd (none_still (place_under (folded nick) fs) i
+        (ap (λ l. place_under l fs) (sym (pointwise-same (folded old) (folded nick) (apart i (sym kept ∙ e)))) ∙ left) e))
         (by_lower (folded old) (folded nick) None es fs change)
 
 -- an edit leaves the nick
@@ -515,16 +553,19 @@ edited-nick (Marked HalfOp on) m = refl
 edited-nick (Listed more) m = refl
 edited-nick (Addressed user host) m = refl
 
-pub edited-indexed : (edit : Edit) (ps : Places) (es : Entries) (at : ℕ) (m n : Member) (o : Option Member) → at < length ps → o ≡ get_or ps at o → o ≡ Some m → n ≡ edited edit m → AreIndexed ps es → AreIndexed (set ps at (Some n)) es
+pub edited-indexed : (edit : Edit) (ps : Places) (es : Entries) (at : ℕ) (m n : Member) (o : Option Member) → at < length ps → o ≡ get_or ps at o
+    → o ≡ Some m → n ≡ edited edit m → AreIndexed ps es → AreIndexed (set ps at (Some n)) es
 edited-indexed edit ps es at m n o within read is made indexed =
     indexed-edited ps es at m n indexed (SitsAt-from ps at m o within (sym read ∙ is)) (ap (λ (y : Member). y.nick) made ∙ edited-nick edit m)
 
-pub edited-seated : (edit : Edit) (nick : List ℕ) (ps : Places) (es : Entries) (at : ℕ) (m n : Member) (o : Option Member) → o ≡ get_or ps at o → o ≡ Some m → n ≡ edited edit m → AreIndexed ps es
+pub edited-seated : (edit : Edit) (nick : List ℕ) (ps : Places) (es : Entries) (at : ℕ) (m n : Member) (o : Option Member) → o ≡ get_or ps at o
+    → o ≡ Some m → n ≡ edited edit m → AreIndexed ps es
     → place_under (folded nick) es ≡ Some at → seated (set ps at (Some n)) ≡ first_changed (is_called nick) (edited edit) (seated ps)
 edited-seated edit nick ps es at m n o read is made indexed place =
     let who = indexed.named (folded nick) at place in
     let same : m ≡ who.0 = one_member m who.0 (sym is ∙ read ∙ SitsAt-get_or ps at who.0 o who.1) in
-    seated-edited nick (edited edit) ps at who.0 n who.1 (made ∙ ap (edited edit) same) (called-from nick who.0 who.2) (only-from nick ps es at indexed place)
+    seated-edited nick (edited edit) ps at who.0 n who.1 (made ∙ ap (edited edit) same) (called-from nick who.0 who.2)
+    (only-from nick ps es at indexed place)
 
 pub next_len : (o p : Option ℕ) (n k : ℕ) → k ≡ n + (if is_some o then 0 else 1) → o ≡ p → p ≡ None → k ≡ n + 1
 next_len o p n k is same none = is ∙ ap (λ q. n + (if is_some q then 0 else 1)) (same ∙ none)
@@ -533,7 +574,8 @@ pub none-is : {X : Type 0} (o : Option X) → is_some o ≡ false → o ≡ None
 none-is None is = refl
 none-is (Some x) is = cc
 
-pub has-is : (nick : List ℕ) (ps : Places) (es : Entries) (o : Option ℕ) → AreIndexed ps es → o ≡ place_under (folded nick) es → is_some o ≡ true → list_any (is_called nick) (seated ps) ≡ true
+pub has-is : (nick : List ℕ) (ps : Places) (es : Entries) (o : Option ℕ) → AreIndexed ps es → o ≡ place_under (folded nick) es → is_some o ≡ true
+    → list_any (is_called nick) (seated ps) ≡ true
 has-is nick ps es None indexed same is = cc
 has-is nick ps es (Some i) indexed same is = has-some nick ps es i indexed (sym same)
 

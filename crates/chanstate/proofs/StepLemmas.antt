@@ -18,7 +18,8 @@ steps-append [] ys s = refl
 steps-append (x ∷ xs) ys s = steps-append xs ys (step x s)
 
 -- one more of a list, by what each of it stands for
-pub steps_more : {X : Type 0} (f : X → Item) (xs : List X) (i : ℕ) (d : X) (s : ChanState) → i < length xs → step (f (get_or xs i d)) (steps (map f (take i xs)) s) ≡ steps (map f (take (i + 1) xs)) s
+pub steps_more : {X : Type 0} (f : X → Item) (xs : List X) (i : ℕ) (d : X) (s : ChanState) → i < length xs
+    → step (f (get_or xs i d)) (steps (map f (take i xs)) s) ≡ steps (map f (take (i + 1) xs)) s
 steps_more f xs i d s less =
     let front : map f (take (i + 1) xs) ≡ map f (take i xs) ++ f (get_or xs i d) ∷ [] = ap (map f) (take_more xs i d less) ∙ map-append f (take i xs) _ in
     sym (ap (λ items. steps items s) front ∙ steps-append (map f (take i xs)) (f (get_or xs i d) ∷ []) s)
@@ -33,12 +34,14 @@ filter_map-by h v [] = refl
 filter_map-by h v (x ∷ xs) = ap (cons_option (h (v x))) (filter_map-by h v xs)
 
 -- two changes of the same first element are one
-twice : {X : Type 0} (p : X → Bool) (f g : X → X) (x : X) (xs : List X) (b : Bool) → p x ≡ b → p (f x) ≡ p x → first_changed p g (first_changed p f xs) ≡ first_changed p (λ y. g (f y)) xs →
+twice : {X : Type 0} (p : X → Bool) (f g : X → X) (x : X) (xs : List X) (b : Bool) → p x ≡ b → p (f x) ≡ p x
+    → first_changed p g (first_changed p f xs) ≡ first_changed p (λ y. g (f y)) xs →
     first_changed p g (cond b (f x ∷ xs) (x ∷ first_changed p f xs)) ≡ cond b (g (f x) ∷ xs) (x ∷ first_changed p (λ y. g (f y)) xs)
 twice p f g x xs true is keeps rest = cond-true (p (f x)) _ _ (keeps ∙ is)
 twice p f g x xs false is keeps rest = cond-false (p x) _ _ is ∙ ap (λ ys. x ∷ ys) rest
 
-pub first_changed-twice : {X : Type 0} (p : X → Bool) (f g : X → X) → ((x : X) → p (f x) ≡ p x) → (xs : List X) → first_changed p g (first_changed p f xs) ≡ first_changed p (λ x. g (f x)) xs
+pub first_changed-twice : {X : Type 0} (p : X → Bool) (f g : X → X) → ((x : X) → p (f x) ≡ p x) → (xs : List X)
+    → first_changed p g (first_changed p f xs) ≡ first_changed p (λ x. g (f x)) xs
 first_changed-twice p f g keeps [] = refl
 first_changed-twice p f g keeps (x ∷ xs) = twice p f g x xs (p x) refl (keeps x) (first_changed-twice p f g keeps xs)
 
@@ -52,11 +55,14 @@ first_changed-same p f same [] = refl
 first_changed-same p f same (x ∷ xs) = same_by x (f x) xs (first_changed p f xs) (p x) (same x) (first_changed-same p f same xs)
 
 -- the names of a listing, one after the other, are one change of the channel's members
-pub steps-listed : (channel : List ℕ) (names : List Member) (s : ChanState) → steps (map (Listed channel) names) s ≡ record s { channels = on_channel channel (listed_each names) s.channels }
-steps-listed channel [] s = ap (λ cs. record s { channels = cs }) (sym (first_changed-same (is_named channel) (with_members (listed_each [])) (λ c. refl) s.channels))
+pub steps-listed : (channel : List ℕ) (names : List Member) (s : ChanState)
+    → steps (map (Listed channel) names) s ≡ record s { channels = on_channel channel (listed_each names) s.channels }
+steps-listed channel [] s = ap (λ cs. record s { channels = cs })
+    (sym (first_changed-same (is_named channel) (with_members (listed_each [])) (λ c. refl) s.channels))
 steps-listed channel (one ∷ more) s =
     steps-listed channel more (step (Listed channel one) s)
-    ∙ ap (λ cs. record s { channels = cs }) (first_changed-twice (is_named channel) (with_members (listed one)) (with_members (listed_each more)) (λ c. refl) s.channels)
+    ∙ ap (λ cs. record s { channels = cs })
+    (first_changed-twice (is_named channel) (with_members (listed one)) (with_members (listed_each more)) (λ c. refl) s.channels)
 
 -- one more of the modes
 pub markings_more : (channel : List ℕ) (modes : List Mode) (i : ℕ) (d : Mode) (s next : ChanState) → i < length modes →

@@ -41,7 +41,8 @@ abbrev pub members_back : List ℕ → Option Member → List Member → List Me
 members_back nick None ms = first_removed (is_called nick) ms
 members_back nick (Some m) ms = first_changed (is_called nick) (with_address m.user m.host) ms
 
-arrived-back : (nick user host : List ℕ) (ms : List Member) (found : Option Member) → find (is_called nick) ms ≡ found → members_back nick found (arrived (unmarked nick user host) ms) ≡ ms
+arrived-back : (nick user host : List ℕ) (ms : List Member) (found : Option Member) → find (is_called nick) ms ≡ found
+    → members_back nick found (arrived (unmarked nick user host) ms) ≡ ms
 arrived-back nick user host ms None is =
     let absent : list_any (is_called nick) ms ≡ false = list_any-find (is_called nick) ms ∙ ap is_some is in
     ap (first_removed (is_called nick)) (cond-false _ _ _ absent) ∙ removed_last (is_called nick) ms (unmarked nick user host) absent (is_same-refl nick)
@@ -64,43 +65,56 @@ channels-back nick user host channel cs back kept =
     (λ c found. ap (λ ms. record c { members = ms }) (kept c found))
 
 -- where the channel isn't held, nothing came
-channels-none : (channel : List ℕ) (change : List Member → List Member) (cs : List Channel) → find (is_named channel) cs ≡ None → on_channel channel change cs ≡ cs
+channels-none : (channel : List ℕ) (change : List Member → List Member) (cs : List Channel) → find (is_named channel) cs ≡ None
+    → on_channel channel change cs ≡ cs
 channels-none channel change cs none = first_changed-kept (is_named channel) (with_members change) cs (λ c found. absurd (none_is_some (sym none ∙ found)))
   where
     none_is_some : {X : Type 0} {x : X} → None ≡ Some x → ⊥
     none_is_some e = cc
 
 -- what was known before a join takes it back
-pub joined-back : (nick user host channel : List ℕ) (s : ChanState) → is_same nick s.nick ≡ false → undone_by nick channel (before_in nick channel s) (joined nick user host channel s) ≡ s
+pub joined-back : (nick user host channel : List ℕ) (s : ChanState) → is_same nick s.nick ≡ false
+    → undone_by nick channel (before_in nick channel s) (joined nick user host channel s) ≡ s
 joined-back nick user host channel s other =
     ap (undone_by nick channel (before_in nick channel s)) (cond-false _ _ _ other) ∙ by (find (is_named channel) s.channels) refl
   where
     after : ChanState
     after = record s { channels = on_channel channel (arrived (unmarked nick user host)) s.channels }
 
-    held : (c : Channel) → find (is_named channel) s.channels ≡ Some c → (found : Option Member) → find (is_called nick) c.members ≡ found → undone_by nick channel (before_by found) after ≡ s
+    held : (c : Channel) → find (is_named channel) s.channels ≡ Some c → (found : Option Member) → find (is_called nick) c.members ≡ found
+        → undone_by nick channel (before_by found) after ≡ s
     held c at None is =
-        ap (λ cs. record s { channels = cs }) (channels-back nick user host channel s.channels (first_removed (is_called nick)) (λ d found. back d (sym found ∙ at)))
+        ap (λ cs. record s { channels = cs })
+        (channels-back nick user host channel s.channels (first_removed (is_called nick)) (λ d found. back d (sym found ∙ at)))
       where
         back : (d : Channel) → Some d ≡ Some c → first_removed (is_called nick) (arrived (unmarked nick user host) d.members) ≡ d.members
-        back d e = let one : c ≡ d = cc in subst (λ (x : Channel). first_removed (is_called nick) (arrived (unmarked nick user host) x.members) ≡ x.members) one (arrived-back nick user host c.members None is)
+        back d e = let one : c
+            ≡ d = cc in subst (λ (x : Channel). first_removed (is_called nick) (arrived (unmarked nick user host) x.members) ≡ x.members) one
+            (arrived-back nick user host c.members None is)
     held c at (Some m) is =
-        ap (λ cs. record s { channels = cs }) (channels-back nick user host channel s.channels (first_changed (is_called nick) (with_address m.user m.host)) (λ d found. back d (sym found ∙ at)))
+        ap (λ cs. record s { channels = cs })
+        (channels-back nick user host channel s.channels (first_changed (is_called nick) (with_address m.user m.host))
+        (λ d found. back d (sym found ∙ at)))
       where
-        back : (d : Channel) → Some d ≡ Some c → first_changed (is_called nick) (with_address m.user m.host) (arrived (unmarked nick user host) d.members) ≡ d.members
-        back d e = let one : c ≡ d = cc in subst (λ (x : Channel). first_changed (is_called nick) (with_address m.user m.host) (arrived (unmarked nick user host) x.members) ≡ x.members) one (arrived-back nick user host c.members (Some m) is)
+        back : (d : Channel) → Some d ≡ Some c
+            → first_changed (is_called nick) (with_address m.user m.host) (arrived (unmarked nick user host) d.members) ≡ d.members
+        back d e = let one : c
+            ≡ d = cc in subst (λ (x : Channel). first_changed (is_called nick) (with_address m.user m.host) (arrived (unmarked nick user host) x.members)
+            ≡ x.members) one (arrived-back nick user host c.members (Some m) is)
 
     by : (o : Option Channel) → find (is_named channel) s.channels ≡ o → undone_by nick channel (before_of nick o) after ≡ s
     by None is = ap (λ cs. record s { channels = cs }) (channels-none channel (arrived (unmarked nick user host)) s.channels is)
     by (Some c) is = held c is (find (is_called nick) c.members) refl
 
 -- one more undo comes first when they are played back
-pub undone-append : (nick : List ℕ) (us : List Undo) (u : Undo) (s : ChanState) → undone nick (us ++ u ∷ []) s ≡ undone nick us (undone_by nick u.channel.now u.before s)
+pub undone-append : (nick : List ℕ) (us : List Undo) (u : Undo) (s : ChanState)
+    → undone nick (us ++ u ∷ []) s ≡ undone nick us (undone_by nick u.channel.now u.before s)
 undone-append nick [] u s = refl
 undone-append nick (x ∷ xs) u s = ap (undone_by nick x.channel.now x.before) (undone-append nick xs u s)
 
 -- a join, and the undo of it behind those before, as the code writes them
-pub noted : (nick user host channel : List ℕ) (us vs new : List Undo) (u : Undo) (s t : ChanState) → is_same nick s.nick ≡ false → new ≡ vs ++ u ∷ [] → vs ≡ us → u.channel.now ≡ channel → u.before ≡ before_in nick channel s
+pub noted : (nick user host channel : List ℕ) (us vs new : List Undo) (u : Undo) (s t : ChanState) → is_same nick s.nick ≡ false → new ≡ vs ++ u ∷ []
+    → vs ≡ us → u.channel.now ≡ channel → u.before ≡ before_in nick channel s
     → t ≡ joined nick user host channel s → undone nick new t ≡ undone nick us s
 noted nick user host channel us vs new u s t other is same at before after =
     let back : undone_by nick u.channel.now u.before t ≡ s =
@@ -112,13 +126,15 @@ noted nick user host channel us vs new u s t other is same at before after =
 pub joined-nick : (nick user host channel : List ℕ) (s : ChanState) → (joined nick user host channel s).nick ≡ s.nick
 joined-nick nick user host channel s = by (is_same nick s.nick)
   where
-    by : (b : Bool) → (cond b (record s { channels = put_last (opened channel (unmarked nick user host)) s.channels }) (record s { channels = on_channel channel (arrived (unmarked nick user host)) s.channels })).nick ≡ s.nick
+    by : (b : Bool) → (cond b (record s { channels = put_last (opened channel (unmarked nick user host)) s.channels })
+        (record s { channels = on_channel channel (arrived (unmarked nick user host)) s.channels })).nick ≡ s.nick
     by true = refl
     by false = refl
 
 -- the bot's joins put each of its channels last
 pub steps-own : (nick user host : List ℕ) (names : List (List ℕ)) (s : ChanState) → is_same nick s.nick ≡ true
-    → steps (map (Joined nick user host) names) s ≡ record s { channels = put_each_last (map (λ name. opened name (unmarked nick user host)) names) s.channels }
+    → steps (map (Joined nick user host) names) s
+    ≡ record s { channels = put_each_last (map (λ name. opened name (unmarked nick user host)) names) s.channels }
 steps-own nick user host [] s own = refl
 steps-own nick user host (n ∷ ns) s own =
     ap (steps (map (Joined nick user host) ns)) (cond-true _ _ _ own)

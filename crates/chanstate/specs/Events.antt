@@ -84,11 +84,13 @@ abbrev pub address_of : List ℕ → List ℕ → List ℕ
 address_of user host = user ++ 64 ∷ host
 
 abbrev pub said_by : Source → List (List ℕ) → ChanState → List Event
-said_by (Person nick user host) ps s = when_given (slice_get ps 0) (λ target. when_given (slice_get ps 1) (λ text. said nick (address_of user host) target text s))
+said_by (Person nick user host) ps s = when_given (slice_get ps 0)
+    (λ target. when_given (slice_get ps 1) (λ text. said nick (address_of user host) target text s))
 said_by who ps s = []
 
 abbrev pub noted_by : Source → List (List ℕ) → ChanState → List Event
-noted_by (Person nick user host) ps s = when_given (slice_get ps 0) (λ target. when_given (slice_get ps 1) (λ text. noted nick (address_of user host) target text s))
+noted_by (Person nick user host) ps s = when_given (slice_get ps 0)
+    (λ target. when_given (slice_get ps 1) (λ text. noted nick (address_of user host) target text s))
 noted_by who ps s = []
 
 -- those events that depend on the command

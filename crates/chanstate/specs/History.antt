@@ -1,7 +1,8 @@
 -- What a history of items says of the bot's channels, each question answered by looking back over it: the newest item
 -- stands first, and the last one that concerns the question answers it. Nothing here is carried forward.
 -- `first` is the nick under which the bot connected.
-use Rattle.std.specs.Prelude.{◌≡◌, ℕ, Bool, true, false, not, ◌&&◌, ◌||◌, List, [], ◌∷◌, if◌then◌else◌, Option, None, Some, unwrap_or, IfSome, is_some, map, length, ◌<◌}
+use Rattle.std.specs.Prelude.{◌≡◌, ℕ, Bool, true, false, not, ◌&&◌, ◌||◌, List, [], ◌∷◌, if◌then◌else◌, Option, None, Some, unwrap_or, IfSome, is_some, map}
+use Rattle.std.specs.Prelude.{length, ◌<◌}
 use Rattle.chanstate.specs.declared.member.Member.{Member}
 use Rattle.chanstate.specs.declared.member.Mark.{Mark}
 use Rattle.chanstate.specs.declared.member.Mark.TheVariants.{Op, Voice, HalfOp}

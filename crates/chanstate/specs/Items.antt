@@ -2,7 +2,8 @@
 -- a list of channels, of modes or of names gives an item for each, in its order.
 -- A line that lacks a needed parameter says nothing.
 use Rattle.std.specs.Option.{option_to_list}
-use Rattle.std.specs.Prelude.{ℕ, ◌-◌, unwrap_or, Bool, true, false, ◌||◌, ◌&&◌, not, ◌==◌, nat_eq, nat_le, List, [], ◌∷◌, ◌++◌, map, filter, drop, take, length, if◌then◌else◌, codes, Option, Some, None, slice_get, slice_index}
+use Rattle.std.specs.Prelude.{ℕ, ◌-◌, unwrap_or, Bool, true, false, ◌||◌, ◌&&◌, not, ◌==◌, nat_eq, nat_le, List, [], ◌∷◌, ◌++◌, map, filter, drop, take}
+use Rattle.std.specs.Prelude.{length, if◌then◌else◌, codes, Option, Some, None, slice_get, slice_index}
 use Rattle.std.specs.List.{list_any, list_all, filter_map, slice_split, position_or_len}
 use Rattle.std.specs.Cmp.Lexicographic.{pointwise}
 use Rattle.ircline.specs.declared.message.Message.{Message}
@@ -134,6 +135,16 @@ verb_of c =
     else (if is_command c (codes "352") then verb.RplWhoReply
     else verb.Other)))))))))))
 
+-- a KICK, a QUIT and a command that says nothing of channels need no memory
+abbrev pub verb_takes_memory : Verb → Bool
+verb_takes_memory verb.Kick = false
+verb_takes_memory verb.Quit = false
+verb_takes_memory verb.Other = false
+verb_takes_memory v = true
+
+abbrev pub takes_memory : Message → Bool
+takes_memory m = verb_takes_memory (verb_of m.command)
+
 -- 001: the first parameter is the bot's nick
 abbrev pub rpl_welcome_items : List (List ℕ) → List Item
 rpl_welcome_items ps = if_given (slice_get ps 0) (λ nick. Welcomed nick ∷ [])
@@ -184,7 +195,9 @@ rpl_nam_reply_items ps = if_given (slice_get ps 2) (λ channel. if_given (slice_
 -- 352: the second, third, fourth and sixth are channel, user, host and nick
 abbrev pub rpl_who_reply_items : List (List ℕ) → List Item
 rpl_who_reply_items ps =
-    if_given (slice_get ps 1) (λ channel. if_given (slice_get ps 2) (λ user. if_given (slice_get ps 3) (λ host. if_given (slice_get ps 5) (λ nick. Addressed channel nick user host ∷ []))))
+    if_given (slice_get ps 1)
+    (λ channel. if_given (slice_get ps 2)
+    (λ user. if_given (slice_get ps 3) (λ host. if_given (slice_get ps 5) (λ nick. Addressed channel nick user host ∷ []))))
 
 abbrev pub items_by : Verb → Source → List (List ℕ) → List Item
 items_by verb.RplWelcome who ps = rpl_welcome_items ps

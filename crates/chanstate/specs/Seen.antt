@@ -1,9 +1,10 @@
 -- What contracts see of borrowed values.
-use Rattle.std.specs.Prelude.{List, [], ◌∷◌, map, true}
+use Rattle.std.specs.Prelude.{Bool, List, [], ◌∷◌, map, true, false}
 use Rattle.chanstate.specs.declared.change.Change.{Change}
 use Rattle.chanstate.specs.declared.change.Change.TheVariants as change
 use Rattle.chanstate.specs.declared.modes.Mode.{Mode}
-use Rattle.chanstate.specs.Items.{Item, Welcomed, Joined, Left, Departed, Renamed, Titled, Listed, Addressed, channels_in, names_in, markings, singles, Single}
+use Rattle.chanstate.specs.Items.{Item, Welcomed, Joined, Left, Departed, Renamed, Titled, Listed, Addressed, channels_in, names_in, markings, singles}
+use Rattle.chanstate.specs.Items.{Single}
 
 -- the items that a change stands for
 abbrev pub items_seen : Change → List Item
@@ -18,6 +19,13 @@ items_seen (change.Mode channel modes arguments) = markings channel.now (singles
 items_seen (change.Topic channel topic) = Titled channel.now topic.now ∷ []
 items_seen (change.Names channel names) = map (Listed channel.now) (names_in names.now)
 items_seen (change.Address channel user host nick) = Addressed channel.now nick.now user.now host.now ∷ []
+
+-- whether a change needs memory
+abbrev pub change_takes_memory : Change → Bool
+change_takes_memory change.Nothing = false
+change_takes_memory (change.Kick channel target) = false
+change_takes_memory (change.Quit nick) = false
+change_takes_memory other = true
 
 -- a single mode
 abbrev pub single_seen : Mode → Single

@@ -26,7 +26,8 @@ before_in nick channel s = before_of nick (find (is_named channel) s.channels)
 abbrev pub undone_by : List ℕ → List ℕ → Before → ChanState → ChanState
 undone_by nick channel NotHeld s = s
 undone_by nick channel Absent s = record s { channels = on_channel channel (first_removed (is_called nick)) s.channels }
-undone_by nick channel (Present user host) s = record s { channels = on_channel channel (first_changed (is_called nick) (with_address user host)) s.channels }
+undone_by nick channel
+    (Present user host) s = record s { channels = on_channel channel (first_changed (is_called nick) (with_address user host)) s.channels }
 
 -- several joins are taken back, the last first
 abbrev pub undone : List ℕ → List Undo → ChanState → ChanState

@@ -88,7 +88,8 @@ impl Channels {
         name: &[u8],
         words: &[&[u8]],
     ) -> Result<(), NoMemory>
-        ensures { MatchResult result (λ _. self.new ≡ on_channel name.now (listed_each (filter_map (λ word. named word.now) words.now)) self.old) (λ _. self.new ≡ self.old) }
+        ensures { MatchResult result (λ _. self.new ≡ on_channel name.now (listed_each (filter_map (λ word. named word.now) words.now)) self.old)
+            (λ _. self.new ≡ self.old) }
     {
         if let Some(at) = self.place(name) {
             let channel = &mut self.items[at];

@@ -3,7 +3,7 @@ ghost use Rattle.std.specs.Prelude.{◌≡◌, IfOk, map};
 ghost use Rattle.std.specs.Option.{option_copied};
 ghost use Rattle.chanstate.specs.EventShape.{event_with};
 
-use bytetext::{NoMemory, Text, Texts};
+use bytetext::{NoMemory, Text, Texts, TryCopy};
 use std::alloc::Global;
 
 /// The kinds of events, named as Eggdrop's bind types.
@@ -58,6 +58,21 @@ impl Event {
             subject,
             channel,
             arguments: Texts::new(arguments),
+        })
+    }
+}
+
+impl TryCopy for Event {
+    fn copy(&self, alloc: Global) -> Result<Event, NoMemory> {
+        let channel = match &self.channel {
+            Some(name) => Some(name.copy(alloc)?),
+            None => None,
+        };
+        Ok(Event {
+            kind: self.kind,
+            subject: self.subject.copy(alloc)?,
+            channel,
+            arguments: self.arguments.copy(alloc)?,
         })
     }
 }

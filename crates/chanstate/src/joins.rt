@@ -21,7 +21,8 @@ impl ChanState {
     // Another person joins one channel.
     fn join(&mut self, alloc: Global, person: Person<'_>, channel: &[u8]) -> Result<(), NoMemory>
         requires { is_same person.nick.now self.old.nick ≡ false }
-        ensures { MatchResult result (λ _. self.new ≡ joined person.entry.nick.now person.entry.user.now person.entry.host.now channel.now self.old) (λ _. self.new ≡ self.old) }
+        ensures { MatchResult result (λ _. self.new ≡ joined person.entry.nick.now person.entry.user.now person.entry.host.now channel.now self.old)
+            (λ _. self.new ≡ self.old) }
     {
         let one = Member::new(alloc, person.nick, person.user, person.host)?;
         self.channels.arrive(alloc, channel, one)
@@ -36,7 +37,8 @@ impl ChanState {
         undos: &mut Vec<Undo<'a>>,
     ) -> Result<(), NoMemory>
         requires { is_same person.nick.now self.old.nick ≡ false }
-        ensures joined { MatchResult result (λ _. self.new ≡ joined person.entry.nick.now person.entry.user.now person.entry.host.now channel.now self.old) (λ _. self.new ≡ self.old) }
+        ensures joined { MatchResult result (λ _. self.new ≡ joined person.entry.nick.now person.entry.user.now person.entry.host.now channel.now self.old)
+            (λ _. self.new ≡ self.old) }
         ensures noted { undone person.entry.nick.now undos.new.items self.new ≡ undone person.entry.nick.now undos.old.items self.old }
     {
         let before = self.before(alloc, person.nick, channel)?;
@@ -54,7 +56,9 @@ impl ChanState {
         names: &[&[u8]],
     ) -> Result<(), NoMemory>
         requires { is_same person.nick.now self.old.nick ≡ false }
-        ensures { MatchResult result (λ _. self.new ≡ steps (map (λ name. Joined person.entry.nick.now person.entry.user.now person.entry.host.now name.now) names.now) self.old) (λ _. self.new ≡ self.old) }
+        ensures { MatchResult result (λ _. self.new ≡ steps (map (λ name. Joined person.entry.nick.now person.entry.user.now person.entry.host.now
+            name.now) names.now) self.old)
+            (λ _. self.new ≡ self.old) }
     {
         let mut undos = Vec::new(alloc);
         for name in names {
@@ -77,7 +81,9 @@ impl ChanState {
         names: &[&[u8]],
     ) -> Result<(), NoMemory>
         requires { is_same person.nick.now self.old.nick ≡ true }
-        ensures { MatchResult result (λ _. self.new ≡ steps (map (λ name. Joined person.entry.nick.now person.entry.user.now person.entry.host.now name.now) names.now) self.old) (λ _. self.new ≡ self.old) }
+        ensures { MatchResult result (λ _. self.new ≡ steps (map (λ name. Joined person.entry.nick.now person.entry.user.now person.entry.host.now
+            name.now) names.now) self.old)
+            (λ _. self.new ≡ self.old) }
     {
         let opened = opened_each(alloc, person, names)?;
         self.channels.put_each_last(opened)?;
@@ -91,7 +97,9 @@ impl ChanState {
         person: Person<'_>,
         names: &[&[u8]],
     ) -> Result<(), NoMemory>
-        ensures { MatchResult result (λ _. self.new ≡ steps (map (λ name. Joined person.entry.nick.now person.entry.user.now person.entry.host.now name.now) names.now) self.old) (λ _. self.new ≡ self.old) }
+        ensures { MatchResult result (λ _. self.new ≡ steps (map (λ name. Joined person.entry.nick.now person.entry.user.now person.entry.host.now
+            name.now) names.now) self.old)
+            (λ _. self.new ≡ self.old) }
     {
         if is_same(person.nick, self.nick.as_bytes()) {
             self.join_own(alloc, person, names)
@@ -107,7 +115,9 @@ impl ChanState {
         person: Person<'_>,
         list: &[u8],
     ) -> Result<(), NoMemory>
-        ensures { MatchResult result (λ _. self.new ≡ steps (map (Joined person.entry.nick.now person.entry.user.now person.entry.host.now) (channels_in list.now)) self.old) (λ _. self.new ≡ self.old) }
+        ensures { MatchResult result (λ _. self.new ≡ steps (map (Joined person.entry.nick.now person.entry.user.now person.entry.host.now)
+            (channels_in list.now)) self.old)
+            (λ _. self.new ≡ self.old) }
     {
         let names = channel_names(alloc, list)?;
         self.join_names(alloc, person, names.as_slice())?;
@@ -117,7 +127,8 @@ impl ChanState {
 
 // The channels of these names, as the bot has just joined them.
 fn opened_each(alloc: Global, person: Person<'_>, names: &[&[u8]]) -> Result<Vec<Channel>, NoMemory>
-    ensures { IfOk result (λ channels. channels.items ≡ map (λ name. opened name.now (unmarked person.entry.nick.now person.entry.user.now person.entry.host.now)) names.now) }
+    ensures { IfOk result (λ channels. channels.items
+        ≡ map (λ name. opened name.now (unmarked person.entry.nick.now person.entry.user.now person.entry.host.now)) names.now) }
 {
     let mut channels = Vec::with_capacity(alloc, names.len())?;
     for name in names {

@@ -5,10 +5,12 @@
 //! and its members, in the order in which they came, with their marks and addresses. Names compare by casemapping.
 //! A message that lacks a needed parameter changes nothing, and a refusal of memory leaves the state as it was.
 //!
-//! Members are looked up by their nicks. A message costs a walk over the names of the held channels, a look-up on the
-//! channels that it names (for QUIT and NICK on every held channel), and a step where the nick is a member, however many
-//! others are. All seats of a channel are gone through only where room for more is made, which is then for as many again,
-//! and by one who joins again while the seat that they left still stands.
+//! Members are looked up by their nicks. A message costs a walk over the names of the held channels, and a look-up on each
+//! channel that it concerns (for QUIT and NICK on every held channel), however many are there, also for those who come
+//! again. All seats of a channel are gone through only where room for more is made, which is then for as many again.
+//!
+//! A caller that has more to do for a message makes its other growths first and applies the message last: `apply` either
+//! takes the message in whole or leaves the state as it was, and nothing that follows it then needs memory.
 //!
 //! [`events`] says what a message means to those who bind procs: a raw event for every message, and those of what a
 //! person says to the bot or on a channel that it is on. They are told against the state before the message.

@@ -36,7 +36,8 @@ impl ChanState {
         string: &[u8],
         arguments: &[Text],
     ) -> Result<(), NoMemory>
-        ensures { MatchResult result (λ _. self.new ≡ steps (markings channel.now (singles true string.now arguments.now)) self.old) (λ _. self.new ≡ self.old) }
+        ensures { MatchResult result (λ _. self.new ≡ steps (markings channel.now (singles true string.now arguments.now)) self.old)
+            (λ _. self.new ≡ self.old) }
     {
         let modes = modes_of(alloc, string, arguments)?;
         self.mark_each(channel, modes.as_slice());

@@ -3,7 +3,7 @@ ghost use Rattle.std.specs.Prelude.{◌≡◌, [], length, IfOk};
 
 use crate::member::Member;
 use crate::roster::Roster;
-use bytetext::NoMemory;
+use bytetext::{NoMemory, TryCopy, copies_of};
 use std::alloc::Global;
 use std::marker::Model;
 
@@ -51,6 +51,13 @@ impl Members {
         ensures { IfOk result (λ m. m ≡ roster.now) }
     {
         let items = roster.copies(alloc)?;
+        Ok(Members { items })
+    }
+}
+
+impl TryCopy for Members {
+    fn copy(&self, alloc: Global) -> Result<Members, NoMemory> {
+        let items = copies_of(alloc, self.items.as_slice())?;
         Ok(Members { items })
     }
 }

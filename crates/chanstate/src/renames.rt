@@ -84,7 +84,8 @@ fn give_all_back(channels: &mut [Channel], all: Vec<Option<Renaming>>)
 // The same, and the member of the old nick has the new one.
 fn give_all_renamed(channels: &mut [Channel], old: &[u8], all: Vec<Option<Renaming>>)
     requires { length all.items ≡ length channels.old }
-    ensures { (new : List ℕ) (before : List Channel) → AreTaken (λ c. c) old.now new before all.items channels.old → channels.new ≡ all_renamed old.now new before }
+    ensures { (new : List ℕ) (before : List Channel) → AreTaken (λ c. c) old.now new before all.items channels.old
+        → channels.new ≡ all_renamed old.now new before }
 {
     let mut all = all;
     while let Some(with) = all.pop() {

@@ -2,7 +2,8 @@
 ghost use Rattle.std.specs.Prelude.{◌≡◌, ◌≤◌, ◌∷◌, ◌++◌, ◌==◌, not, length, take, if◌then◌else◌, [], IfOk};
 ghost use Rattle.std.specs.List.{position_or_len};
 ghost use Rattle.std.specs.Option.{option_copied};
-ghost use Rattle.chanstate.specs.Events.{spaces_len, word_len, first_word, after_word, to_bot, to_channel, noticed, is_hidden, said, noted, said_by, noted_by, address_of, typed, raw, events_of};
+ghost use Rattle.chanstate.specs.Events.{spaces_len, word_len, first_word, after_word, to_bot, to_channel, noticed, is_hidden};
+ghost use Rattle.chanstate.specs.Events.{said, noted, said_by, noted_by, address_of, typed, raw, events_of};
 
 use crate::event::{Event, Kind};
 use crate::names::is_same;

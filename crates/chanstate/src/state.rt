@@ -1,9 +1,10 @@
 // The bot's channels.
-ghost use Rattle.std.specs.Prelude.{◌≡◌, IfOk, MatchResult};
+ghost use Rattle.std.specs.Prelude.{◌≡◌, true, IfOk, OnErr, MatchResult};
 ghost use Rattle.std.specs.Option.{option_copied, option_map};
 ghost use Rattle.chanstate.specs.Channels.{is_held};
 ghost use Rattle.chanstate.specs.Views.{connected, channel_in, topic_in, members_in, member_in, is_op, channels_with};
 ghost use Rattle.chanstate.specs.Steps.{after};
+ghost use Rattle.chanstate.specs.Items.{takes_memory};
 
 use crate::change::{Change, change_of};
 use crate::channels::Channels;
@@ -105,9 +106,11 @@ impl ChanState {
     /// Takes a message in.
     ///
     /// # Errors
-    /// `NoMemory` where room is refused; the state is then as before.
+    /// `NoMemory` where room is refused; the state is then as before. A KICK, a QUIT and a command that says nothing of
+    /// channels take no memory.
     pub fn apply(&mut self, alloc: Global, message: &Message) -> Result<(), NoMemory>
-        ensures { MatchResult result (λ _. self.new ≡ after message.now self.old) (λ _. self.new ≡ self.old) }
+        ensures memory { OnErr result (takes_memory message.now ≡ true) }
+        ensures applied { MatchResult result (λ _. self.new ≡ after message.now self.old) (λ _. self.new ≡ self.old) }
     {
         match change_of(message) {
             Change::Nothing => Ok(()),

@@ -1,4 +1,6 @@
--- What a flag expression says, and when it is met.
+-- What a flag expression says, and when it is met. The form is that of Eggdrop's flag masks (its Tcl commands document,
+-- "Flag Masks"): parts for global, channel and bot flags, with signs, joined by `|` or `&`. Our own choice: each of the
+-- letters a to z and A to Z may stand in each part, and a part may be empty.
 use Rattle.std.specs.Prelude.{ℕ, ◌==◌, Bool, true, false, ◌&&◌, ◌||◌, List, [], ◌∷◌, if◌then◌else◌}
 use Rattle.std.specs.List.{before_first, after_first, list_any}
 use Rattle.flagexpr.specs.Letters.{set_of, shares, is_within}
@@ -37,7 +39,7 @@ expression_of text =
       bot = part_of (after_first is_join (after_first is_join text));
     }
 
--- whether some forbidden letter is in the set that its part stands against
+-- whether some forbidden letter is in the set that its part stands against (our own choice: it refuses under `|` too)
 abbrev pub is_forbidden : Expression → ℕ → ℕ → ℕ → Bool
 is_forbidden e global chan bot = shares e.global.forbidden global || shares e.chan.forbidden chan || shares e.bot.forbidden bot
 

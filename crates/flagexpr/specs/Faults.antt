@@ -1,4 +1,4 @@
--- Which texts are refused, and why.
+-- Which texts are refused, and why (our own choice throughout).
 use Rattle.std.specs.Prelude.{ℕ, ◌==◌, nat_lt, Bool, false, ◌&&◌, ◌||◌, List, [], ◌∷◌, codes, count_by, Option, Some, None, if◌then◌else◌}
 use Rattle.std.specs.List.{list_all, list_any}
 use Rattle.std.specs.Char.{is_ascii_alphabetic}

@@ -173,10 +173,10 @@ fn is_join(byte: u8) -> bool
     byte == b'|' || byte == b'&'
 }
 
-// What stands before the first join and what behind it.
+// What stands before the first join and what after it.
 fn cut(text: &[u8]) -> (&[u8], &[u8])
     ensures before { result.0.now ≡ before_first is_join text.now }
-    ensures behind { result.1.now ≡ after_first is_join text.now }
+    ensures after { result.1.now ≡ after_first is_join text.now }
 {
     let at = first_join(text);
     if at == text.len() {

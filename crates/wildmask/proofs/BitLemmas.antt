@@ -1,8 +1,8 @@
 -- The bits of a set of places.
-use Rattle.std.proofs.Common.{◌≡◌, ◌≢◌, ◌↔◌, ◌⊎◌, ℕ, ◌+◌, ◌-◌, ◌*◌, ◌/◌, ◌%◌, ◌^◌, ◌<◌, ◌≤◌, bit_or, refl, sym, subst, ap, ◌∙◌, arith, inl, inr}
+use Rattle.std.proofs.Common.{◌≡◌, ◌≢◌, ◌↔◌, ◌⊎◌, ℕ, ◌+◌, ◌-◌, ◌*◌, ◌/◌, ◌%◌, ◌^◌, ◌<◌, ◌≤◌, bit_or, sym, subst, ap, ◌∙◌, arith, inl, inr}
 use Rattle.std.specs.Int.{bit_at, w128, trailing_zeros}
 use Rattle.std.proofs.lemmas.Bool.{cases_eq, cases_lt}
-use Rattle.std.proofs.lemmas.Nat.{shr-shr, one_shl, shr_le}
+use Rattle.std.proofs.lemmas.Nat.{shr-shr, shr_le}
 use Rattle.std.proofs.lemmas.Nat.Bits.{bit_at_set_same, bit_at_set_other, bit_at-zero, bit_at-trailing_zeros, bit_at_above}
 
 -- a place put into a set

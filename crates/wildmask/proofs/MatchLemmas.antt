@@ -1,9 +1,9 @@
 -- What items match, one item, one byte and one list after another.
-use Rattle.std.proofs.Common.{◌≡◌, ◌≢◌, ◌↔◌, ◌⊎◌, ℕ, zero, suc, ◌+◌, ◌-◌, ◌<◌, ◌≤◌, Bool, true, false, not, eqb, cond, List, [], ◌∷◌, ◌++◌, length, take, drop, map, get_or, length-drop, length-append, drop-drop, refl, sym, subst, ap, ◌∙◌, arith, inl, inr, All, true≢false}
+use Rattle.std.proofs.Common.{◌≡◌, ◌≢◌, ◌↔◌, ◌⊎◌, ℕ, zero, suc, ◌+◌, ◌-◌, ◌<◌, ◌≤◌, Bool, true, false, not, eqb, cond, List, [], ◌∷◌, ◌++◌, length, take, drop, map, length-drop, drop-drop, refl, sym, subst, ap, ◌∙◌, arith, inl, inr, All, true≢false}
 use Rattle.std.proofs.lemmas.List.{length-take-le, take-take, drop-take}
 use Rattle.std.proofs.lemmas.Bool.{eqb-true, eq-eqb, ne_eqb}
 use Rattle.std.proofs.lemmas.Bool.Decides.{nat_tests}
-use Rattle.rfccase.specs.Casemapping.{low, folded, IsSame}
+use Rattle.rfccase.specs.Casemapping.{low, IsSame}
 use Rattle.wildmask.specs.declared.items.Item.{Item}
 use Rattle.wildmask.specs.declared.items.Item.TheVariants.{Literal, AnyByte, AnyText, NoSpace, Spaces}
 use Rattle.wildmask.specs.Matching.{Takes, Matches}
@@ -231,10 +231,14 @@ Matches-append (x ∷ xs) ys text = (λ m. there m.0 m.1.0 m.1.1 ((Matches-appen
     there k within taken w =
         let long : length (drop k text) ≡ length text - k = length-drop k text in
         let inside : k + w.0 ≤ length text = omega (arith, w.1.0) in
-        let short : length (take (k + w.0) text) ≡ k + w.0 = length-take-le (k + w.0) text inside in
-        (k + w.0, (inside,
-          (k, (omega arith, subst (Takes x) (sym (take-take k (k + w.0) text (omega arith))) taken, subst (Matches xs) (sym (drop-take k w.0 text)) w.1.1)),
-          subst (Matches ys) (drop-drop w.0 k text) w.1.2))
+        let short : length (take (k + w.0) text) ≡ k + w.0 = length-take-le (k + w.0) text inside in (
+          k + w.0,
+          (
+            inside,
+            (k, (omega arith, subst (Takes x) (sym (take-take k (k + w.0) text (omega arith))) taken, subst (Matches xs) (sym (drop-take k w.0 text)) w.1.1)),
+            subst (Matches ys) (drop-drop w.0 k text) w.1.2,
+          ),
+        )
 
     back : ((k : ℕ) → Cut xs ys (drop k text) → Matches (xs ++ ys) (drop k text)) → (c : ℕ) → c ≤ length text → (k : ℕ) → k ≤ length (take c text) → Takes x (take k (take c text)) → Matches xs (drop k (take c text)) → Matches ys (drop c text) → Matches ((x ∷ xs) ++ ys) text
     back joined c within k early taken m rest =
@@ -242,9 +246,14 @@ Matches-append (x ∷ xs) ys text = (λ m. there m.0 m.1.0 m.1.1 ((Matches-appen
         let long : length (drop k text) ≡ length text - k = length-drop k text in
         let at : k + (c - k) ≡ c = omega arith in
         let middle : drop k (take c text) ≡ take (c - k) (drop k text) = ap (λ i. drop k (take i text)) (sym at) ∙ drop-take k (c - k) text in
-        let end : drop (c - k) (drop k text) ≡ drop c text = drop-drop (c - k) k text ∙ ap (λ i. drop i text) at in
-        (k, (omega arith, subst (Takes x) (take-take k c text (omega arith)) taken,
-          joined k (c - k, (omega arith, subst (Matches xs) middle m, subst (Matches ys) (sym end) rest))))
+        let end : drop (c - k) (drop k text) ≡ drop c text = drop-drop (c - k) k text ∙ ap (λ i. drop i text) at in (
+          k,
+          (
+            omega arith,
+            subst (Takes x) (take-take k c text (omega arith)) taken,
+            joined k (c - k, (omega arith, subst (Matches xs) middle m, subst (Matches ys) (sym end) rest)),
+          ),
+        )
 
 -- an item that takes just one byte takes texts of one byte alone
 pub takes_one-length : (item : Item) (piece : List ℕ) → takes_one item ≡ true → Takes item piece → length piece ≡ 1

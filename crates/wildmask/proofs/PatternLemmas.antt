@@ -1,10 +1,9 @@
 -- The items of a mask as codes: one more of them, their parts, and their lower cases.
-use Rattle.std.proofs.Common.{◌≡◌, ◌↔◌, ℕ, ◌+◌, ◌-◌, ◌<◌, ◌≤◌, List, [], ◌∷◌, ◌++◌, length, take, drop, map, set, refl, sym, subst, ap, ◌∙◌, arith}
+use Rattle.std.proofs.Common.{◌≡◌, ℕ, ◌+◌, ◌-◌, ◌<◌, ◌≤◌, List, [], ◌∷◌, ◌++◌, length, take, drop, map, set, refl, sym, subst, ap, ◌∙◌, arith}
 use Rattle.std.specs.Prelude.{count_by, cond}
 use Rattle.std.specs.List.{fold}
-use Rattle.std.proofs.lemmas.List.{length-map, map-append, append_assoc, append-nil, take_more_set, drop-take, drop-map}
+use Rattle.std.proofs.lemmas.List.{map-append, append_assoc, append-nil, take_more_set, drop-take, drop-map}
 use Rattle.wildmask.specs.declared.items.Item.{Item}
-use Rattle.wildmask.specs.declared.items.Item.TheVariants.{Literal, AnyByte, AnyText, NoSpace, Spaces}
 use Rattle.wildmask.specs.Items.{is_literal}
 use Rattle.wildmask.specs.Codes.{lower, decoded, items_in}
 use Rattle.wildmask.specs.Tails.{bytes_of, end_key, front_len, tail_of}

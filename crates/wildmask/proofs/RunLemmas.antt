@@ -1,13 +1,13 @@
 -- Runs of items that take one byte each, and what comparisons of them cost.
-use Rattle.std.proofs.Common.{◌≡◌, ◌≢◌, ◌↔◌, ◌⊎◌, ℕ, zero, suc, ◌+◌, ◌-◌, ◌*◌, ◌<◌, ◌≤◌, Bool, true, false, List, [], ◌∷◌, ◌++◌, length, take, drop, map, get_or, length-drop, refl, sym, subst, ap, ◌∙◌, arith, inl, inr, add-one}
-use Rattle.std.proofs.lemmas.List.{length-map, drop_more, drop_all, drop-map, map-append, take-append-drop, length-take-le}
+use Rattle.std.proofs.Common.{◌≡◌, ◌↔◌, ℕ, zero, suc, ◌+◌, ◌-◌, ◌*◌, ◌<◌, ◌≤◌, true, List, [], ◌∷◌, ◌++◌, length, take, drop, get_or, sym, subst, ap, ◌∙◌, arith, inl, inr, add-one}
+use Rattle.std.proofs.lemmas.List.{length-map, drop_all, map-append, take-append-drop}
 use Rattle.std.proofs.Math.Nat.{mul-add, mul-one, mul-suc, mul-le-mul, mul-le-mul_left, mul-le-mul_right}
 use Rattle.rfccase.specs.Casemapping.{low}
 use Rattle.wildmask.specs.declared.items.Item.{Item}
 use Rattle.wildmask.specs.declared.items.Item.TheVariants.{Literal, AnyByte, AnyText, NoSpace, Spaces}
 use Rattle.wildmask.specs.Codes.{lower, decoded, items_in}
 use Rattle.wildmask.specs.Matching.{Matches}
-use Rattle.wildmask.specs.Walks.{MatchesAfter, AllLower, AllOne, may_be_empty, takes_byte, takes_one}
+use Rattle.wildmask.specs.Walks.{AllLower, AllOne, takes_byte, takes_one}
 use Rattle.wildmask.proofs.MatchLemmas.{Matches-byte, run_first, run_last, run_hits, run_misses, run_too_long, AllOne-length}
 
 -- ---- parts of a list of items

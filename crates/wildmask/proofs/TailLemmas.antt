@@ -1,10 +1,9 @@
 -- The literals at the end of a mask, and the ends of the texts that it matches.
-use Rattle.std.proofs.Common.{◌≡◌, ◌↔◌, ◌⊎◌, ℕ, zero, suc, ◌+◌, ◌-◌, ◌<◌, ◌≤◌, min, Bool, true, false, List, [], ◌∷◌, ◌++◌, length, take, drop, replicate, map, get_or, length-drop, length-append, drop-drop, refl, sym, subst, ap, ◌∙◌, arith, inl, inr}
+use Rattle.std.proofs.Common.{◌≡◌, ℕ, zero, suc, ◌+◌, ◌-◌, ◌<◌, ◌≤◌, min, true, false, List, [], ◌∷◌, ◌++◌, length, take, drop, replicate, map, get_or, length-drop, drop-drop, refl, sym, subst, ap, ◌∙◌, arith}
 use Rattle.std.specs.Prelude.{reverse}
 use Rattle.std.specs.List.{suffix_len}
 use Rattle.std.proofs.lemmas.List.{length-map, take_at, drop-replicate, drop-map, take-append-drop, get_or-drop, get_or-reverse, length-reverse, get_or-map}
 use Rattle.std.proofs.lemmas.List.Sums.{suffix_len_is, suffix_len-le-length, prefix_len_passes, prefix_len_stops}
-use Rattle.std.proofs.lemmas.Bool.{cases_lt}
 use Rattle.rfccase.specs.Casemapping.{low, folded}
 use Rattle.wildmask.specs.declared.items.Item.{Item}
 use Rattle.wildmask.specs.declared.items.Item.TheVariants.{Literal, AnyByte, AnyText, NoSpace, Spaces}
@@ -12,7 +11,7 @@ use Rattle.wildmask.specs.Items.{is_literal}
 use Rattle.wildmask.specs.Codes.{lower, decoded, items_in}
 use Rattle.wildmask.specs.Matching.{Takes, Matches}
 use Rattle.wildmask.specs.Tails.{last, padded, bytes_of, end_key, front_len, tail_of}
-use Rattle.wildmask.specs.Walks.{AllOne, AllLower, takes_one}
+use Rattle.wildmask.specs.Walks.{AllOne}
 use Rattle.wildmask.proofs.MatchLemmas.{low-low, literal_code, run_last}
 
 -- each item is a literal
@@ -61,8 +60,8 @@ pub front_is : (codes : List ℕ) (front : ℕ) → front ≤ length codes → (
 front_is codes front within literal special =
     let long : length (items_in codes) ≡ length codes = length-map codes decoded in
     let suffix : suffix_len is_literal (items_in codes) ≡ length (items_in codes) - front = suffix_len_is is_literal (items_in codes) front AnyByte (omega arith)
-      (λ k late early. let inside : k < length codes = omega arith in ap is_literal (get_or-map decoded codes k 0 AnyByte inside) ∙ literal k late inside)
-      (λ some. let inside : front - 1 < length codes = omega arith in ap is_literal (get_or-map decoded codes (front - 1) 0 AnyByte inside) ∙ special some) in
+    (λ k late early. let inside : k < length codes = omega arith in ap is_literal (get_or-map decoded codes k 0 AnyByte inside) ∙ literal k late inside)
+    (λ some. let inside : front - 1 < length codes = omega arith in ap is_literal (get_or-map decoded codes (front - 1) 0 AnyByte inside) ∙ special some) in
     omega arith
 
 -- ---- the bytes of literals
@@ -150,8 +149,8 @@ front_len-lower : (items : List Item) → front_len (map lower items) ≡ front_
 front_len-lower items =
     let long : length (map lower items) ≡ length items = length-map items lower in
     let suffix : suffix_len is_literal (map lower items) ≡ length (map lower items) - front_len items = suffix_len_is is_literal (map lower items) (front_len items) AnyByte (omega arith)
-      (λ k late early. let inside : k < length items = omega arith in ap is_literal (get_or-map lower items k AnyByte AnyByte inside) ∙ is_literal-lower (get_or items k AnyByte) ∙ suffix_passes items k late inside)
-      (λ some. let inside : front_len items - 1 < length items = omega arith in ap is_literal (get_or-map lower items (front_len items - 1) AnyByte AnyByte inside) ∙ is_literal-lower (get_or items (front_len items - 1) AnyByte) ∙ suffix_stops items some) in
+    (λ k late early. let inside : k < length items = omega arith in ap is_literal (get_or-map lower items k AnyByte AnyByte inside) ∙ is_literal-lower (get_or items k AnyByte) ∙ suffix_passes items k late inside)
+    (λ some. let inside : front_len items - 1 < length items = omega arith in ap is_literal (get_or-map lower items (front_len items - 1) AnyByte AnyByte inside) ∙ is_literal-lower (get_or items (front_len items - 1) AnyByte) ∙ suffix_stops items some) in
     omega arith
 
 pub tail_of-lower : (items : List Item) → tail_of (map lower items) ≡ tail_of items

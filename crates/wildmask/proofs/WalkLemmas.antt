@@ -1,5 +1,5 @@
 -- A set of places moved over a text: what one place more, one byte more and the end of the text make of it.
-use Rattle.std.proofs.Common.{◌≡◌, ◌≢◌, ◌↔◌, ◌⊎◌, ℕ, zero, suc, ◌+◌, ◌-◌, ◌<◌, ◌≤◌, Bool, true, false, List, [], ◌∷◌, length, drop, map, get_or, ◌*◌, refl, sym, subst, ap, ◌∙◌, arith, inl, inr, true≢false, add-one}
+use Rattle.std.proofs.Common.{◌≡◌, ◌≢◌, ◌↔◌, ◌⊎◌, ℕ, zero, suc, ◌+◌, ◌-◌, ◌<◌, ◌≤◌, true, false, List, [], ◌∷◌, length, drop, get_or, ◌*◌, refl, sym, subst, ap, ◌∙◌, arith, inl, inr, true≢false, add-one}
 use Rattle.std.specs.Int.{bit_at}
 use Rattle.std.proofs.lemmas.List.{length-map, drop_more, drop_all, get_or-map}
 use Rattle.std.proofs.lemmas.Bool.{cases_eq, cases_lt, cases_order}
@@ -149,8 +149,9 @@ stars_cover items from at lower old new late within moved cover p after inside s
 
     reached : Matches (get_or items at AnyByte ∷ drop (at + 1) items) text ⊎ Matches (drop (at + 1) items) text → Matches (drop p items) text
     reached h = elim h [
-        inl here ↦ star_is_enough items (drop (p + 1) items) at p text (omega arith) at_star (subst (λ xs. Matches xs text) (sym (at_place items at within)) here)
-      | inr next ↦ star_is_enough items (drop (p + 1) items) (at + 1) p text (omega arith) at_star next ]
+      | inl here ↦ star_is_enough items (drop (p + 1) items) at p text (omega arith) at_star (subst (λ xs. Matches xs text) (sym (at_place items at within)) here)
+      | inr next ↦ star_is_enough items (drop (p + 1) items) (at + 1) p text (omega arith) at_star next
+    ]
 
 -- when no place with an item is left, the moves are all
 pub moves_all : (items : List Item) (places from b new : ℕ) (text : List ℕ) → NoneBetween places from (length items)

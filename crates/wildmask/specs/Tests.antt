@@ -1,5 +1,5 @@
 -- Whether items match a text, as a test that computes: the clauses of `Mask::matches` say that it is the relation.
-use Rattle.std.specs.Prelude.{ℕ, zero, suc, Bool, true, not, ◌==◌, ◌&&◌, ◌||◌, nat_eq, nat_lt, List, [], ◌∷◌, length, take, drop}
+use Rattle.std.specs.Prelude.{ℕ, zero, suc, Bool, true, not, ◌==◌, ◌&&◌, ◌||◌, nat_lt, List, [], ◌∷◌, length, take, drop}
 use Rattle.std.specs.List.{list_all}
 use Rattle.rfccase.specs.Casemapping.{is_same}
 use Rattle.wildmask.specs.declared.items.Item.{Item}

@@ -1,9 +1,9 @@
 -- A set of places among the items of a mask, moved over a text one byte at a time.
-use Rattle.std.specs.Prelude.{◌≡◌, ◌≢◌, ◌⊎◌, ℕ, ◌+◌, ◌≤◌, ◌<◌, Bool, true, false, not, ◌==◌, List, [], ◌∷◌, length, drop, get_or}
+use Rattle.std.specs.Prelude.{◌≡◌, ◌⊎◌, ℕ, ◌+◌, ◌≤◌, ◌<◌, Bool, true, false, not, ◌==◌, List, [], ◌∷◌, length, drop, get_or}
 use Rattle.std.specs.Int.{bit_at}
 use Rattle.wildmask.specs.declared.items.Item.{Item}
 use Rattle.wildmask.specs.declared.items.Item.TheVariants.{Literal, AnyByte, AnyText, NoSpace, Spaces}
-use Rattle.wildmask.specs.Codes.{decoded, lower}
+use Rattle.wildmask.specs.Codes.{lower}
 use Rattle.wildmask.specs.Matching.{Matches}
 
 -- a place of the set, not before this one, from which on the items match the text

@@ -9,8 +9,11 @@ use rfccase::fold;
 
 // Bytes that are no lower case, so that no literal has them.
 const ANY_BYTE: u8 = b'A';
+
 const ANY_TEXT: u8 = b'B';
+
 const NO_SPACE: u8 = b'C';
+
 const SPACES: u8 = b'D';
 
 /// The byte of an item: the lower case of a literal, or one that no literal has.

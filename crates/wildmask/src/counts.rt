@@ -31,6 +31,5 @@ impl Count {
     /// One comparison more.
     pub(crate) fn note(&mut self)
         ensures { self.new.steps ≡ self.old.steps + 1 }
-    {
-    }
+    {}
 }

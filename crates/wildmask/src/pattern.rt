@@ -72,7 +72,10 @@ impl Pattern {
     pub fn literals(&self) -> u8
         ensures { result ≡ count_by is_literal self.now }
     {
-        let count = self.codes[..self.len].iter().filter(|code| is_literal(**code)).count();
+        let count = self.codes[..self.len]
+            .iter()
+            .filter(|code| is_literal(**code))
+            .count();
         count as u8
     }
 

@@ -113,7 +113,7 @@ fn after_run<'a>(run: &[u8], text: &'a [u8], count: &mut Count) -> Option<&'a [u
     ensures first { MatchOption result
         ((items : List Item) → Matches (AnyText ∷ items_in run.now ++ items) text.now → ⊥)
         (λ left. (items : List Item) →
-            Matches (AnyText ∷ items_in run.now ++ AnyText ∷ items) text.now ↔ Matches (AnyText ∷ items) left.now) }
+        Matches (AnyText ∷ items_in run.now ++ AnyText ∷ items) text.now ↔ Matches (AnyText ∷ items) left.now) }
     ensures shorter { MatchOption result (Unit {0}) (λ left. length left.now ≤ length text.now) }
     ensures counted { MatchOption result (count.new.steps ≤ count.old.steps + length run.now * length text.now)
         (λ left. count.new.steps ≤ count.old.steps + length run.now * (length text.now - length left.now)) }

@@ -66,10 +66,13 @@ impl Signature {
 fn needed_bit(first: u8, second: u8) -> u128
     ensures { result ≡ needed (decoded first) (decoded second) }
 {
-    match (item_of(first), item_of(second)) {
-        (Item::Literal(a), Item::Literal(b)) => bit_of(a, b),
-        _ => 0,
-    }
+    let Item::Literal(a) = item_of(first) else {
+        return 0;
+    };
+    let Item::Literal(b) = item_of(second) else {
+        return 0;
+    };
+    bit_of(a, b)
 }
 
 // The bit of a pair, by lower case.

@@ -11,7 +11,7 @@ use rfccase::fold_slice;
 use std::hash::{Hash, Hasher};
 use std::marker::Model;
 
-// The bytes that a tail has at most.
+// The bytes that a tail has at most (our own choice).
 const MOST_BYTES: usize = 16;
 
 /// The lower cases of a text's last bytes, 16 at most, as a key of a map. A mask is kept under its tail

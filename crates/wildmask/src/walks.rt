@@ -66,7 +66,7 @@ fn next_item(codes: &[u8], places: Places, from: usize) -> Option<usize>
     requires from { from ≤ length codes.now }
     ensures { MatchOption result ((q : ℕ) → from ≤ q → q < length codes.now → bit_at places.bits q ≡ 0)
         (λ at. (from ≤ at) × (at < length codes.now) × (bit_at places.bits at ≡ 1)
-            × ((q : ℕ) → from ≤ q → q < at → bit_at places.bits q ≡ 0)) }
+        × ((q : ℕ) → from ≤ q → q < at → bit_at places.bits q ≡ 0)) }
 {
     match places.first_from(from) {
         Some(at) if at < codes.len() => Some(at),
@@ -85,7 +85,7 @@ fn moved(codes: &[u8], places: Places, at: usize, lower: u8, count: &mut Count) 
     ensures moved { (text : List ℕ) → MatchesFrom 0 (items_in codes.now) result.bits text ↔
         (MatchesFrom 0 (items_in codes.now) places.bits text
         ⊎ ((takes_byte (decoded (get_or codes.now at 0)) lower ≡ true)
-            × MatchesAfter (decoded (get_or codes.now at 0)) (drop (at + 1) (items_in codes.now)) text)) }
+        × MatchesAfter (decoded (get_or codes.now at 0)) (drop (at + 1) (items_in codes.now)) text)) }
     ensures closed { IsClosed (items_in codes.now) result.bits }
     ensures counted { count.new.steps ≡ count.old.steps + 1 }
 {

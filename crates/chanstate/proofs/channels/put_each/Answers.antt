@@ -15,7 +15,8 @@ loop-channel-preserved c =
     record {
       len = omega (arith, left, at.invariant.len, c.in-Some.ensures.steps.1);
       room = omega (arith, left, at.invariant.room, c.put.ensures.len, c.put.ensures.capacity);
-      put = ap (put_each_last (into_iter_items c.next.new.self)) c.put.ensures.put ∙ ap (λ cs. put_each_last cs at.items.items) (sym steps) ∙ at.invariant.put;
+      put = ap (put_each_last (into_iter_items c.next.new.self)) c.put.ensures.put ∙ ap (λ cs. put_each_last cs at.items.items) (sym steps)
+          ∙ at.invariant.put;
     }
 
 pub returns : goal.returns

@@ -8,7 +8,8 @@ use Rattle.chanstate.proofs.newcomers.list.Goals as goal
 pub edit_at-requires : goal.edit_at-requires
 edit_at-requires c =
     let seats = c.args.seats.now in
-    let within : c.in-Some.at < length seats.places.items = index_within _ seats.places.items seats.index.entries c.in-Some.at c.requires.indexed (sym c.place_of.ensures ∙ c.in-Some.is) in
+    let within : c.in-Some.at < length seats.places.items = index_within _ seats.places.items seats.index.entries c.in-Some.at c.requires.indexed
+    (sym c.place_of.ensures ∙ c.in-Some.is) in
     omega (arith, within)
 
 pub returns-in-Some-clause-listed : goal.returns-in-Some-clause-listed
@@ -16,7 +17,8 @@ returns-in-Some-clause-listed c =
     let seats = c.args.seats.now in
     let nick = c.args.one.nick in
     let place = ap (λ n. place_under (folded n) seats.index.entries) (sym c.as_bytes.ensures) ∙ sym c.place_of.ensures ∙ c.in-Some.is in
-    c.edit_at.ensures.edited nick c.requires.indexed place ∙ sym (cond-true _ _ _ (has-some nick seats.places.items seats.index.entries c.in-Some.at c.requires.indexed place))
+    c.edit_at.ensures.edited nick c.requires.indexed place
+    ∙ sym (cond-true _ _ _ (has-some nick seats.places.items seats.index.entries c.in-Some.at c.requires.indexed place))
 
 pub returns-in-None-clause-listed : goal.returns-in-None-clause-listed
 returns-in-None-clause-listed c =

@@ -30,7 +30,8 @@ loop-key-preserved c =
       places = omega (arith, left, at.invariant.places, c.list.ensures.len, c.list.ensures.capacity);
       entries = omega (arith, left, at.invariant.entries, c.list.ensures.entries);
       indexed = c.list.ensures.indexed;
-      listed = ap (listed_each (values_of rest)) c.list.ensures.listed ∙ ap (λ es. listed_each (values_of es) (seated at.seats.places.items)) (sym steps) ∙ at.invariant.listed;
+      listed = ap (listed_each (values_of rest)) c.list.ensures.listed ∙ ap (λ es. listed_each (values_of es) (seated at.seats.places.items)) (sym steps)
+          ∙ at.invariant.listed;
     }
 
 pub returns-clause-listed : goal.returns-clause-listed

@@ -14,5 +14,6 @@ invariant-loop-key l = record {
   places : vec_len l.seats.places + length (into_iter_items l.key-iterator) ≤ vec_capacity l.seats.places;
   entries : length (into_iter_items l.key-iterator) ≤ spare l.seats.index;
   indexed : AreIndexed l.seats.places.items l.seats.index.entries;
-  listed : listed_each (values_of (into_iter_items l.key-iterator)) (seated l.seats.places.items) ≡ listed_each (values_of (into_iter_items l.initial.key-iterator)) (seated l.initial.seats.places.items);
+  listed : listed_each (values_of (into_iter_items l.key-iterator)) (seated l.seats.places.items)
+      ≡ listed_each (values_of (into_iter_items l.initial.key-iterator)) (seated l.initial.seats.places.items);
 }

@@ -26,4 +26,5 @@ pub returns : goal.returns
 returns c old new before taken =
     let at = c.loop-with in
     let empty = nil_from_length at.all.items (omega (arith, c.in_default.ensures.cases.0, at.all.ok)) in
-    none_left (λ c. c) old new before at.channels (subst (λ vs. AreTaken (λ c. c) old new before vs at.channels) empty (at.invariant.taken old new before taken)) ∙ map-same before
+    none_left (λ c. c) old new before at.channels
+    (subst (λ vs. AreTaken (λ c. c) old new before vs at.channels) empty (at.invariant.taken old new before taken)) ∙ map-same before

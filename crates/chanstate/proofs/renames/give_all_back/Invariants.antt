@@ -8,7 +8,8 @@ use Rattle.chanstate.proofs.renames.give_all_back.Given as goal
 abbrev pub invariant-loop-with : goal.invariant-loop-with
 invariant-loop-with l = record {
   fits : length l.all.items ≤ length l.channels;
-  taken : (old new : List ℕ) (before : List Channel) → AreTaken (λ c. c) old new before l.initial.all.items l.initial.channels → AreTaken (λ c. c) old new before l.all.items l.channels;
+  taken : (old new : List ℕ) (before : List Channel) → AreTaken (λ c. c) old new before l.initial.all.items l.initial.channels
+      → AreTaken (λ c. c) old new before l.all.items l.channels;
 }
 
 abbrev pub decreases-loop-with : goal.decreases-loop-with

@@ -10,7 +10,8 @@ use Rattle.chanstate.proofs.renames.give_all_renamed.Goals as goal
 pub loop-with-init : goal.loop-with-init
 loop-with-init c = record {
   fits = omega (arith, c.requires);
-  taken = λ new before taken. whole_taken (λ c. c) (with_members (renamed c.args.old.now new)) c.args.old.now new before c.args.all.items c.args.channels.now c.requires taken;
+  taken = λ new before taken. whole_taken (λ c. c)
+      (with_members (renamed c.args.old.now new)) c.args.old.now new before c.args.all.items c.args.channels.now c.requires taken;
 }
 
 pub loop-with-preserved : goal.loop-with-preserved
@@ -37,4 +38,5 @@ returns c new before taken =
     let at = c.loop-with in
     let f = with_members (renamed c.args.old.now new) in
     let empty = nil_from_length at.all.items (omega (arith, c.in_default.ensures.cases.0, at.all.ok)) in
-    none_left f c.args.old.now new before at.channels (subst (λ vs. AreTaken f c.args.old.now new before vs at.channels) empty (at.invariant.taken new before taken))
+    none_left f c.args.old.now new before at.channels
+    (subst (λ vs. AreTaken f c.args.old.now new before vs at.channels) empty (at.invariant.taken new before taken))

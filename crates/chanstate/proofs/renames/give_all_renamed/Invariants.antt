@@ -10,7 +10,8 @@ use Rattle.chanstate.proofs.renames.give_all_renamed.Given as goal
 abbrev pub invariant-loop-with : goal.invariant-loop-with
 invariant-loop-with l = record {
   fits : length l.all.items ≤ length l.channels;
-  taken : (new : List ℕ) (before : List Channel) → AreTaken (λ c. c) l.old new before l.initial.all.items l.initial.channels → AreTaken (with_members (renamed l.old new)) l.old new before l.all.items l.channels;
+  taken : (new : List ℕ) (before : List Channel) → AreTaken (λ c. c) l.old new before l.initial.all.items l.initial.channels
+      → AreTaken (with_members (renamed l.old new)) l.old new before l.all.items l.channels;
 }
 
 abbrev pub decreases-loop-with : goal.decreases-loop-with

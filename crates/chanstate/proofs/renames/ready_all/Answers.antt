@@ -9,7 +9,8 @@ loop-at-init c = record {
   len = ap length c.requires.none;
   same = refl;
   room = c.requires.room;
-  taken = subst (λ ws. AreTaken (λ c. c) c.args.old.now c.args.new.now c.args.channels.now ws c.args.channels.now) (sym c.requires.none) (none_taken c.args.old.now c.args.new.now c.args.channels.now);
+  taken = subst (λ ws. AreTaken (λ c. c) c.args.old.now c.args.new.now c.args.channels.now ws c.args.channels.now) (sym c.requires.none)
+      (none_taken c.args.old.now c.args.new.now c.args.channels.now);
 }
 
 pub loop-at-preserved : goal.loop-at-preserved

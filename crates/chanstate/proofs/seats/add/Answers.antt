@@ -6,4 +6,5 @@ use Rattle.chanstate.proofs.seats.add.Goals as goal
 
 pub seat_last-requires-clause-absent : goal.seat_last-requires-clause-absent
 seat_last-requires-clause-absent c =
-    none-from c.args.one.nick _ _ c.in_ok-make_room.ensures.indexed (ap (list_any (is_called c.args.one.nick)) c.in_ok-make_room.ensures.same ∙ c.requires.absent)
+    none-from c.args.one.nick _ _ c.in_ok-make_room.ensures.indexed
+    (ap (list_any (is_called c.args.one.nick)) c.in_ok-make_room.ensures.same ∙ c.requires.absent)

@@ -14,4 +14,5 @@ returns-in-Some-clause-edited c = λ nick indexed place.
 
 pub returns-in_default-clause-edited : goal.returns-in_default-clause-edited
 returns-in_default-clause-edited c = λ nick indexed place.
-    absurd (not_vacant nick c.args.seats.now.places.items c.args.seats.now.index.entries c.args.at _ indexed place (sym c.index_mut.ensures.value ∙ c.in_default.is))
+    absurd (not_vacant nick c.args.seats.now.places.items c.args.seats.now.index.entries c.args.at _ indexed place
+    (sym c.index_mut.ensures.value ∙ c.in_default.is))

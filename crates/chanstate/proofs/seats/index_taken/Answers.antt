@@ -15,6 +15,7 @@ loop-place-preserved c =
     let es = c.loop-place.index.entries in
     let fs = c.index_next.new.index.entries in
     let less : i < length ps = omega arith in
-    let next = subst (λ p. IsIndexedNext p n es k fs) (c.place-item.is ∙ ap (λ xs. get_or xs i d) c.as_slice-place-items.ensures.value) c.in_ok-index_next.ensures in
+    let next = subst (λ p. IsIndexedNext p n es k fs)
+    (c.place-item.is ∙ ap (λ xs. get_or xs i d) c.as_slice-place-items.ensures.value) c.in_ok-index_next.ensures in
     let made = made-next ps all i d es fs n k c.requires less c.loop-place.invariant.indexed c.loop-place.invariant.len next in
     record { indexed = made.0; len = made.1 }

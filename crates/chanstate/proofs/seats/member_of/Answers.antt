@@ -20,9 +20,11 @@ returns-in-Some c =
     let place = sym c.place_of.ensures ∙ c.in-Some.is in
     let who = c.requires.named (folded nick) c.in-Some.at place in
     c.as_ref.ensures.value ∙ c.index.ensures ∙ SitsAt-get_or seats.places.items c.in-Some.at who.0 c.index.result.now who.1
-    ∙ sym (seated-found nick seats.places.items c.in-Some.at who.0 who.1 (called-from nick who.0 who.2) (only-from nick seats.places.items seats.index.entries c.in-Some.at c.requires place))
+    ∙ sym (seated-found nick seats.places.items c.in-Some.at who.0 who.1 (called-from nick who.0 who.2)
+    (only-from nick seats.places.items seats.index.entries c.in-Some.at c.requires place))
 
 pub returns-in-None : goal.returns-in-None
 returns-in-None c =
     let seats = c.args.seats.now in
-    sym (find-none (is_called c.args.nick.now) (seated seats.places.items) (has-none c.args.nick.now seats.places.items seats.index.entries c.requires (sym c.place_of.ensures ∙ c.in-None.is)))
+    sym (find-none (is_called c.args.nick.now) (seated seats.places.items)
+    (has-none c.args.nick.now seats.places.items seats.index.entries c.requires (sym c.place_of.ensures ∙ c.in-None.is)))

@@ -10,7 +10,9 @@ use Rattle.chanstate.proofs.seats.rename_in.Goals as goal
 pub returns-then-is_none-clause-renamed : goal.returns-then-is_none-clause-renamed
 returns-then-is_none-clause-renamed c =
     let seats = c.args.seats.now in
-    sym (cond-false _ _ _ (has-none c.args.old.now seats.places.items seats.index.entries c.requires.indexed (sym c.place_of.ensures ∙ none-is c.place_of.result c.if-is_none.ensures)))
+    sym (cond-false _ _ _
+    (has-none c.args.old.now seats.places.items seats.index.entries c.requires.indexed
+    (sym c.place_of.ensures ∙ none-is c.place_of.result c.if-is_none.ensures)))
 
 pub returns-then-is_same-clause-renamed : goal.returns-then-is_same-clause-renamed
 returns-then-is_same-clause-renamed c =
@@ -27,5 +29,6 @@ returns-clause-renamed c =
     let apart = sym (c.is_same.ensures ∙ ap (is_same old) c.as_bytes.ensures) ∙ c.if-is_same.false in
     let has = has-is old seats.places.items seats.index.entries c.place_of.result c.requires.indexed c.place_of.ensures c.if-is_none.ensures in
     c.respell-2.ensures.renamed
-    ∙ ap (first_changed (is_called old) (with_nick c.args.nick)) (c.vacate.ensures.removed ∙ ap (λ n. first_removed (is_called n) (seated seats.places.items)) c.as_bytes-2.ensures ∙ sym (cond-false _ _ _ apart))
+    ∙ ap (first_changed (is_called old) (with_nick c.args.nick))
+    (c.vacate.ensures.removed ∙ ap (λ n. first_removed (is_called n) (seated seats.places.items)) c.as_bytes-2.ensures ∙ sym (cond-false _ _ _ apart))
     ∙ sym (cond-true _ _ _ has)

@@ -12,7 +12,8 @@ returns-clause-indexed c =
     let updates = at_ok c.insert.result _ (c.insert.ensures.succeeds c.requires.entry) c.insert.ensures.updates in
     let at : c.len-at.result ≡ length ps = omega (arith, c.len-at.ensures) in
     let change = changed-by c.args.key.items (Some c.len-at.result) es fs updates.1 updates.3 in
-    let change-is = subst (λ w. IsChanged (folded c.args.one.nick) (Some w) es fs) at (subst (λ l. IsChanged l (Some c.len-at.result) es fs) c.requires.key change) in
+    let change-is = subst (λ w. IsChanged (folded c.args.one.nick) (Some w) es fs) at
+    (subst (λ l. IsChanged l (Some c.len-at.result) es fs) c.requires.key change) in
     subst (λ qs. AreIndexed qs fs) (sym c.push_reserved.ensures.items) (indexed-last ps es fs c.args.one c.requires.indexed c.requires.absent change-is)
 
 pub returns-clause-seated : goal.returns-clause-seated

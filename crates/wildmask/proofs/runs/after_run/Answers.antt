@@ -1,4 +1,4 @@
-use Rattle.std.proofs.Common.{◌≡◌, ◌<◌, ◌≤◌, ◌+◌, ◌-◌, ◌*◌, ◌↔◌, ℕ, List, ◌∷◌, ◌++◌, IsTrue, length, take, drop, subst, sym, ap, ◌∙◌, arith, length-drop}
+use Rattle.std.proofs.Common.{◌≡◌, ◌≤◌, ◌+◌, ◌-◌, ◌*◌, ◌↔◌, ℕ, List, ◌∷◌, ◌++◌, length, take, drop, subst, sym, arith, length-drop}
 use Rattle.std.proofs.lemmas.Bool.{both_ways}
 use Rattle.std.proofs.lemmas.List.{take_rest}
 use Rattle.wildmask.specs.declared.items.Item.TheVariants.{AnyText}
@@ -35,9 +35,9 @@ loop-rest-preserved c =
     record {
       shorter = subst (λ (xs : List ℕ). length xs ≤ length c.args.text.now) (sym next) (omega (arith, length-drop 1 c.loop-rest.rest.now, c.loop-rest.invariant.shorter));
       counted = subst (λ (xs : List ℕ). c.fits.new.count.steps ≤ c.args.count.now.steps + length c.args.run.now * (length c.args.text.now - length xs)) (sym next)
-        (next_start (length c.args.run.now) (length c.args.text.now) (length c.loop-rest.rest.now) (length (drop 1 c.loop-rest.rest.now)) c.args.count.now.steps c.loop-rest.count.steps _ c.loop-rest.invariant.shorter (omega (arith, length-drop 1 c.loop-rest.rest.now)) c.loop-rest.invariant.counted c.fits.ensures.counted);
+          (next_start (length c.args.run.now) (length c.args.text.now) (length c.loop-rest.rest.now) (length (drop 1 c.loop-rest.rest.now)) c.args.count.now.steps c.loop-rest.count.steps _ c.loop-rest.invariant.shorter (omega (arith, length-drop 1 c.loop-rest.rest.now)) c.loop-rest.invariant.counted c.fits.ensures.counted);
       same = λ items. subst (λ (xs : List ℕ). Matches (AnyText ∷ items_in c.args.run.now ++ items) c.args.text.now ↔ Matches (AnyText ∷ items_in c.args.run.now ++ items) xs) (sym next)
-        (both (c.loop-rest.invariant.same items) (code_run_misses c.args.run.now items c.loop-rest.rest.now _ c.requires.one some c.split_at.ensures.front (λ k. both_ways _ c.if-fits.false (c.fits.ensures.value.1 k))));
+          (both (c.loop-rest.invariant.same items) (code_run_misses c.args.run.now items c.loop-rest.rest.now _ c.requires.one some c.split_at.ensures.front (λ k. both_ways _ c.if-fits.false (c.fits.ensures.value.1 k))));
     }
 
 pub returns-clause-first : goal.returns-clause-first

@@ -1,4 +1,4 @@
-use Rattle.std.proofs.Common.{◌≡◌, ◌<◌, ◌+◌, ◌-◌, ℕ, true, false, length, drop, get_or, subst, sym, ap, ◌∙◌, arith, refl, true≢false, rules}
+use Rattle.std.proofs.Common.{◌≡◌, ◌<◌, ◌+◌, ◌-◌, ℕ, true, false, length, drop, get_or, subst, sym, ap, ◌∙◌, arith, refl, true≢false}
 use Rattle.std.proofs.lemmas.List.{length-map}
 use Rattle.rfccase.specs.Casemapping.{low}
 use Rattle.wildmask.specs.declared.items.Item.TheVariants.{AnyByte}

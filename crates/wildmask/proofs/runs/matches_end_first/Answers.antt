@@ -1,4 +1,4 @@
-use Rattle.std.proofs.Common.{◌≡◌, ◌<◌, ◌≤◌, ◌++◌, ◌↔◌, length, arith}
+use Rattle.std.proofs.Common.{◌≤◌, ◌++◌, ◌↔◌, length, arith}
 use Rattle.std.proofs.lemmas.Bool.{both_ways}
 use Rattle.wildmask.specs.Codes.{items_in}
 use Rattle.wildmask.specs.Matching.{Matches}

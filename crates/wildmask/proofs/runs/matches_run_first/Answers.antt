@@ -1,4 +1,4 @@
-use Rattle.std.proofs.Common.{◌≡◌, ◌<◌, ◌≤◌, ◌++◌, ◌↔◌, length, subst, sym, arith, refl}
+use Rattle.std.proofs.Common.{◌≤◌, ◌↔◌, length, subst, arith}
 use Rattle.std.proofs.lemmas.Bool.{both_ways}
 use Rattle.wildmask.specs.Codes.{items_in}
 use Rattle.wildmask.specs.Matching.{Matches}

@@ -1,4 +1,4 @@
-use Rattle.std.proofs.Common.{◌≡◌, ◌<◌, ◌≤◌, ◌-◌, ◌*◌, ◌↔◌, ◌∷◌, ◌++◌, List, ℕ, length, subst, sym, arith}
+use Rattle.std.proofs.Common.{◌↔◌, ◌∷◌, ◌++◌, List, length, subst, sym, arith}
 use Rattle.wildmask.specs.declared.items.Item.{Item}
 use Rattle.wildmask.specs.declared.items.Item.TheVariants.{AnyText}
 use Rattle.wildmask.specs.Codes.{items_in}
@@ -31,7 +31,7 @@ loop-run-preserved c =
       shorter = omega (arith, c.in-Some-after_run.ensures.shorter, c.loop-run.invariant.shorter);
       lower = subst AllLower (sym c.in-Some.ensures.parts.2) (AllLower-right (items_in c.in-Some.run'.now) (AnyText ∷ c.in-Some.ensures.parts.0) (subst AllLower c.in-Some.ensures.parts.1 c.loop-run.invariant.lower).1);
       counted = passed_over (length c.args.codes.now) (length c.in-Some.run'.now) (length c.args.text.now) (length c.loop-run.rest.now) (length c.in-Some-after_run.after.now) c.args.count.now.steps c.loop-run.count.steps _
-        (omega (arith, c.in-Some.ensures.shorter, c.loop-run.invariant.fewer)) c.in-Some-after_run.ensures.shorter c.loop-run.invariant.shorter c.loop-run.invariant.counted c.in-Some-after_run.ensures.counted;
+          (omega (arith, c.in-Some.ensures.shorter, c.loop-run.invariant.fewer)) c.in-Some-after_run.ensures.shorter c.loop-run.invariant.shorter c.loop-run.invariant.counted c.in-Some-after_run.ensures.counted;
       same = both here next;
     }
 

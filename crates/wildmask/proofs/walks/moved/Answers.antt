@@ -1,9 +1,9 @@
-use Rattle.std.proofs.Common.{◌≡◌, ◌+◌, true, drop, get_or, ap, subst, sym, ◌∙◌, ◌∷◌, arith, refl, inl, inr}
+use Rattle.std.proofs.Common.{◌≡◌, ◌+◌, true, drop, get_or, ap, subst, sym, ◌∙◌, ◌∷◌, inl, inr}
 use Rattle.wildmask.specs.declared.items.Item.{Item}
-use Rattle.wildmask.specs.declared.items.Item.TheVariants.{Literal, AnyByte, AnyText, NoSpace, Spaces}
+use Rattle.wildmask.specs.declared.items.Item.TheVariants.{AnyText, NoSpace, Spaces}
 use Rattle.wildmask.specs.Codes.{decoded, items_in}
 use Rattle.wildmask.specs.Walks.{takes_byte, takes_one}
-use Rattle.wildmask.proofs.WalkLemmas.{Moves, WithPlace, moves_on, star_moves, no_space_moves, spaces_moves, refused_moves, code_at_place}
+use Rattle.wildmask.proofs.WalkLemmas.{Moves, WithPlace, moves_on, star_moves, no_space_moves, spaces_moves, code_at_place}
 use Rattle.wildmask.proofs.walks.moved.Goals as goal
 
 pub returns-in-Literal-clause-moved : goal.returns-in-Literal-clause-moved

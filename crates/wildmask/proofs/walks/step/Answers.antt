@@ -1,4 +1,4 @@
-use Rattle.std.proofs.Common.{◌≡◌, ◌<◌, ◌+◌, ℕ, length, get_or, subst, sym, arith}
+use Rattle.std.proofs.Common.{◌<◌, ◌+◌, ℕ, length, get_or, subst, sym, arith}
 use Rattle.std.proofs.lemmas.List.{length-map}
 use Rattle.rfccase.specs.Casemapping.{low}
 use Rattle.wildmask.specs.declared.items.Item.{Item}

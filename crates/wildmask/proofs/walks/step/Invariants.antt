@@ -1,4 +1,4 @@
-use Rattle.std.proofs.Common.{◌≡◌, ◌↔◌, ◌⊎◌, ℕ, List, ◌∷◌, ◌+◌, ◌-◌, ◌≤◌, length}
+use Rattle.std.proofs.Common.{◌↔◌, ◌⊎◌, ℕ, List, ◌∷◌, ◌+◌, ◌-◌, ◌≤◌, length}
 use Rattle.wildmask.specs.Codes.{items_in}
 use Rattle.wildmask.specs.Walks.{MatchesFrom, IsClosed}
 use Rattle.wildmask.proofs.WalkLemmas.{StarsCover}

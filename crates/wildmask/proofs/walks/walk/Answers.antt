@@ -1,9 +1,8 @@
-use Rattle.std.proofs.Common.{◌≡◌, ◌<◌, ◌↔◌, ◌+◌, ℕ, List, [], ◌∷◌, length, drop, get_or, subst, sym, ap, ◌∙◌, arith}
+use Rattle.std.proofs.Common.{◌≡◌, ◌<◌, ◌↔◌, ◌+◌, ℕ, List, [], ◌∷◌, length, drop, get_or, subst, arith}
 use Rattle.std.specs.Int.{bit_at}
 use Rattle.std.proofs.lemmas.List.{length-map, drop_more, drop_all}
 use Rattle.wildmask.specs.Codes.{decoded, items_in}
 use Rattle.wildmask.specs.Matching.{Matches}
-use Rattle.wildmask.specs.Walks.{MatchesFrom}
 use Rattle.wildmask.proofs.WalkLemmas.{both, some_at_end, one_byte_more, Some}
 use Rattle.wildmask.proofs.walks.walk.Goals as goal
 

@@ -14,8 +14,10 @@ loop-name-preserved c =
     let less : c.loop-name.name-index < length c.args.names.now = omega arith in
     let joined = c.in-Ok.ensures.joined in
     record {
-      joined = rw (joined, c.loop-name.invariant.joined) (steps_more (λ name. Joined c.args.person.nick.now c.args.person.user.now c.args.person.host.now name.now) c.args.names.now c.loop-name.name-index _ c.args.self.now less);
-      nick = ap (λ (s : ChanState). s.nick) joined ∙ joined-nick c.args.person.nick.now c.args.person.user.now c.args.person.host.now _ c.loop-name.self ∙ c.loop-name.invariant.nick;
+      joined = rw (joined, c.loop-name.invariant.joined)
+          (steps_more (λ name. Joined c.args.person.nick.now c.args.person.user.now c.args.person.host.now name.now) c.args.names.now c.loop-name.name-index _ c.args.self.now less);
+      nick = ap (λ (s : ChanState). s.nick) joined ∙ joined-nick c.args.person.nick.now c.args.person.user.now c.args.person.host.now _ c.loop-name.self
+          ∙ c.loop-name.invariant.nick;
       back = c.join_noted.ensures.noted ∙ c.loop-name.invariant.back;
     }
 

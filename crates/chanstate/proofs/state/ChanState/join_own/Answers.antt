@@ -13,7 +13,8 @@ returns c =
     let s = c.args.self.now in
     let nick = c.args.person.nick.now in
     let names = map (λ x. x.now) c.args.names.now in
-    let made = c.in_ok-opened.ensures ∙ map-by (λ name. opened name (unmarked nick c.args.person.user.now c.args.person.host.now)) (λ x. x.now) c.args.names.now in
+    let made = c.in_ok-opened.ensures
+    ∙ map-by (λ name. opened name (unmarked nick c.args.person.user.now c.args.person.host.now)) (λ x. x.now) c.args.names.now in
     ap (λ cs. record s { channels = cs }) (c.in_ok-put_each_last.ensures ∙ ap (λ os. put_each_last os s.channels) made)
     ∙ sym (steps-own nick c.args.person.user.now c.args.person.host.now names s c.requires)
     ∙ sym (ap (λ items. steps items s) (map-by (Joined nick c.args.person.user.now c.args.person.host.now) (λ x. x.now) c.args.names.now))

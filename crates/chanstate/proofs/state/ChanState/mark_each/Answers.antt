@@ -13,4 +13,5 @@ loop-mode-preserved c =
 
 pub returns : goal.returns
 returns c =
-    sym (at_drop_all (λ ms. steps (markings c.args.channel.now (map single_seen ms)) c.loop-mode.self) c.args.modes.now c.loop-mode.mode-index (omega arith)) ∙ c.loop-mode.invariant
+    sym (at_drop_all (λ ms. steps (markings c.args.channel.now (map single_seen ms)) c.loop-mode.self) c.args.modes.now c.loop-mode.mode-index
+    (omega arith)) ∙ c.loop-mode.invariant

@@ -1,4 +1,4 @@
-use Rattle.std.proofs.Common.{◌≡◌, List, ℕ, ap, ◌∙◌, sym, subst, map, refl, Option, Some, None, Result, Ok}
+use Rattle.std.proofs.Common.{◌≡◌, List, ℕ, ap, ◌∙◌, sym, subst, map, refl, Option, Some, None, Ok}
 use Rattle.std.specs.Prelude.{count_by}
 use Rattle.bytetext.specs.Refusals.{refused_with}
 use Rattle.wildmask.specs.declared.faults.MaskFault.{MaskFault}

@@ -1,5 +1,4 @@
-use Rattle.std.proofs.Common.{◌≡◌, ◌<◌, List, [], length, take, map, subst, sym, ap, ◌∙◌, arith, length-set}
-use Rattle.wildmask.specs.declared.items.Item.{Item}
+use Rattle.std.proofs.Common.{◌≡◌, [], take, map, subst, sym, ap, ◌∙◌, arith, length-set}
 use Rattle.wildmask.specs.Codes.{items_in, lower}
 use Rattle.wildmask.specs.Items.{items_of}
 use Rattle.wildmask.specs.Walks.{AllLower}

@@ -1,4 +1,4 @@
-use Rattle.std.proofs.Common.{◌≡◌, ◌<◌, ◌+◌, ◌/◌, ◌^◌, arith, rules}
+use Rattle.std.proofs.Common.{◌<◌, ◌+◌, ◌/◌, ◌^◌, arith, rules}
 use Rattle.std.specs.Int.{trailing_zeros, w128}
 use Rattle.wildmask.proofs.BitLemmas.{bit_at-none, bit_at-first, bit_at-first-below, IsFirst}
 use Rattle.wildmask.proofs.places.Places.first_from.Goals as goal
