@@ -21,7 +21,7 @@ const USAGE: u8 = 2;
 /// The status of a read or a write that failed.
 const STREAM_FAULT: u8 = 3;
 
-/// The status of a want of memory.
+/// The status where memory runs out.
 const NO_MEMORY: u8 = 4;
 
 fn main(rt: HostRuntime) -> ExitCode {
@@ -48,7 +48,7 @@ fn words_of<R: AllocGlobal + Env>(rt: &R) -> io::Result<Vec<String>> {
     Ok(words)
 }
 
-// Whether the words are `replay` behind the program's name.
+// Whether the words are `replay` after the program's name.
 fn parsed(alloc: Global, words: &[String]) -> Result<(), Error> {
     command(alloc)?.try_get_matches_from(words)?;
     Ok(())
