@@ -2,8 +2,10 @@ pub mod TextLemmas
 pub mod ListLemmas
 pub mod EntryLemmas
 pub mod EditLemmas
-pub mod MaskLemmas
+pub mod MatchLemmas
 pub mod SearchLemmas
+pub mod GroupLemmas
+pub mod IndexLemmas
 pub mod GatherLemmas
 pub mod DeciderLemmas
 pub mod RepeatLemmas

@@ -1,16 +1,23 @@
 -- What a search through some users' masks leaves as the best claim, and that it decides.
 use Rattle.std.proofs.Common.{◌≡◌, ℕ, zero, suc, ◌+◌, ◌<◌, ◌≤◌, ◌==◌, nat_lt, nat_le, ◌⊎◌, inl, inr, Bool, true, false, cond, ◌&&◌, ◌||◌, List, [], ◌∷◌}
-use Rattle.std.proofs.Common.{◌++◌, map, filter, length, drop, refl, sym, ap, subst, ◌∙◌, arith, Option, None, Some, slice_get, ltb-false, ltb-true}
-use Rattle.std.proofs.Common.{true≢false}
-use Rattle.std.specs.List.{list_any}
+use Rattle.std.proofs.Common.{◌++◌, map, filter, refl, sym, ap, subst, ◌∙◌, arith, Option, None, Some, slice_get, ltb-false, ltb-true, true≢false}
+use Rattle.std.specs.List.{list_any, list_all}
 use Rattle.std.proofs.lemmas.Bool.{cases_lt, eqb-true}
 use Rattle.std.proofs.lemmas.Bool.Decides.{Decides-eqb, nat_tests}
 use Rattle.userfile.specs.declared.user.User.{User}
 use Rattle.userfile.specs.declared.persons.Winner.{Winner}
 use Rattle.userfile.specs.Hostmasks.{is_match, literals}
 use Rattle.userfile.specs.Persons.{Claim, claim, claims_of, claims, is_most, decider, user_for}
-use Rattle.userfile.specs.Search.{is_better, after_mask, after_masks, after_user, after_users, user_at}
+use Rattle.userfile.specs.Search.{is_better, after_mask, after_masks, after_user, after_places, user_at}
+use Rattle.userfile.specs.Index.{IsIn}
 use Rattle.userfile.proofs.RepeatLemmas.{and_true}
+
+-- ---- of several lists of places, one after the other
+
+pub after_places-append : (who : List ℕ) (users : List User) (xs ys : List ℕ) (best : Option Winner)
+    → after_places who users (xs ++ ys) best ≡ after_places who users ys (after_places who users xs best)
+after_places-append who users [] ys best = refl
+after_places-append who users (x ∷ xs) ys best = after_places-append who users xs ys (after_user who x (slice_get users x) best)
 
 -- ---- claims that don't win
 
@@ -83,33 +90,34 @@ AreBeaten who n (m ∷ ms) best = (is_match m who ≡ true → IsBeaten (literal
 
 all_beaten : (who : List ℕ) (n : ℕ) (ms : List (List ℕ)) (best : Option Winner) → AreBeaten who n ms (after_masks who n ms best)
 all_beaten who n [] best = tt
-all_beaten who n (m ∷ ms) best = (
-  λ hit. beaten-after_masks who n ms (literals m) n (after_mask who n m best) (beaten_at who n m best hit),
-  all_beaten who n ms
-      (after_mask who n m best),
-)
+all_beaten who n (m ∷ ms) best =
+    (λ hit. beaten-after_masks who n ms (literals m) n (after_mask who n m best) (beaten_at who n m best hit), all_beaten who n ms
+        (after_mask who n m best))
 
 still_beaten : (who : List ℕ) (n : ℕ) (ms : List (List ℕ)) (old new : Option Winner) → ((l p : ℕ) → IsBeaten l p old → IsBeaten l p new)
     → AreBeaten who n ms old → AreBeaten who n ms new
 still_beaten who n [] old new f h = tt
 still_beaten who n (m ∷ ms) old new f h = (λ hit. f (literals m) n (h.0 hit), still_beaten who n ms old new f h.1)
 
-beaten-after_users : (who : List ℕ) (n : ℕ) (us : List User) (l p : ℕ) (best : Option Winner) → IsBeaten l p best → IsBeaten l p (after_users who n us best)
-beaten-after_users who n [] l p best h = h
-beaten-after_users who n (u ∷ us) l p best h = beaten-after_users who (suc n) us l p (after_masks who n u.masks best)
-    (beaten-after_masks who n u.masks l p best h)
+beaten-after_user : (who : List ℕ) (n : ℕ) (o : Option User) (l p : ℕ) (best : Option Winner) → IsBeaten l p best → IsBeaten l p (after_user who n o best)
+beaten-after_user who n None l p best h = h
+beaten-after_user who n (Some u) l p best h = beaten-after_masks who n u.masks l p best h
 
--- each mask of each of these users, from this place on, is beaten
-abbrev pub UsersBeaten : List ℕ → ℕ → List User → Option Winner → Type 0
-UsersBeaten who n [] best = Unit {0}
-UsersBeaten who n (u ∷ us) best = AreBeaten who n u.masks best × UsersBeaten who (suc n) us best
+beaten-after_places : (who : List ℕ) (users : List User) (ps : List ℕ) (l p : ℕ) (best : Option Winner) → IsBeaten l p best
+    → IsBeaten l p (after_places who users ps best)
+beaten-after_places who users [] l p best h = h
+beaten-after_places who users (n ∷ ps) l p best h = beaten-after_places who users ps l p (after_user who n (slice_get users n) best)
+    (beaten-after_user who n (slice_get users n) l p best h)
 
-all_users_beaten : (who : List ℕ) (n : ℕ) (us : List User) (best : Option Winner) → UsersBeaten who n us (after_users who n us best)
-all_users_beaten who n [] best = tt
-all_users_beaten who n (u ∷ us) best = (
-  still_beaten who n u.masks _ _ (λ l p h. beaten-after_users who (suc n) us l p (after_masks who n u.masks best) h) (all_beaten who n u.masks best),
-  all_users_beaten who (suc n) us (after_masks who n u.masks best),
-)
+-- the masks of a user whose place is asked for are beaten
+pub place_beaten : (who : List ℕ) (users : List User) (ps : List ℕ) (n : ℕ) (u : User) (best : Option Winner) → IsIn n ps → slice_get users n ≡ Some u
+    → AreBeaten who n u.masks (after_places who users ps best)
+place_beaten who users [] n u best among at = absurd among
+place_beaten who users (x ∷ ps) n u best (inr later) at = place_beaten who users ps n u (after_user who x (slice_get users x) best) later at
+place_beaten who users (x ∷ ps) n u best (inl same) at =
+    let here : AreBeaten who n u.masks (after_user who x (slice_get users x) best) = subst
+        (λ k. AreBeaten who n u.masks (after_user who k (slice_get users k) best)) (sym same) (rw at (all_beaten who n u.masks best)) in
+    still_beaten who n u.masks _ _ (λ l p h. beaten-after_places who users ps l p (after_user who x (slice_get users x) best) h) here
 
 -- ---- where the best claim is from
 
@@ -132,7 +140,7 @@ head_claim who m ms hit = rw (hit, (Decides-eqb (literals m) (literals m)).1 ref
 -- after a user's masks it is the one before, or that of one of these
 from_masks : (who : List ℕ) (n : ℕ) (ms : List (List ℕ)) (best : Option Winner)
     → (after_masks who n ms best ≡ best)
-    ⊎ ((l : ℕ) × ((after_masks who n ms best ≡ Some (record { literals = l; place = n })) × (has_claim who l ms ≡ true)))
+        ⊎ ((l : ℕ) × ((after_masks who n ms best ≡ Some (record { literals = l; place = n })) × (has_claim who l ms ≡ true)))
 from_masks who n [] best = inl refl
 from_masks who n (m ∷ ms) best = by (is_match m who && is_better (literals m) n best) refl (λ b. from_masks who n ms b)
   where
@@ -142,38 +150,34 @@ from_masks who n (m ∷ ms) best = by (is_match m who && is_better (literals m) 
 
     by : (c : Bool) → (is_match m who && is_better (literals m) n best) ≡ c
         → ((b : Option Winner)
-        → (after_masks who n ms b ≡ b)
-        ⊎ ((l : ℕ) × ((after_masks who n ms b ≡ Some (record { literals = l; place = n })) × (has_claim who l ms ≡ true))))
+            → (after_masks who n ms b ≡ b)
+            ⊎ ((l : ℕ) × ((after_masks who n ms b ≡ Some (record { literals = l; place = n })) × (has_claim who l ms ≡ true))))
         → (after_masks who n ms (cond c (Some (record { literals = literals m; place = n })) best) ≡ best)
         ⊎ ((l : ℕ) × ((after_masks who n ms (cond c (Some (record { literals = literals m; place = n })) best)
-        ≡ Some (record { literals = l; place = n })) × (has_claim who l (m ∷ ms) ≡ true)))
+            ≡ Some (record { literals = l; place = n })) × (has_claim who l (m ∷ ms) ≡ true)))
     by true e rest = elim
-        (rest (Some (record { literals = literals m; place = n }))) [
-          | inl same ↦ inr
-              (literals m, (same, head_claim who m ms (and_true e).0))
-          | inr r ↦ inr (later _ r)
-        ]
+        (rest (Some (record { literals = literals m; place = n }))) [ inl same ↦ inr
+        (literals m, (same, head_claim who m ms (and_true e).0)) | inr r ↦ inr (later _ r) ]
     by false e rest = elim (rest best) [ inl same ↦ inl same | inr r ↦ inr (later _ r) ]
 
-claim-after_masks : (who : List ℕ) (users : List User) (n : ℕ) (u : User) (best : Option Winner) → slice_get users n ≡ Some u → IsClaim who users best
-    → IsClaim who users (after_masks who n u.masks best)
-claim-after_masks who users n u best at h = elim
+claim-after_user : (who : List ℕ) (users : List User) (n : ℕ) (o : Option User) (best : Option Winner) → slice_get users n ≡ o → IsClaim who users best
+    → IsClaim who users (after_user who n o best)
+claim-after_user who users n None best at h = h
+claim-after_user who users n (Some u) best at h = elim
     (from_masks who n u.masks best) [ inl same ↦ subst (IsClaim who users) (sym same) h | inr r ↦ subst (IsClaim who users) (sym r.1.0) (u, (at, r.1.1)) ]
 
-module _ (who : List ℕ) (users : List User) where
-  claim-after_users : (us : List User) (n : ℕ) (best : Option Winner) → ((i : ℕ) → slice_get us i ≡ slice_get users (i + n)) → IsClaim who users best
-      → IsClaim who users (after_users who n us best)
-  claim-after_users [] n best at h = h
-  claim-after_users (u ∷ us) n best at h = claim-after_users us (suc n) (after_masks who n u.masks best) (λ i. at (suc i) ∙ next i)
-      (claim-after_masks who users n u best here h)
-    where
-      next : (i : ℕ) → slice_get users (suc i + n) ≡ slice_get users (i + suc n)
-      next i = let same : suc i + n ≡ i + suc n = omega arith in ap (slice_get users) same
-
-      here : slice_get users n ≡ Some u
-      here = let same : n ≡ 0 + n = omega arith in ap (slice_get users) same ∙ sym (at 0)
+pub claim-after_places : (who : List ℕ) (users : List User) (ps : List ℕ) (best : Option Winner) → IsClaim who users best
+    → IsClaim who users (after_places who users ps best)
+claim-after_places who users [] best h = h
+claim-after_places who users (n ∷ ps) best h = claim-after_places who users ps (after_user who n (slice_get users n) best)
+    (claim-after_user who users n (slice_get users n) best refl h)
 
 -- ---- the best of all claims decides
+
+-- each mask of each of these users, from this place on, is beaten
+abbrev pub UsersBeaten : List ℕ → ℕ → List User → Option Winner → Type 0
+UsersBeaten who n [] best = Unit {0}
+UsersBeaten who n (u ∷ us) best = AreBeaten who n u.masks best × UsersBeaten who (suc n) us best
 
 abbrev Within : ℕ → List Claim → Type 0
 Within l [] = Unit {0}
@@ -236,7 +240,7 @@ unfolding decider
 later_decides l [] ds below has = refl
 later_decides l (c ∷ cs) ds below has =
     ap (λ b. cond b (Some c.user) (decider (cs ++ ds))) (not_most l c.literals (cs ++ ds) below.0 (has-append l cs ds has))
-    ∙ later_decides l cs ds below.1 has
+        ∙ later_decides l cs ds below.1 has
 
 -- ---- the claims of users
 
@@ -326,7 +330,7 @@ wins who best (x ∷ us) n zero u at place has h =
     ∙ ap (λ v. Some v) same
 wins who best (x ∷ us) n (suc i) u at place has h =
     later_decides best.literals (claims_of who x x.masks) (claims who us) (below_of who x n best x.masks (omega (arith, place)) h.0)
-    (claims_have who best.literals us i u at has)
+        (claims_have who best.literals us i u at has)
     ∙ wins who best us (suc n) i u at (omega (arith, place)) has h.1
 
 nobody : (who : List ℕ) (us : List User) (n : ℕ) → UsersBeaten who n us None → claims who us ≡ []
@@ -339,24 +343,3 @@ pub best-user_for : (who : List ℕ) (users : List User) (best : Option Winner) 
 unfolding decider
 best-user_for who users None h is = sym (ap decider (nobody who users 0 h))
 best-user_for who users (Some best) h is = is.1.0 ∙ sym (wins who best users 0 best.place is.0 is.1.0 (omega arith) is.1.1 h)
-
--- ---- one user after the other
-
--- the next user, and those after
-pub after_users-next : (who : List ℕ) (us : List User) (i n : ℕ) (best : Option Winner) → i < length us
-    → after_users who n (drop i us) best ≡ after_users who (suc n) (drop (suc i) us) (after_user who n (slice_get us i) best)
-after_users-next who [] i n best lt = absurd (omega arith)
-after_users-next who (x ∷ us) zero n best lt = refl
-after_users-next who (x ∷ us) (suc i) n best lt = after_users-next who us i n best (omega arith)
-
-pub after_users-past : (who : List ℕ) (us : List User) (i n : ℕ) (best : Option Winner) → length us ≤ i → after_users who n (drop i us) best ≡ best
-after_users-past who [] zero n best le = refl
-after_users-past who [] (suc i) n best le = refl
-after_users-past who (x ∷ us) zero n best le = absurd (omega arith)
-after_users-past who (x ∷ us) (suc i) n best le = after_users-past who us i n best (omega arith)
-
--- the best claim of all users is that of who the person is
-pub after_users-user_for : (who : List ℕ) (users : List User) → user_at users (after_users who 0 users None) ≡ user_for who users
-after_users-user_for who users =
-    best-user_for who users _ (all_users_beaten who 0 users None)
-    (claim-after_users who users users 0 None (λ i. let same : i ≡ i + 0 = omega arith in ap (slice_get users) same) tt)

@@ -20,3 +20,11 @@ edit_grows (DelMask mask) = false
 edit_grows (SetGlobal flags) = false
 edit_grows (SetChannel channel flags) = not (flags == 0)
 edit_grows (SetBot flags) = false
+
+-- whether the edit adds a mask
+abbrev pub adds_mask : Edit → Bool
+adds_mask (AddMask mask) = true
+adds_mask (DelMask mask) = false
+adds_mask (SetGlobal flags) = false
+adds_mask (SetChannel channel flags) = false
+adds_mask (SetBot flags) = false

@@ -5,7 +5,7 @@ use Rattle.bytetext.specs.declared.failure.Failure.TheVariants.{Refused, NoMemor
 use Rattle.wildmask.specs.declared.items.MaskKind.TheVariants.{Host}
 use Rattle.wildmask.specs.declared.faults.MaskFault.{MaskFault}
 use Rattle.wildmask.specs.Items.{literals_of}
-use Rattle.wildmask.specs.Masks.{host_fault, host_mask, is_match as matches}
+use Rattle.wildmask.specs.Masks.{host_fault, host_mask, is_match as is_mask_match}
 
 -- what making a hostmask answers: its text has no fault, or this first one
 abbrev pub MakesHostmask : List ℕ → Result (List ℕ) (Failure MaskFault) → Type 0
@@ -19,4 +19,4 @@ literals mask = literals_of Host mask
 
 -- whether a hostmask matches a person, as a test that computes
 unfoldable pub is_match : List ℕ → List ℕ → Bool
-is_match mask who = matches (host_mask mask) who
+is_match mask who = is_mask_match (host_mask mask) who

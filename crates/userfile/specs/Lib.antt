@@ -10,3 +10,4 @@ pub mod Persons
 pub mod Keys
 pub mod Together
 pub mod Search
+pub mod Index

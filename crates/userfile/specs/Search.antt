@@ -1,5 +1,5 @@
--- How the users' masks are looked through for the best claim to be a person.
-use Rattle.std.specs.Prelude.{ℕ, suc, Bool, true, ◌==◌, ◌&&◌, ◌||◌, nat_lt, if◌then◌else◌, List, [], ◌∷◌, Option, Some, None, slice_get}
+-- How the masks of some users are looked through for the best claim to be a person.
+use Rattle.std.specs.Prelude.{ℕ, Bool, true, ◌==◌, ◌&&◌, ◌||◌, nat_lt, if◌then◌else◌, List, [], ◌∷◌, Option, Some, None, slice_get}
 use Rattle.userfile.specs.Hostmasks.{is_match, literals}
 use Rattle.userfile.specs.declared.user.User.{User}
 use Rattle.userfile.specs.declared.persons.Winner.{Winner}
@@ -22,10 +22,10 @@ abbrev pub after_user : List ℕ → ℕ → Option User → Option Winner → O
 after_user who place None best = best
 after_user who place (Some user) best = after_masks who place user.masks best
 
--- the best after these users, the first of them at this place
-abbrev pub after_users : List ℕ → ℕ → List User → Option Winner → Option Winner
-after_users who place [] best = best
-after_users who place (user ∷ users) best = after_users who (suc place) users (after_masks who place user.masks best)
+-- the best after the users at these places
+abbrev pub after_places : List ℕ → List User → List ℕ → Option Winner → Option Winner
+after_places who users [] best = best
+after_places who users (place ∷ places) best = after_places who users places (after_user who place (slice_get users place) best)
 
 -- the user of the best
 abbrev pub user_at : List User → Option Winner → Option User

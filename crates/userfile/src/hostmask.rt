@@ -6,7 +6,7 @@ use crate::texts::is_same;
 use bytetext::{NoMemory, TryCopy, copies_of};
 use std::alloc::Global;
 use std::marker::Model;
-use wildmask::{Mask, MaskError};
+use wildmask::{Mask, MaskError, Signature, Tail};
 
 /// A hostmask, which matches persons written as `nick!user@host`. Contracts see its text as it was given.
 #[derive(Debug, Drop)]
@@ -26,10 +26,12 @@ impl Model for Hostmask {
 }
 
 impl Hostmask {
-    ghost use Rattle.std.specs.Prelude.{◌≡◌, ◌↔◌, IsTrue, true};
+    ghost use Rattle.std.specs.Prelude.{◌≡◌, ◌↔◌, ℕ, List, IsTrue, true};
     ghost use Rattle.wildmask.specs.Masks.{host_mask, IsMatch};
     ghost use Rattle.userfile.specs.Shapes.{is_hostmask};
     ghost use Rattle.userfile.specs.Hostmasks.{MakesHostmask, is_match, literals};
+    ghost use Rattle.userfile.specs.Index.{mask_tail, EndsWithTail};
+    ghost use Rattle.wildmask.specs.Signatures.{text_signature};
 
     /// The hostmask of this text.
     ///
@@ -56,6 +58,21 @@ impl Hostmask {
         ensures test { result ≡ is_match self.now who.now }
     {
         self.mask.matches(who)
+    }
+
+    // The mask's tail: whoever the mask matches ends with it.
+    pub(crate) fn tail(&self) -> Tail
+        ensures value { result ≡ mask_tail self.now }
+        ensures ends { EndsWithTail self.now }
+    {
+        self.mask.tail()
+    }
+
+    // Whether the mask may match a person with these pairs of bytes.
+    pub(crate) fn may_match(&self, pairs: Signature) -> bool
+        ensures { (who : List ℕ) → pairs ≡ text_signature who → is_match self.now who ≡ true → result ≡ true }
+    {
+        self.mask.signature().is_within(pairs)
     }
 
     /// How many items of the mask are literals.

@@ -28,6 +28,8 @@ mod expiry;
 mod flags;
 mod gather;
 mod hostmask;
+mod index;
+mod indexing;
 mod limits;
 mod persons;
 mod refusals;

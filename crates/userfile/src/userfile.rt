@@ -1,17 +1,22 @@
 // The userfile.
-ghost use Rattle.std.specs.Prelude.{◌≡◌, None, true, IfErr, OnOk, OnErr};
+ghost use Rattle.std.specs.Prelude.{◌≡◌, None, true, false, IfErr, OnOk, OnErr};
 ghost use Rattle.bytetext.specs.declared.failure.Failure.TheVariants.{NoMemory as no_memory};
 ghost use Rattle.userfile.specs.Apply.{refusal, changed, grows};
 ghost use Rattle.userfile.specs.Keys.{IsKeyed, records_of};
+ghost use Rattle.userfile.specs.Index.{Covers};
+ghost use Rattle.userfile.specs.Together.{repeats_handle};
+ghost use Rattle.std.specs.Map.{values_of};
 
 use crate::ban::Ban;
 use crate::bans::{ban_of, has_ban, keep_other_bans};
 use crate::change::Change;
 use crate::edits::{Edit, add_mask_fault, del_mask_fault, hostmask_of, set_channel_fault};
-use crate::entries::{add_user, edit_user, find_user, keep_other_users};
+use crate::entries::{add_user, edit_user, find_user};
 use crate::error::{ChangeError, ChangeFault};
 use crate::flags::PersonFlags;
 use crate::gather::{map_of, user_copies};
+use crate::index::{TailIndex, new_index};
+use crate::indexing::{add_host, del_user, index_of};
 use crate::limits::{MAX_BANS, MAX_USERS};
 use crate::persons::user_for;
 use crate::refusals::{fault_if, fault_unless, first_of_two, shape};
@@ -26,6 +31,7 @@ use std::marker::Model;
 #[derive(Drop)]
 pub struct Userfile {
     users: IndexMap<Vec<u8>, User>,
+    index: TailIndex,
     bans: Vec<Ban>,
 }
 
@@ -34,12 +40,15 @@ impl Model for Userfile {
     ghost use Rattle.userfile.specs.Records.{Records};
     ghost use Rattle.userfile.specs.Keys.{IsKeyed, records_of};
     ghost use Rattle.userfile.specs.Together.{AreSound};
+    ghost use Rattle.userfile.specs.Index.{Covers};
+    ghost use Rattle.std.specs.Map.{values_of};
 
     ghost Value = { Records };
 
     ghost view = { λ u. records_of u.users.entries u.bans.items };
 
-    ghost invariant = { λ u. IsKeyed u.users.entries × AreSound (records_of u.users.entries u.bans.items) };
+    ghost invariant = { λ u. IsKeyed u.users.entries × Covers u.index 0 (values_of u.users.entries)
+        × AreSound (records_of u.users.entries u.bans.items) };
 }
 
 impl Userfile {
@@ -59,6 +68,7 @@ impl Userfile {
     {
         Userfile {
             users: IndexMap::new(alloc),
+            index: new_index(alloc),
             bans: Vec::new(alloc),
         }
     }
@@ -81,7 +91,8 @@ impl Userfile {
     {
         refuse(records_fault(users.as_slice(), bans.as_slice()))?;
         let users = map_of(alloc, users)?;
-        Ok(Userfile { users, bans })
+        let index = index_of(alloc, &users)?;
+        Ok(Userfile { users, index, bans })
     }
 
     /// What always holds of the records: each user and each ban is good, and none of the reasons for which
@@ -137,7 +148,7 @@ impl Userfile {
         ensures value { result.now ≡ handle_of self.now.users who.now }
         ensures decides { IsHandleFor self.now.users who.now result.now }
     {
-        match user_for(&self.users, who) {
+        match user_for(&self.users, &self.index, who) {
             Some(user) => user.handle.as_bytes(),
             None => b"*",
         }
@@ -228,7 +239,13 @@ impl Userfile {
         ensures memory { result ≡ Err no_memory → grows change.now ≡ true }
     {
         refuse(self.refusal_of(change))?;
-        make(&mut self.users, &mut self.bans, alloc, change)
+        make(
+            &mut self.users,
+            &mut self.index,
+            &mut self.bans,
+            alloc,
+            change,
+        )
     }
 }
 
@@ -236,31 +253,36 @@ impl TryCopy for Userfile {
     fn copy(&self, alloc: Global) -> Result<Userfile, NoMemory> {
         let users = user_copies(alloc, &self.users)?;
         let users = map_of(alloc, users)?;
+        let index = index_of(alloc, &users)?;
         let bans = copies_of(alloc, self.bans.as_slice())?;
-        Ok(Userfile { users, bans })
+        Ok(Userfile { users, index, bans })
     }
 }
 
 // Makes a change that isn't refused.
 fn make(
     users: &mut IndexMap<Vec<u8>, User>,
+    index: &mut TailIndex,
     bans: &mut Vec<Ban>,
     alloc: Global,
     change: &Change,
 ) -> Result<(), ChangeError>
     requires keyed { IsKeyed users.old.entries }
+    requires apart { repeats_handle (values_of users.old.entries) ≡ false }
+    requires covers { Covers index.old 0 (values_of users.old.entries) }
     requires taken { refusal (records_of users.old.entries bans.old.items) change.now ≡ None }
     ensures keyed { IsKeyed users.new.entries }
+    ensures covers { Covers index.new 0 (values_of users.new.entries) }
     ensures ok { OnOk result (records_of users.new.entries bans.new.items ≡ changed (records_of users.old.entries bans.old.items) change.now) }
     ensures err { OnErr result (records_of users.new.entries bans.new.items ≡ records_of users.old.entries bans.old.items) }
     ensures memory { IfErr result (λ e. (e ≡ no_memory) × (grows change.now ≡ true)) }
 {
     match change {
         Change::AddUser { handle } => add_user(users, alloc, handle)?,
-        Change::DelUser { handle } => keep_other_users(users, handle.as_bytes()),
+        Change::DelUser { handle } => del_user(users, index, handle.as_bytes()),
         Change::AddHost { handle, mask } => {
             let mask = hostmask_of(alloc, mask)?;
-            edit_user(users, alloc, handle.as_bytes(), Edit::AddMask(mask))?;
+            add_host(users, index, alloc, handle.as_bytes(), mask)?;
         }
         Change::DelHost { handle, mask } => {
             edit_user(

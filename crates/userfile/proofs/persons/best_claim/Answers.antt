@@ -1,21 +1,17 @@
-use Rattle.std.proofs.Common.{◌∙◌, ◌<◌, ◌≤◌, sym, ap, suc, drop, length, arith, add-one}
-use Rattle.std.proofs.lemmas.List.{length-map}
+use Rattle.std.proofs.Common.{◌≡◌, ◌∙◌, None, ap, sym, add-one}
 use Rattle.indexmap.specs.IndexMap.{values}
-use Rattle.userfile.specs.Search.{after_users}
-use Rattle.userfile.proofs.SearchLemmas.{after_users-next, after_users-past}
+use Rattle.userfile.specs.Index.{asked, asked_at}
+use Rattle.userfile.specs.Search.{after_places}
+use Rattle.userfile.proofs.SearchLemmas.{after_places-append}
 use Rattle.userfile.proofs.persons.best_claim.Goals as goal
 
-pub loop-place-preserved : goal.loop-place-preserved
-loop-place-preserved c =
+pub loop-len-preserved : goal.loop-len-preserved
+loop-len-preserved c =
+    let who = c.args.who.now in
     let users = values c.args.users.now in
-    let place = c.loop-place.place in
-    let lt : place < length users = simp length-map (omega (arith, c.len-place-end.ensures.len)) in
+    let index = c.args.index.now in
+    let len = c.loop-len.len in
     rw add-one
-    (ap (after_users c.args.who.now (suc place) (drop (suc place) users)) c.best_of_user-best.ensures
-    ∙ sym (after_users-next c.args.who.now users place place c.loop-place.best lt) ∙ c.loop-place.invariant)
-
-pub returns : goal.returns
-returns c =
-    let users = values c.args.users.now in
-    let past : length users ≤ c.loop-place.place = simp length-map (omega (arith, c.len-place-end.ensures.len)) in
-    sym (after_users-past c.args.who.now users c.loop-place.place c.loop-place.place c.loop-place.best past) ∙ c.loop-place.invariant
+    (c.best_of_places-best.ensures ∙ ap (λ ps. after_places who users ps c.loop-len.best) c.places_of.ensures
+        ∙ ap (after_places who users (asked_at index who len)) c.loop-len.invariant
+    ∙ sym (after_places-append who users (asked index who len) (asked_at index who len) None))

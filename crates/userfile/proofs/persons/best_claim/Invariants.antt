@@ -1,8 +1,9 @@
-use Rattle.std.proofs.Common.{◌≡◌, None, drop}
+use Rattle.std.proofs.Common.{◌≡◌, None}
 use Rattle.indexmap.specs.IndexMap.{values}
-use Rattle.userfile.specs.Search.{after_users}
+use Rattle.userfile.specs.Index.{asked}
+use Rattle.userfile.specs.Search.{after_places}
 use Rattle.userfile.proofs.persons.best_claim.Given as goal
 
--- the users that are left make of the best so far what all make of none
-abbrev pub invariant-loop-place : goal.invariant-loop-place
-invariant-loop-place l = after_users l.who l.place (drop l.place (values l.users)) l.best ≡ after_users l.who 0 (values l.users) None
+-- the best of those who stand under the shorter ends
+abbrev pub invariant-loop-len : goal.invariant-loop-len
+invariant-loop-len l = l.best ≡ after_places l.who (values l.users) (asked l.index l.who l.len) None

@@ -1,0 +1,12 @@
+pub mod Gates
+pub mod Moments
+pub mod Entries
+pub mod Fronts
+pub mod Passing
+pub mod Starts
+pub mod Images
+pub mod Pairs
+pub mod Appending
+pub mod Rebasing
+pub mod Choosing
+pub mod Creating

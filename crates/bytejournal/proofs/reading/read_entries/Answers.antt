@@ -1,0 +1,28 @@
+use Rattle.std.proofs.Common.{◌≡◌, Some, arith, drop, ◌+◌, ◌-◌, List, ℕ, [], ◌∷◌, ◌++◌, length, take, sym, ◌∙◌, ap, subst}
+use Rattle.std.proofs.lemmas.List.{take_all, length-drop}
+use Rattle.bytejournal.specs.Meaning.{sized, AreEntries}
+use Rattle.bytejournal.proofs.Passing.{entry_inside, entries_go_on, entries_cut}
+use Rattle.bytejournal.proofs.reading.read_entries.Goals as goal
+
+-- the range from a place on
+after_gate : (bytes : List ℕ) (gate : ℕ) → take (length bytes - (gate + 1)) (drop (gate + 1) bytes) ≡ drop (gate + 1) bytes
+after_gate bytes gate = take_all (length bytes - (gate + 1)) (drop (gate + 1) bytes) (omega (arith, length-drop (gate + 1) bytes))
+
+pub loop-gate-preserved : goal.loop-gate-preserved
+loop-gate-preserved c =
+    let bytes = c.args.bytes.now in
+    let gate = c.loop-gate.gate in
+    let texts = c.loop-gate.texts in
+    let entry = c.in-Some.entry.now in
+    let rest = c.in-Some.field-0-1.now in
+    let read : sized (drop (gate + 1) bytes) ≡ Some (entry, rest) = ap sized (sym (after_gate bytes gate)) ∙ c.in-Some.ensures in
+    let pushed : c.push.new.self ≡ texts ++ entry ∷ [] = c.in_ok-push-in-Some.ensures.ok ∙ ap (λ (t : List ℕ). texts ++ t ∷ []) c.in_ok-from_slice-in-Some.ensures in
+    record {
+      inside = entry_inside bytes gate texts c.loop-gate-test.true c.if-bytes-gate-eq1.true c.loop-gate.invariant.entries entry rest read;
+      entries = subst (λ (ts : List (List ℕ)). AreEntries (take (gate + (5 + length entry)) bytes) ts) (sym pushed) (entries_go_on bytes gate texts c.loop-gate-test.true c.if-bytes-gate-eq1.true c.loop-gate.invariant.entries entry rest read);
+    }
+
+pub returns-in-None : goal.returns-in-None
+returns-in-None c =
+    entries_cut c.args.bytes.now c.loop-gate.gate c.loop-gate.texts c.loop-gate-test.true c.if-bytes-gate-eq1.true c.loop-gate.invariant.entries
+    (ap sized (sym (after_gate c.args.bytes.now c.loop-gate.gate)) ∙ c.in-None.ensures)

@@ -1,0 +1,6 @@
+pub mod Gates
+pub mod Meaning
+pub mod Reading
+pub mod Writing
+pub mod Journal
+pub mod Opening

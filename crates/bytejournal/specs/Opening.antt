@@ -1,0 +1,114 @@
+-- How a journal is made and opened.
+use Rattle.std.specs.Prelude.{◌≡◌, ◌⊎◌, Bool, true, false, ℕ, None, Some, List, [], ◌∷◌, ◌++◌, length, Result, Ok, Err}
+use Rattle.bytetext.specs.declared.failure.Failure.{Failure}
+use Rattle.bytetext.specs.declared.failure.Failure.TheVariants.{Refused, NoMemory}
+use Rattle.storage.specs.State.{State, IsSettled, Rose, LeavesOnly}
+use Rattle.storage.specs.Calls.{Elapses}
+use Rattle.bytejournal.specs.declared.fault.JournalFault.{JournalFault}
+use Rattle.bytejournal.specs.declared.fault.JournalFault.TheVariants.{DiskFault, NotAJournal, Spent, GenerationsSpent}
+use Rattle.bytejournal.specs.declared.journal.Journal.{Journal}
+use Rattle.bytejournal.specs.declared.opening.Opened.{Opened}
+use Rattle.bytejournal.specs.declared.opening.Returned.{Returned}
+use Rattle.bytejournal.specs.declared.reading.Found.{Found}
+use Rattle.bytejournal.specs.declared.reading.Reading.{Reading}
+use Rattle.std.specs.Int.{w32, to_be_bytes}
+use Rattle.bytejournal.specs.Gates.{with_gate, with_first}
+use Rattle.bytejournal.specs.Meaning.{Contents, layout, meaning, IsWhole}
+use Rattle.bytejournal.specs.Reading.{Reads}
+use Rattle.bytejournal.specs.Writing.{IsSame}
+use Rattle.bytejournal.specs.Journal.{IsAtRest, contents_of, first_disk, second_disk}
+
+-- a new journal's contents
+abbrev pub new_contents : List ℕ → Contents
+new_contents base = record { generation = 1; base = base; entries = [] }
+
+-- nothing was written: a read gives what it gave, and at each moment a crash leaves that
+pub record Untouched (old new : State) : Type 0 where
+  pub seen : new.seen ≡ old.seen
+  pub settled : IsSettled new
+  pub any_moment : LeavesOnly old new (λ image. image ≡ old.seen)
+
+-- the disk was crashed and holds what the crash left
+pub record Reopened (old new : State) : Type 0 where
+  pub left : old.may_leave new.seen
+  pub settled : IsSettled new
+  pub time : Elapses old new
+  pub failed : new.failed ≡ old.failed
+
+-- reading a whole disk, by cases on the answer
+abbrev pub ReadsDisk : State → Result Reading (Failure JournalFault) → State → Type 0
+ReadsDisk old (Ok reading) new = Reads old.seen reading
+ReadsDisk old (Err (Refused DiskFault)) new = Rose old.failed new.failed
+ReadsDisk old (Err (Refused NotAJournal)) new = ⊥
+ReadsDisk old (Err (Refused Spent)) new = ⊥
+ReadsDisk old (Err (Refused GenerationsSpent)) new = ⊥
+ReadsDisk old (Err NoMemory) new = Unit {0}
+
+-- a journal isn't made only where a disk fails, or for want of memory before anything is written
+abbrev pub CannotCreate : State → State → Failure JournalFault → State → State → Type 0
+CannotCreate first second (Refused DiskFault) first' second' = Rose first.failed first'.failed ⊎ Rose second.failed second'.failed
+CannotCreate first second (Refused NotAJournal) first' second' = ⊥
+CannotCreate first second (Refused Spent) first' second' = ⊥
+CannotCreate first second (Refused GenerationsSpent) first' second' = ⊥
+CannotCreate first second NoMemory first' second' = IsSame first first' × IsSame second second'
+
+-- what stands on a disk before its first closed gate, and the gate
+abbrev pub new_text : List ℕ → List ℕ
+new_text base = (layout ++ (to_be_bytes w32 1 ++ (to_be_bytes w32 (length base) ++ base))) ++ (0 ∷ [])
+
+-- writing a new journal, by cases on the answer
+abbrev pub WritesNew : State → State → List ℕ → Result (Unit {0}) (Failure JournalFault) → State → State → Type 0
+WritesNew first second base (Ok _) first' second' = (first'.seen ≡ with_gate (with_first first.seen 0) 0 (new_text base) 1) × (second'.seen ≡ with_first second.seen 0) × IsSettled first' × IsSettled second'
+WritesNew first second base (Err error) first' second' = CannotCreate first second error first' second'
+
+module _ {D : Type 0} where
+  -- the journal that was found on the active disk
+  abbrev pub opened_as : D → D → Bool → Bool → Bool → Found → Opened D
+  opened_as active idle swapped idle_open whole found = record {
+    journal = record { active = active; idle = idle; swapped = swapped; idle_open = idle_open; generation = found.generation; gate = found.gate; spent = false };
+    base = found.base;
+    entries = found.entries;
+    whole = whole;
+  }
+
+  abbrev pub returned_as : Failure JournalFault → D → D → Returned D
+  returned_as error first second = record { error = error; disks = record { first = first; second = second } }
+
+module _ {D : Type 0} (state : D → State) where
+  -- what an opened journal was found to hold
+  abbrev pub contents_found : Opened D → Contents
+  contents_found opened = record { generation = opened.journal.generation; base = opened.base; entries = opened.entries }
+
+  -- The journal was opened on disks with these bytes. Where it is whole it is at rest.
+  pub record IsOpened (first second : List ℕ) (opened : Opened D) : Type 0 where
+    pub found : meaning first second ≡ Some (contents_found opened)
+    pub going : opened.journal.spent ≡ false
+    pub whole : IsWhole first → IsWhole second → opened.whole ≡ true
+    pub at_rest : opened.whole ≡ true → IsAtRest state opened.journal
+
+  -- why a journal wasn't opened
+  abbrev pub Refuses : D → D → Failure JournalFault → D → D → Type 0
+  Refuses first second (Refused DiskFault) first' second' = Rose (state first).failed (state first').failed ⊎ Rose (state second).failed (state second').failed
+  Refuses first second (Refused NotAJournal) first' second' = meaning (state first).seen (state second).seen ≡ None
+  Refuses first second (Refused Spent) first' second' = ⊥
+  Refuses first second (Refused GenerationsSpent) first' second' = ⊥
+  Refuses first second NoMemory first' second' = Unit {0}
+
+  -- choosing the active disk, by cases on the answer: the disks are handed on as they are
+  abbrev pub Chooses : D → D → Result (Opened D) (Returned D) → Type 0
+  Chooses first second (Ok opened) = (first_disk opened.journal ≡ first) × (second_disk opened.journal ≡ second) × (IsSettled (state first) → IsSettled (state second) → IsOpened (state first).seen (state second).seen opened)
+  Chooses first second (Err returned) = (returned.error ≡ Refused NotAJournal) × (meaning (state first).seen (state second).seen ≡ None) × (returned.disks.first ≡ first) × (returned.disks.second ≡ second)
+
+  -- Opening a journal, by cases on the answer.
+  abbrev pub Opens : D → D → Result (Opened D) (Returned D) → Type 0
+  Opens first second (Ok opened) = IsOpened (state first).seen (state second).seen opened × Untouched (state first) (state (first_disk opened.journal)) × Untouched (state second) (state (second_disk opened.journal))
+  Opens first second (Err returned) = Refuses first second returned.error returned.disks.first returned.disks.second × Untouched (state first) (state returned.disks.first) × Untouched (state second) (state returned.disks.second)
+
+  -- Making a journal, by cases on the answer.
+  abbrev pub Creates : D → D → List ℕ → Result (Journal D) (Returned D) → Type 0
+  Creates first second base (Ok journal) = (journal.spent ≡ false) × IsAtRest state journal × (contents_of state journal ≡ Some (new_contents base))
+  Creates first second base (Err returned) = CannotCreate (state first) (state second) returned.error (state returned.disks.first) (state returned.disks.second)
+
+  -- Opening a journal again on what a crash left of its disks.
+  abbrev pub Restarts : Journal D → Result (Opened D) (Returned D) → Type 0
+  Restarts journal result = (first : D) × (second : D) × Reopened (state (first_disk journal)) (state first) × Reopened (state (second_disk journal)) (state second) × Opens first second result

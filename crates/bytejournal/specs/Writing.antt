@@ -1,0 +1,22 @@
+-- How a text is put on a disk, by cases on the answer.
+use Rattle.std.specs.Prelude.{◌≡◌, ℕ, List, Result, Ok, Err}
+use Rattle.bytetext.specs.declared.failure.Failure.{Failure}
+use Rattle.bytetext.specs.declared.failure.Failure.TheVariants.{Refused, NoMemory}
+use Rattle.storage.specs.State.{State, IsSettled, Rose}
+use Rattle.storage.specs.Calls.{SameBytes}
+use Rattle.bytejournal.specs.declared.fault.JournalFault.{JournalFault}
+use Rattle.bytejournal.specs.declared.fault.JournalFault.TheVariants.{DiskFault, NotAJournal, Spent, GenerationsSpent}
+
+-- the disk's bytes, what a crash may leave of them and the number of its failures are as they were
+pub record IsSame (old new : State) : Type 0 where
+  pub bytes : SameBytes old new
+  pub failed : new.failed ≡ old.failed
+
+-- at Ok a read gives this file, and it is kept; a fault is one of the disk; without memory nothing happened
+abbrev pub Puts : State → List ℕ → Result (Unit {0}) (Failure JournalFault) → State → Type 0
+Puts old file (Ok _) new = (new.seen ≡ file) × IsSettled new
+Puts old file (Err (Refused DiskFault)) new = Rose old.failed new.failed
+Puts old file (Err (Refused NotAJournal)) new = ⊥
+Puts old file (Err (Refused Spent)) new = ⊥
+Puts old file (Err (Refused GenerationsSpent)) new = ⊥
+Puts old file (Err NoMemory) new = IsSame old new

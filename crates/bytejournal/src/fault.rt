@@ -1,0 +1,25 @@
+// Why a journal refuses a call.
+use bytetext::Failure;
+use thiserror::Error;
+
+/// Why a journal refuses a call.
+#[derive(Clone, Copy, Debug, PartialEq, Eq, Error)]
+pub enum JournalFault {
+    /// A disk failed in this call. What was being written counts or doesn't: open the journal again to know.
+    #[error("a disk failed: open the journal again")]
+    DiskFault,
+    /// The two disks don't hold a journal: no gate is open, or what follows an open one isn't a journal's, or both
+    /// are open with one generation.
+    #[error("the disks hold no journal: create one, or give its own disks")]
+    NotAJournal,
+    /// A disk failed in an earlier call.
+    #[error("a disk failed before: open the journal again")]
+    Spent,
+    /// The generations are used up, so no other base can be written.
+    #[error("the generations are used up: create a new journal")]
+    GenerationsSpent,
+}
+
+/// Why a journal's call did nothing, or left open whether it did. A journal tests for faults first and makes all room
+/// before it writes, so `NoMemory` says that the disks are as they were, and that no fault stood against the call.
+pub type JournalError = Failure<JournalFault>;

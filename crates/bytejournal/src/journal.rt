@@ -1,0 +1,107 @@
+// A journal on two disks.
+ghost use Rattle.std.specs.Prelude.{◌≡◌, ◌<◌, ◌^◌, ◌-◌, ◌↔◌, IsTrue, false, length, option_map};
+ghost use Rattle.bytejournal.specs.Meaning.{added, rebased};
+ghost use Rattle.bytejournal.specs.Journal.{IsSound, AnyMoment, IsEither, Appends, Rebases, contents_of};
+
+use crate::fault::{JournalError, JournalFault};
+use crate::spelling::{base_text, entry_text};
+use crate::writing::{put_after_gate, replace};
+use bytetext::Failure;
+use std::alloc::Global;
+use std::mem;
+use storage::Disk;
+
+/// A base and the entries appended since, on two disks of which one is active.
+#[derive(Drop)]
+pub struct Journal<D: Disk> {
+    pub(crate) active: D,
+    pub(crate) idle: D,
+    /// Whether the active disk is the second of those that were given.
+    pub(crate) swapped: bool,
+    /// Whether the gate at the idle disk's start stands open.
+    pub(crate) idle_open: bool,
+    /// The active disk's generation.
+    pub(crate) generation: u32,
+    /// Where the closed gate stands that ends the active disk's entries.
+    pub(crate) gate: usize,
+    /// Whether a disk failed since the journal was opened.
+    pub(crate) spent: bool,
+}
+
+impl<D: Disk> Journal<D> {
+    /// Appends an entry. At `Ok` it is acknowledged: from then on each crash leaves it.
+    ///
+    /// # Errors
+    /// `Spent` where a disk failed before. `NoMemory` where room is refused: nothing was written. `DiskFault` where a
+    /// disk failed in this call: the entry counts or doesn't, and the journal is spent.
+    pub fn append(&mut self, alloc: Global, entry: &[u8]) -> Result<(), JournalError>
+        requires sound { IsSound D.state self.old }
+        requires small { length entry.now < 2 ^ 32 }
+        ensures sound { IsSound D.state self.new }
+        ensures row { Appends D.state self.old entry.now result self.new }
+        ensures any_moment { self.old.spent ≡ false → AnyMoment D.state self.old self.new
+            (IsEither (contents_of D.state self.old) (option_map (added entry.now) (contents_of D.state self.old))) }
+    {
+        if self.spent {
+            return Err(Failure::Refused(JournalFault::Spent));
+        }
+        let text = entry_text(alloc, entry)?;
+        match put_after_gate(&mut self.active, self.gate, &text) {
+            Ok(()) => {
+                self.gate += text.len();
+                Ok(())
+            }
+            Err(Failure::NoMemory) => Err(Failure::NoMemory),
+            Err(Failure::Refused(fault)) => {
+                self.spent = true;
+                Err(Failure::Refused(fault))
+            }
+        }
+    }
+
+    /// Puts a base in the place of the base and its entries, in the next generation. At `Ok` it is acknowledged.
+    ///
+    /// # Errors
+    /// `Spent` where a disk failed before. `GenerationsSpent` where the generations are used up. `NoMemory` where room
+    /// is refused: nothing was written. `DiskFault` where a disk failed in this call: the old base and entries count,
+    /// or the new base alone, and the journal is spent.
+    pub fn rebase(&mut self, alloc: Global, base: &[u8]) -> Result<(), JournalError>
+        requires sound { IsSound D.state self.old }
+        requires small { length base.now < 2 ^ 32 }
+        ensures sound { IsSound D.state self.new }
+        ensures row { Rebases D.state self.old base.now result self.new }
+        ensures any_moment { self.old.spent ≡ false → AnyMoment D.state self.old self.new
+            (IsEither (contents_of D.state self.old) (option_map (rebased base.now) (contents_of D.state self.old))) }
+    {
+        if self.spent {
+            return Err(Failure::Refused(JournalFault::Spent));
+        }
+        if self.generations_spent() {
+            return Err(Failure::Refused(JournalFault::GenerationsSpent));
+        }
+        let text = base_text(alloc, self.generation + 1, base)?;
+        match replace(&mut self.idle, self.idle_open, &text) {
+            Ok(()) => {
+                mem::swap(&mut self.active, &mut self.idle);
+                self.swapped = !self.swapped;
+                self.idle_open = true;
+                self.generation += 1;
+                self.gate = text.len();
+                Ok(())
+            }
+            Err(Failure::NoMemory) => Err(Failure::NoMemory),
+            Err(Failure::Refused(fault)) => {
+                self.spent = true;
+                Err(Failure::Refused(fault))
+            }
+        }
+    }
+
+    /// Whether the active disk's generation is the last one, so that `rebase` would be refused for it. After a fault
+    /// nothing is said of the answer.
+    pub fn generations_spent(&self) -> bool
+        ensures { IsTrue result ↔ (self.now.generation ≡ 2 ^ 32 - 1) }
+    {
+        self.generation == u32::MAX
+    }
+}

@@ -1,0 +1,122 @@
+// What the bytes of one disk hold.
+ghost use Rattle.std.specs.Prelude.{◌≡◌, ◌∷◌, None, Some, IfOk, MatchOption};
+ghost use Rattle.bytejournal.specs.Meaning.{numbered, sized, entries_of};
+ghost use Rattle.bytejournal.specs.Reading.{HasEntries, Reads};
+
+use bytetext::{NoMemory, Text, Texts};
+use std::alloc::Global;
+
+/// The letters that a journal's disk begins with, and the number of its layout.
+pub(crate) const LAYOUT: [u8; 5] = [b'E', b'G', b'G', b'J', 1];
+
+/// How many bytes there are before a base: the gate, the layout, a generation and the base's length.
+pub(crate) const START: usize = 14;
+
+/// The entries after a base.
+#[derive(Drop)]
+pub(crate) struct Entries {
+    pub(crate) texts: Texts,
+    /// Where the gate stands that ends them, or the bytes' end where it is missing.
+    pub(crate) gate: usize,
+}
+
+/// What an open disk holds.
+#[derive(Drop)]
+pub(crate) struct Found {
+    pub(crate) generation: u32,
+    pub(crate) base: Text,
+    pub(crate) entries: Texts,
+    /// Where the gate stands that ends the entries, or the disk's end where it is missing.
+    pub(crate) gate: usize,
+}
+
+/// What one disk holds.
+#[derive(Drop)]
+pub(crate) enum Reading {
+    /// The first gate is closed or missing.
+    Shut,
+    /// What follows the open gate isn't a journal's.
+    Broken,
+    /// A journal.
+    Open(Found),
+}
+
+/// The number in the first four bytes, and what follows it.
+fn number_front(bytes: &[u8]) -> Option<(u32, &[u8])>
+    ensures { MatchOption result (numbered bytes.now ≡ None) (λ n. numbered bytes.now ≡ Some (n.0, n.1.now)) }
+{
+    match bytes.split_first_chunk::<4>() {
+        Some((four, rest)) => Some((u32::from_be_bytes(*four), rest)),
+        None => None,
+    }
+}
+
+/// The text after its length, and what follows it.
+fn text_front(bytes: &[u8]) -> Option<(&[u8], &[u8])>
+    ensures { MatchOption result (sized bytes.now ≡ None) (λ t. sized bytes.now ≡ Some (t.0.now, t.1.now)) }
+{
+    let (size, rest) = number_front(bytes)?;
+    let size = size as usize;
+    if size <= rest.len() {
+        Some((&rest[..size], &rest[size..]))
+    } else {
+        None
+    }
+}
+
+/// The entries up to the first gate that is closed or missing; none where one is cut short.
+fn read_entries(alloc: Global, bytes: &[u8]) -> Result<Option<Entries>, NoMemory>
+    ensures { IfOk result (λ found. MatchOption found (entries_of bytes.now ≡ None) (HasEntries bytes.now)) }
+{
+    let mut texts = Texts::empty(alloc);
+    let mut gate = 0;
+    while gate < bytes.len() && bytes[gate] == 1 {
+        match text_front(&bytes[gate + 1..]) {
+            Some((entry, _)) => {
+                texts.push(Text::from_slice(alloc, entry)?)?;
+                gate += 5 + entry.len();
+            }
+            None => return Ok(None),
+        }
+    }
+    Ok(Some(Entries { texts, gate }))
+}
+
+/// What the bytes of a disk hold.
+///
+/// # Errors
+/// `NoMemory` where room for the base or an entry is refused.
+pub(crate) fn read_disk(alloc: Global, bytes: &[u8]) -> Result<Reading, NoMemory>
+    ensures { IfOk result (Reads bytes.now) }
+{
+    match bytes {
+        [1, rest @ ..] => read_open(alloc, rest),
+        _ => Ok(Reading::Shut),
+    }
+}
+
+/// What the bytes after an open first gate hold.
+fn read_open(alloc: Global, bytes: &[u8]) -> Result<Reading, NoMemory>
+    ensures { IfOk result (Reads (1 ∷ bytes.now)) }
+{
+    let Some(rest) = bytes.strip_prefix(&LAYOUT) else {
+        return Ok(Reading::Broken);
+    };
+    let Some((generation, rest)) = number_front(rest) else {
+        return Ok(Reading::Broken);
+    };
+    let Some((base, rest)) = text_front(rest) else {
+        return Ok(Reading::Broken);
+    };
+    let Some(found) = read_entries(alloc, rest)? else {
+        return Ok(Reading::Broken);
+    };
+    let base = Text::from_slice(alloc, base)?;
+    let gate = START + base.len() + found.gate;
+    Ok(Reading::Open(Found {
+        generation,
+        base,
+        entries: found.texts,
+        gate,
+    }))
+}

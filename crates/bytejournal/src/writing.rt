@@ -1,0 +1,77 @@
+// How a journal puts a text on a disk: it makes all room first.
+ghost use Rattle.std.specs.Prelude.{◌≡◌, ◌<◌, ◌≤◌, ◌+◌, ◌^◌, Ok, Err, OnOk, IfSome, MatchResult, length};
+ghost use Rattle.bytetext.specs.declared.failure.Failure.TheVariants.{Refused};
+ghost use Rattle.bytejournal.specs.declared.fault.JournalFault.TheVariants.{DiskFault as disk_fault};
+ghost use Rattle.storage.specs.State.{IsSettled, LeavesOnly};
+ghost use Rattle.bytejournal.specs.Gates.{with_gate, closed_first, IsHalfWritten, IsHalfReplaced};
+ghost use Rattle.bytejournal.specs.Writing.{Puts};
+
+use crate::fault::{JournalError, JournalFault};
+use crate::gate::{close_first_gate, write_after_gate};
+use bytetext::Failure;
+use storage::{Disk, DiskFault};
+
+/// Puts a text after the closed gate at an offset, and opens the gate.
+pub(crate) fn put_after_gate<D: Disk>(
+    disk: &mut D,
+    gate: usize,
+    text: &[u8],
+) -> Result<(), JournalError>
+    requires settled { IsSettled (D.state disk.old) }
+    requires inside { gate < length (D.state disk.old).seen }
+    ensures puts { Puts (D.state disk.old) (with_gate (D.state disk.old).seen gate text.now 1) result (D.state disk.new) }
+    ensures fits { OnOk result (gate + 1 + length text.now < 2 ^ 64) }
+    ensures any_moment { LeavesOnly (D.state disk.old) (D.state disk.new) (IsHalfWritten (D.state disk.old).seen gate text.now) }
+{
+    let Some(end) = end_after(gate, text) else {
+        return Err(Failure::NoMemory);
+    };
+    match disk.reserve(end, 4) {
+        Ok(()) => {}
+        Err(_) => return Err(Failure::NoMemory),
+    }
+    as_answer(write_after_gate(disk, gate, text))
+}
+
+/// Puts a text after the gate at the disk's start, and opens the gate. Where it stands open it is closed first: a byte
+/// that is being rewritten may come back as 1, so nothing is written after it before it is kept closed, and where it
+/// stands closed it isn't written again.
+pub(crate) fn replace<D: Disk>(disk: &mut D, is_open: bool, text: &[u8]) -> Result<(), JournalError>
+    requires settled { IsSettled (D.state disk.old) }
+    requires inside { 0 < length (D.state disk.old).seen }
+    ensures puts { Puts (D.state disk.old) (with_gate (closed_first is_open (D.state disk.old).seen) 0 text.now 1) result (D.state disk.new) }
+    ensures any_moment { LeavesOnly (D.state disk.old) (D.state disk.new) (IsHalfReplaced is_open (D.state disk.old).seen text.now) }
+{
+    let Some(end) = end_after(0, text) else {
+        return Err(Failure::NoMemory);
+    };
+    match disk.reserve(end, 6) {
+        Ok(()) => {}
+        Err(_) => return Err(Failure::NoMemory),
+    }
+    if is_open {
+        match close_first_gate(disk) {
+            Ok(()) => {}
+            Err(_) => return Err(Failure::Refused(JournalFault::DiskFault)),
+        }
+        return as_answer(write_after_gate(disk, 0, text));
+    }
+    as_answer(write_after_gate(disk, 0, text))
+}
+
+/// A disk's answer as a journal's.
+fn as_answer(written: Result<(), DiskFault>) -> Result<(), JournalError>
+    ensures { MatchResult written (λ _. result ≡ Ok tt) (λ _. result ≡ Err (Refused disk_fault)) }
+{
+    match written {
+        Ok(()) => Ok(()),
+        Err(_) => Err(Failure::Refused(JournalFault::DiskFault)),
+    }
+}
+
+/// Where a text ends that is written after a gate; none where no memory has as many bytes.
+pub(crate) fn end_after(gate: usize, text: &[u8]) -> Option<usize>
+    ensures { IfSome result (λ end. end ≡ gate + 1 + length text.now) }
+{
+    gate.checked_add(1)?.checked_add(text.len())
+}

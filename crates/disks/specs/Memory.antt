@@ -1,0 +1,40 @@
+-- A disk in memory, as contracts see it.
+use Rattle.std.specs.Prelude.{◌≡◌, ◌≤◌, ◌^◌, ℕ, List, length, take}
+use Rattle.storage.specs.State.{State, Rose}
+use Rattle.storage.specs.Events.{Event, Images, LeftSince}
+
+-- what happened to it, what a read gives, how often it failed, and up to where it has room
+pub record Memory : Type 0 where
+  pub events : List Event
+  pub content : List ℕ
+  pub failures : ℕ
+  pub room : ℕ
+
+-- its state as a disk: calls need no room of their own
+abbrev pub state_of : Memory → State
+state_of disk = record {
+  seen = disk.content;
+  may_leave = Images disk.events disk.content;
+  moment = length disk.events;
+  left_since = LeftSince disk.events disk.content;
+  failed = disk.failures;
+  calls = 2 ^ 64;
+  end = disk.room;
+}
+
+-- the image that a crash will leave, and the room for it
+pub record IsKept (events : List Event) (content torn : List ℕ) (same content_room torn_room : ℕ) : Type 0 where
+  pub image : Images events content torn
+  pub content_same : same ≤ length content
+  pub torn_same : same ≤ length torn
+  pub front : take same torn ≡ take same content
+  pub content_fits : length torn ≤ content_room
+  pub torn_fits : length content ≤ torn_room
+
+-- a fault more, and nothing else
+pub record Fails (old new : Memory) : Type 0 where
+  pub events : new.events ≡ old.events
+  pub content : new.content ≡ old.content
+  pub room : new.room ≡ old.room
+  pub rose : Rose old.failures new.failures
+  pub no_fewer : old.failures ≤ new.failures

@@ -1,0 +1,179 @@
+// A disk in memory, whose faults and crashes can be planned.
+ghost use Rattle.std.specs.Prelude.{◌≡◌, ◌<◌, [], IfOk};
+ghost use Rattle.disks.specs.Memory.{state_of, Fails};
+ghost use Rattle.disks.specs.Laws.{seen_is_left_of, counts_now_of, only_now_of};
+
+use crate::bytes::{copy_rest, make_room, put, read_from};
+use crate::countdown::{is_due, is_over};
+use crate::tear::{Tear, tear_range};
+use bytetext::NoMemory;
+use std::alloc::Global;
+use std::marker::Model;
+use std::mem;
+use storage::{Disk, DiskFault, History};
+
+/// A disk in memory. It fails where that is planned, and a crash leaves what is planned of the writes that weren't kept.
+#[derive(Drop)]
+pub struct MemDisk {
+    /// What a read gives.
+    content: Vec<u8>,
+    /// What a crash leaves.
+    torn: Vec<u8>,
+    /// As many first bytes are the same in both.
+    same: usize,
+    tear: Tear,
+    /// How many more writes and syncs work, where a fault is planned.
+    works: Option<u64>,
+    /// How many more reads work, where a fault of one is planned.
+    reads: Option<u64>,
+    failures: u64,
+    history: History,
+}
+
+impl Model for MemDisk {
+    ghost use Rattle.std.specs.Prelude.{min};
+    ghost use Rattle.std.specs.Vec.{vec_capacity};
+    ghost use Rattle.disks.specs.Memory.{Memory, IsKept};
+
+    ghost Value = { Memory };
+
+    ghost view = { λ d. record { events = d.history.events; content = d.content.items; failures = d.failures; room = min (vec_capacity d.content) (vec_capacity d.torn) } };
+
+    ghost invariant = { λ d. IsKept d.history.events d.content.items d.torn.items d.same (vec_capacity d.content) (vec_capacity d.torn) };
+}
+
+impl MemDisk {
+    /// An empty disk, which grows on this allocator. Takes no memory.
+    pub fn new(alloc: Global) -> MemDisk
+        ensures { result ≡ record { events = []; content = []; failures = 0; room = 0 } }
+    {
+        MemDisk {
+            content: Vec::new(alloc),
+            torn: Vec::new(alloc),
+            same: 0,
+            tear: Tear::Old,
+            works: None,
+            reads: None,
+            failures: 0,
+            history: History::new(),
+        }
+    }
+
+    /// A disk that holds these bytes, with nothing pending.
+    ///
+    /// # Errors
+    /// `NoMemory` where room for a copy is refused.
+    pub fn holding(alloc: Global, content: Vec<u8>) -> Result<MemDisk, NoMemory>
+        ensures events { IfOk result (λ disk. disk.events ≡ []) }
+        ensures content { IfOk result (λ disk. disk.content ≡ content.items) }
+    {
+        let torn = Vec::from_slice(alloc, &content)?;
+        let same = content.len();
+        Ok(MemDisk {
+            content,
+            torn,
+            same,
+            tear: Tear::Old,
+            works: None,
+            reads: None,
+            failures: 0,
+            history: History::new(),
+        })
+    }
+
+    /// Lets a crash leave all that was written.
+    pub(crate) fn keep_writes(&mut self)
+        ensures { self.new ≡ self.old }
+    {
+        self.tear = Tear::New;
+    }
+
+    /// Plans a crash: of the writes and syncs from now on the stated one (from 1) and all later ones fail, until
+    /// `reopen`; that then leaves `tear` in the ranges that were written and not kept, a failed write's among them.
+    /// Call it with nothing pending.
+    pub fn plan(&mut self, fail_at: u64, tear: Tear)
+        requires { 0 < fail_at }
+        ensures { self.new ≡ self.old }
+    {
+        self.works = Some(fail_at - 1);
+        self.tear = tear;
+    }
+
+    /// Plans that the stated read (from 1) from now on fails, once, whatever `reopen` does between.
+    pub fn plan_read(&mut self, fail_at: u64)
+        requires { 0 < fail_at }
+        ensures { self.new ≡ self.old }
+    {
+        self.reads = Some(fail_at - 1);
+    }
+
+    /// Notes a fault.
+    pub(crate) fn fail(&mut self)
+        ensures { Fails self.old self.new }
+    {
+        self.failures = self.failures.saturating_add(1);
+    }
+}
+
+impl Disk for MemDisk {
+    ghost state = { state_of };
+
+    ghost seen_is_left = { seen_is_left_of };
+
+    ghost counts_now = { counts_now_of };
+
+    ghost only_now = { only_now_of };
+
+    fn len(&self) -> usize {
+        self.content.len()
+    }
+
+    fn failures(&self) -> u64 {
+        self.failures
+    }
+
+    fn read(&mut self, at: usize, buf: &mut [u8]) -> Result<usize, DiskFault> {
+        if is_due(&mut self.reads) {
+            self.failures = self.failures.saturating_add(1);
+            return Err(DiskFault);
+        }
+        Ok(read_from(&self.content, at, buf))
+    }
+
+    fn reserve(&mut self, end: usize, _calls: usize) -> Result<(), NoMemory> {
+        make_room(&mut self.content, end)?;
+        make_room(&mut self.torn, end)
+    }
+
+    fn write_at(&mut self, at: usize, bytes: &[u8]) -> Result<(), DiskFault> {
+        self.history
+            .note(&[1, at as u64, bytes.len() as u64], &self.content);
+        tear_range(&mut self.torn, self.tear, at, bytes);
+        self.same = self.same.min(at);
+        if is_over(&mut self.works) {
+            self.failures = self.failures.saturating_add(1);
+            return Err(DiskFault);
+        }
+        put(&mut self.content, at, bytes);
+        Ok(())
+    }
+
+    fn sync(&mut self) -> Result<(), DiskFault> {
+        if is_over(&mut self.works) {
+            self.failures = self.failures.saturating_add(1);
+            return Err(DiskFault);
+        }
+        self.history.note(&[0, 0, 0], &self.content);
+        copy_rest(&mut self.torn, &self.content, self.same);
+        self.same = self.content.len();
+        Ok(())
+    }
+
+    fn reopen(&mut self) {
+        self.history.note(&[0, 0, 0], &self.content);
+        mem::swap(&mut self.content, &mut self.torn);
+        copy_rest(&mut self.torn, &self.content, self.same);
+        self.same = self.content.len();
+        self.works = None;
+    }
+}

@@ -1,0 +1,36 @@
+// What a planned crash leaves of a write that wasn't kept.
+ghost use Rattle.std.specs.Prelude.{◌≡◌, ◌≤◌, ◌+◌, length, vec_len};
+ghost use Rattle.std.specs.Vec.{vec_capacity};
+ghost use Rattle.storage.specs.Calls.{Torn};
+
+use crate::bytes::{fill, put};
+
+/// What a crash leaves in the ranges that were written and not kept.
+#[derive(Clone, Copy, Debug, PartialEq, Eq)]
+pub enum Tear {
+    /// What was there before: none of the writes counts.
+    Old,
+    /// What was written.
+    New,
+    /// This byte all over.
+    Fill(u8),
+}
+
+/// Makes an image what a crash leaves of it after a write.
+pub(crate) fn tear_range(image: &mut Vec<u8>, tear: Tear, at: usize, text: &[u8])
+    requires { at + length text.now ≤ vec_capacity image.old }
+    ensures torn { Torn at (length text.now) image.old.items image.new.items }
+    ensures capacity { vec_capacity image.new ≡ vec_capacity image.old }
+{
+    if at > image.len() {
+        return;
+    }
+    match tear {
+        Tear::Old => {}
+        Tear::New => put(image, at, text),
+        Tear::Fill(byte) => {
+            put(image, at, text);
+            fill(image, at, text.len(), byte);
+        }
+    }
+}

@@ -1,0 +1,25 @@
+-- What a history of writes and syncs says of what a crash may leave.
+use Rattle.std.specs.Prelude.{◌≡◌, ◌⊎◌, ◌==◌, Bool, IsTrue, ℕ, ◌≤◌, List, [], ◌∷◌, length, slice_index}
+use Rattle.storage.specs.Calls.{Torn}
+
+-- A write or a sync: whether it is a write, where, how long, and the bytes seen before it.
+pub record Event : Type 0 where
+  pub is_write : Bool
+  pub at : ℕ
+  pub len : ℕ
+  pub seen : List ℕ
+
+-- the event that three numbers and the bytes before it stand for
+abbrev pub event_of : List ℕ → List ℕ → Event
+event_of numbers before = record { is_write = slice_index numbers 0 == 1; at = slice_index numbers 1; len = slice_index numbers 2; seen = before }
+
+-- What a crash may leave after these events, the newest first, where a read gives `seen`: that, or since the last sync
+-- an image from before a write, with the written range torn.
+abbrev pub Images : List Event → List ℕ → List ℕ → Type 0
+Images [] seen image = image ≡ seen
+Images (event ∷ past) seen image = (image ≡ seen) ⊎ (IsTrue event.is_write × ((earlier : List ℕ) × Images past event.seen earlier × Torn event.at event.len earlier image))
+
+-- What a crash at some moment since t might have left. A moment is the number of events before it.
+abbrev pub LeftSince : List Event → List ℕ → ℕ → List ℕ → Type 0
+LeftSince [] seen t image = image ≡ seen
+LeftSince (event ∷ past) seen t image = Images (event ∷ past) seen image ⊎ ((t ≤ length past) × LeftSince past event.seen t image)

@@ -1,0 +1,92 @@
+// A disk as a journal uses it.
+ghost use Rattle.std.specs.Prelude.{◌≡◌, ◌<◌, ◌≤◌, ◌+◌, ◌++◌, List, ℕ, length, take, drop, IfOk, OnOk};
+ghost use Rattle.storage.specs.State.{State, IsSettled};
+ghost use Rattle.storage.specs.Calls.{Holds, Tears, NoMoreLeft, Elapses, HasCause, Spends, SameBytes, read_count};
+
+use bytetext::NoMemory;
+use thiserror::Error;
+
+/// A disk refused a read, a write or a sync. What it holds is what a crash may leave.
+#[derive(Clone, Copy, Debug, PartialEq, Eq, Error)]
+#[error("the disk failed: open its journal again, or replace it")]
+pub struct DiskFault;
+
+/// A disk of bytes.
+///
+/// `read`, `write_at` and `sync` refuse with a fault of the disk alone, `reserve` for want of memory alone, and the
+/// other calls never.
+pub trait Disk: Drop {
+    /// What a read gives, what a crash may leave, and how often the disk has failed.
+    ghost state: { Self → State };
+
+    /// How many bytes there are.
+    fn len(&self) -> usize
+        ensures { result ≡ length (state self.now).seen };
+
+    /// How often the disk has failed. At its last value the number stays.
+    fn failures(&self) -> u64
+        ensures { result ≡ (state self.now).failed };
+
+    /// Reads from an offset on, and answers how many bytes were read: as many as `buf` takes, or up to the disk's end.
+    ///
+    /// # Errors
+    /// Where the disk fails. Its bytes are as they were.
+    fn read(&mut self, at: usize, buf: &mut [u8]) -> Result<usize, DiskFault>
+        ensures count { IfOk result (λ n. n ≡ read_count (state self.old).seen at (length buf.old)) }
+        ensures bytes { IfOk result (λ n. buf.new ≡ take n (drop at (state self.old).seen) ++ drop n buf.old) }
+        ensures same { SameBytes (state self.old) (state self.new) }
+        ensures room { Spends 0 (state self.old) (state self.new) }
+        ensures cause { HasCause (state self.old) (state self.new) result };
+
+    /// Makes room, so that the next `calls` writes and syncs, up to the offset `end`, take no memory.
+    ///
+    /// # Errors
+    /// Where the room is refused. The disk is then as it was.
+    fn reserve(&mut self, end: usize, calls: usize) -> Result<(), NoMemory>
+        ensures calls { OnOk result (calls ≤ (state self.new).calls) }
+        ensures end { OnOk result (end ≤ (state self.new).end) }
+        ensures same { SameBytes (state self.old) (state self.new) }
+        ensures room { Spends 0 (state self.old) (state self.new) }
+        ensures never_fails { (state self.new).failed ≡ (state self.old).failed };
+
+    /// Writes over what is there, and past the end. Until a sync, a crash may leave any bytes in the range.
+    ///
+    /// # Errors
+    /// Where the disk fails. The range may then hold any bytes.
+    fn write_at(&mut self, at: usize, bytes: &[u8]) -> Result<(), DiskFault>
+        requires inside { at ≤ length (state self.old).seen }
+        requires room { at + length bytes.now ≤ (state self.old).end }
+        requires call { 0 < (state self.old).calls }
+        ensures written { OnOk result (Holds (state self.old).seen at bytes.now (state self.new).seen) }
+        ensures tears { Tears at (length bytes.now) (state self.old) (state self.new) }
+        ensures time { Elapses (state self.old) (state self.new) }
+        ensures room { Spends 1 (state self.old) (state self.new) }
+        ensures cause { HasCause (state self.old) (state self.new) result };
+
+    /// Waits until what was written is kept: after it, a crash leaves what a read gives.
+    ///
+    /// # Errors
+    /// Where the disk fails. What was pending stays pending.
+    fn sync(&mut self) -> Result<(), DiskFault>
+        requires { 0 < (state self.old).calls }
+        ensures settled { OnOk result (IsSettled (state self.new)) }
+        ensures same { SameBytes (state self.old) (state self.new) }
+        ensures room { Spends 1 (state self.old) (state self.new) }
+        ensures cause { HasCause (state self.old) (state self.new) result };
+
+    /// Crashes the disk and starts it anew: it holds what the crash left, and nothing is pending.
+    fn reopen(&mut self)
+        ensures left { (state self.old).may_leave (state self.new).seen }
+        ensures settled { IsSettled (state self.new) }
+        ensures time { Elapses (state self.old) (state self.new) }
+        ensures never_fails { (state self.new).failed ≡ (state self.old).failed };
+
+    /// What a read gives is one of the images that a crash may leave.
+    ghost seen_is_left: { (disk : Self) → (state disk).may_leave (state disk).seen };
+
+    /// This moment is one of those since an earlier one.
+    ghost counts_now: { (disk : Self) (t : ℕ) (image : List ℕ) → t ≤ (state disk).moment → (state disk).may_leave image → (state disk).left_since t image };
+
+    /// Since this moment there is no other.
+    ghost only_now: { (disk : Self) (image : List ℕ) → (state disk).left_since (state disk).moment image → (state disk).may_leave image };
+}
