@@ -1,5 +1,5 @@
 -- How the lists of a world grow by one.
-use Rattle.std.proofs.Common.{◌≡◌, ℕ, ◌+◌, ◌-◌, ◌<◌, suc, List, [], ◌∷◌, ◌++◌, refl, ap, sym, ◌∙◌, arith, append_assoc}
+use Rattle.std.proofs.Common.{◌≡◌, ℕ, ◌+◌, ◌-◌, ◌<◌, suc, List, [], ◌∷◌, ◌++◌, ap, sym, ◌∙◌, arith, append_assoc}
 use Rattle.std.proofs.lemmas.List.{append-nil}
 use Rattle.sharelink.specs.LeafRules.{Leaf, new_leaf}
 use Rattle.sharelink.specs.declared.answer.Outgoing.{Outgoing}

@@ -1,12 +1,12 @@
 -- What more accepted changes make of records, and what they leave.
-use Rattle.std.proofs.Common.{◌≡◌, ◌⊎◌, inl, inr, ℕ, zero, suc, ◌+◌, ◌-◌, ◌<◌, ◌≤◌, List, [], ◌∷◌, ◌++◌, length, take, drop, slice_get, slice_set, get_or}
-use Rattle.std.proofs.Common.{Option, None, Some, refl, ap, sym, subst, ◌∙◌, arith, append_assoc, length-append}
+use Rattle.std.proofs.Common.{◌≡◌, ◌⊎◌, inl, inr, ℕ, zero, suc, ◌+◌, ◌≤◌, List, [], ◌∷◌, ◌++◌, length, take, slice_get, slice_set}
+use Rattle.std.proofs.Common.{Some, refl, ap, sym, ◌∙◌, arith, append_assoc}
 use Rattle.std.proofs.lemmas.List.{take-append-le, take_more, append-nil}
 use Rattle.std.proofs.lemmas.Option.{slice_get_within, get_or_from_slice_get}
 use Rattle.std.specs.Option.{option_map}
 use Rattle.userfile.specs.Records.{Records, no_records}
 use Rattle.userfile.specs.Apply.{changed}
-use Rattle.userfile.specs.Versions.{after_changes, records_at}
+use Rattle.userfile.specs.Versions.{after_changes}
 use Rattle.userfile.specs.declared.change.Change.{Change}
 use Rattle.sharelink.specs.LeafRules.{Leaf}
 use Rattle.sharelink.specs.declared.accepted.AcceptedChange.{AcceptedChange}

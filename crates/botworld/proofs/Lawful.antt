@@ -1,34 +1,31 @@
 -- What holds of each step of the network.
-use Rattle.std.proofs.Common.{◌≡◌, ℕ, zero, suc, ◌+◌, ◌-◌, ◌<◌, ◌==◌, nat_lt, nat_le, Bool, true, false, cond, if◌then◌else◌, List, [], ◌∷◌, ◌++◌, length}
+use Rattle.std.proofs.Common.{◌≡◌, ℕ, zero, suc, ◌+◌, ◌==◌, nat_lt, nat_le, Bool, true, false, if◌then◌else◌, List, [], ◌∷◌, ◌++◌, length}
 use Rattle.std.proofs.Common.{slice_get, slice_set, Option, None, Some, refl, ap, sym, subst, ◌∙◌, arith, eq-eqb}
 use Rattle.std.proofs.lemmas.Bool.Decides.{nat_tests}
 use Rattle.std.specs.Option.{option_map}
 use Rattle.userfile.specs.Apply.{refusal}
 use Rattle.userfile.specs.declared.change.Change.{Change}
-use Rattle.userfile.specs.declared.error.ChangeFault.{ChangeFault}
 use Rattle.sharelink.specs.Meets.{Row, noted, refused}
-use Rattle.sharelink.specs.HubRules.{Hub, own, acceptance, ask_served, hub_pumped_at, hub_pumped}
-use Rattle.sharelink.specs.LeafRules.{Leaf, with_next, next_applied, leaf_received}
+use Rattle.sharelink.specs.HubRules.{Hub, own, acceptance, ask_served, hub_pumped_at}
+use Rattle.sharelink.specs.LeafRules.{Leaf, with_next, leaf_received}
 use Rattle.sharelink.specs.declared.accepted.AcceptedChange.{AcceptedChange}
 use Rattle.sharelink.specs.declared.packet.Packet.TheVariants.{Change as change_packet}
 use Rattle.sharelink.specs.declared.answer.Note.TheVariants.{Accepted, Applied}
 use Rattle.sharelink.specs.declared.error.LinkFault.TheVariants.{NumbersSpent, Diverged}
 use Rattle.botworld.specs.declared.sent.Sent.{Sent}
 use Rattle.botworld.specs.declared.step.Step.{Step}
-use Rattle.botworld.specs.declared.step.Step.TheVariants.{At, Deliver}
-use Rattle.botworld.specs.declared.step.Event.TheVariants.{Pump}
 use Rattle.botworld.specs.declared.outcome.End.{End}
 use Rattle.botworld.specs.declared.outcome.End.TheVariants.{Note as ended, Refused as ended_refused, NoMemory as ended_no_memory}
 use Rattle.botworld.specs.declared.outcome.Report.{Report}
 use Rattle.botworld.specs.declared.outcome.Outcome.{Outcome}
 use Rattle.botworld.specs.declared.outcome.Outcome.TheVariants.{Report as reported, NoSuchBot, NoSuchPacket}
-use Rattle.botworld.specs.Net.{Net, Stepped, IsNote, Reports, ComesOf, hub_stepped, leaf_stepped, leaf_met, at_bot, packet_at, delivered, stepped}
+use Rattle.botworld.specs.Net.{Net, Stepped, IsNote, Reports, ComesOf, hub_stepped, leaf_stepped, packet_at, delivered, stepped}
 use Rattle.botworld.specs.Network.{State, net_of, records_of, leaves_at, IsDone, HasEnd, AppliesNext, AcceptsNext, NeverDiverged, GrowsByEnd, GrowsAtAccepted}
 use Rattle.botworld.specs.Network.{IsMadeEnd, IsMade, LawfulStep, NetworkStep, Follows}
 use Rattle.botworld.specs.Standing.{IsSound, Stands, IsTrueChange, IsNumbered}
 use Rattle.botworld.proofs.History.{leaves_at-get, leaf_of}
 use Rattle.botworld.proofs.Truth.{AllTrue-at}
-use Rattle.botworld.proofs.Simulate.{Sim, simulate, Follows-refl}
+use Rattle.botworld.proofs.Simulate.{simulate, Follows-refl}
 
 -- where a step is done, the outcome and the new net are what the step gives
 pub done_gives : (old : Net) (given : Stepped) (o : Outcome) (new : Net) → ComesOf old given o new → IsDone o → (given.outcome ≡ o) × (new ≡ given.after)

@@ -1,6 +1,5 @@
 -- Where memory holds out, a step is a function of the moment before it.
 use Rattle.std.proofs.Common.{◌≡◌, ℕ, zero, suc, List, [], ◌∷◌, slice_get, Option, None, Some, Result, Ok, Err, refl, sym, ap, subst, ◌∙◌}
-use Rattle.userfile.specs.Apply.{bad_shape}
 use Rattle.sharelink.specs.Meets.{Row}
 use Rattle.sharelink.specs.HubRules.{Hub}
 use Rattle.sharelink.specs.LeafRules.{Leaf}
@@ -11,7 +10,7 @@ use Rattle.botworld.specs.declared.step.Step.{Step}
 use Rattle.botworld.specs.declared.step.Step.TheVariants.{At, Deliver}
 use Rattle.botworld.specs.declared.step.Event.TheVariants.{Ask, Pump}
 use Rattle.botworld.specs.declared.outcome.Outcome.{Outcome}
-use Rattle.botworld.specs.Net.{Net, Stepped, answered, unmoved, leaf_met, at_bot, packet_at, delivered, stepped, outcomes_from, ComesOf, NetStep}
+use Rattle.botworld.specs.Net.{Net, answered, leaf_met, at_bot, packet_at, delivered, stepped, outcomes_from, ComesOf, NetStep}
 use Rattle.botworld.specs.Network.{State, net_of, IsMade, AllMade, LawfulStep, Run}
 use Rattle.botworld.specs.Standing.{IsSound, Stands, LeadsTo}
 use Rattle.botworld.proofs.Lawful.{Goes, goes, made_gives}

@@ -1,16 +1,15 @@
 -- A run goes on by one step.
-use Rattle.std.proofs.Common.{◌≡◌, ℕ, zero, suc, ◌+◌, ◌≤◌, List, [], ◌∷◌, ◌++◌, length, take, Option, None, Some, refl, ap, sym, subst, ◌∙◌, arith}
+use Rattle.std.proofs.Common.{◌≡◌, ℕ, zero, suc, ◌≤◌, List, [], ◌∷◌, ◌++◌, length, Some, refl, ap, sym, subst, ◌∙◌, arith}
 use Rattle.std.proofs.Common.{length-append}
-use Rattle.userfile.specs.Records.{Records}
 use Rattle.sharelink.specs.declared.accepted.AcceptedChange.{AcceptedChange}
 use Rattle.botworld.specs.declared.step.Step.{Step}
 use Rattle.botworld.specs.declared.outcome.Outcome.{Outcome}
 use Rattle.botworld.specs.Net.{Net, NetStep, ComesOf, stepped}
-use Rattle.botworld.specs.Network.{State, net_of, records_of, version_at, Run, LawfulStep, Follows}
+use Rattle.botworld.specs.Network.{State, records_of, version_at, Run, LawfulStep, Follows}
 use Rattle.botworld.specs.Standing.{Stands, LeadsTo, shown_version, shown_records}
 use Rattle.botworld.proofs.History.{Extends-trans, NoneBack-trans, NoneBack-at, AllAtMost-at, records_of-extended}
 use Rattle.botworld.proofs.Simulate.{Follows-refl}
-use Rattle.botworld.proofs.Lawful.{Goes, goes}
+use Rattle.botworld.proofs.Lawful.{goes}
 use Rattle.botworld.proofs.Shown.{shown_version-net_of, shown_at_version}
 
 pub Follows-trans : (a b c : State) → Follows a b → Follows b c → Follows a c

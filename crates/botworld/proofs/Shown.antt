@@ -1,8 +1,7 @@
 -- What a bot shows of a moment of the network.
-use Rattle.std.proofs.Common.{◌≡◌, ℕ, zero, suc, ◌+◌, List, Option, None, Some, slice_get, length, refl, ap, sym, ◌∙◌}
+use Rattle.std.proofs.Common.{◌≡◌, ℕ, zero, suc, ◌+◌, Option, None, Some, slice_get, length, refl, ap, sym, ◌∙◌}
 use Rattle.std.specs.Option.{option_map}
 use Rattle.sharelink.specs.LeafRules.{Leaf}
-use Rattle.userfile.specs.Records.{Records}
 use Rattle.botworld.specs.Network.{State, net_of, records_of, version_at}
 use Rattle.botworld.specs.Standing.{shown_version, shown_records}
 use Rattle.botworld.proofs.History.{leaves_at-get, leaf_of}

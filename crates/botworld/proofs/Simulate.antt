@@ -1,6 +1,6 @@
 -- Each step from a sound moment of the network leads to a sound moment.
-use Rattle.std.proofs.Common.{◌≡◌, ◌≢◌, ℕ, zero, suc, ◌+◌, ◌-◌, ◌<◌, ◌≤◌, ◌==◌, nat_lt, nat_le, nat_eq, Bool, true, false, cond, ◌||◌, if◌then◌else◌, List}
-use Rattle.std.proofs.Common.{[], ◌∷◌, ◌++◌, length, take, drop, slice_get, slice_set, get_or, Option, None, Some, Result, Ok, Err, refl, ap, sym, subst, ◌∙◌}
+use Rattle.std.proofs.Common.{◌≡◌, ◌≢◌, ℕ, zero, suc, ◌+◌, ◌≤◌, ◌==◌, nat_lt, nat_le, Bool, true, false, ◌||◌, if◌then◌else◌, List}
+use Rattle.std.proofs.Common.{[], ◌∷◌, ◌++◌, length, slice_get, slice_set, Option, None, Some, refl, ap, sym, subst, ◌∙◌}
 use Rattle.std.proofs.Common.{arith, length-append, ltb-false}
 use Rattle.std.proofs.lemmas.List.{append-nil}
 use Rattle.std.proofs.Math.ListN.{length-set}
@@ -12,10 +12,10 @@ use Rattle.userfile.specs.Apply.{bad_shape, refusal, changed}
 use Rattle.userfile.specs.declared.change.Change.{Change}
 use Rattle.userfile.specs.declared.error.ChangeFault.{ChangeFault}
 use Rattle.sharelink.specs.Meets.{Row, noted, refused}
-use Rattle.sharelink.specs.HubRules.{Hub, own, packet_of, to_leaves, served, acceptance, hello_served, ask_taken, hub_asked, ask_served, hub_pumped_at}
-use Rattle.sharelink.specs.HubRules.{hub_pumped, hub_received, is_no_leaf, version_of}
+use Rattle.sharelink.specs.HubRules.{Hub, own, packet_of, to_leaves, served, acceptance, hello_served, ask_taken, ask_served, hub_pumped_at}
+use Rattle.sharelink.specs.HubRules.{hub_received, is_no_leaf}
 use Rattle.sharelink.specs.declared.TheConstants.{MAX_ASKS}
-use Rattle.sharelink.specs.LeafRules.{Leaf, ask_fault, leaf_asked, leaf_pumped, with_next, next_applied, leaf_received}
+use Rattle.sharelink.specs.LeafRules.{Leaf, ask_fault, leaf_pumped, with_next, next_applied, leaf_received}
 use Rattle.sharelink.specs.declared.accepted.AcceptedChange.{AcceptedChange}
 use Rattle.sharelink.specs.declared.packet.Packet.{Packet}
 use Rattle.sharelink.specs.declared.packet.Packet.TheVariants.{Hello, Change as change_packet}
@@ -27,9 +27,9 @@ use Rattle.botworld.specs.declared.sent.Sent.{Sent}
 use Rattle.botworld.specs.declared.step.Step.{Step}
 use Rattle.botworld.specs.declared.step.Step.TheVariants.{At, Deliver}
 use Rattle.botworld.specs.declared.step.Event.TheVariants.{Ask, Pump}
-use Rattle.botworld.specs.Net.{Net, Stepped, unmoved, answered, hub_stepped, leaf_stepped, leaf_met, at_bot, packet_at, delivered, stepped, posted}
-use Rattle.botworld.specs.Network.{State, net_of, records_of, leaves_at, NoneBack, Extends, Follows, NeverDiverged, GrowsByNote, GrowsAtAccepted}
-use Rattle.botworld.specs.Standing.{IsSound, IsTrueChange, IsNumbered, AllTrue}
+use Rattle.botworld.specs.Net.{Net, Stepped, hub_stepped, leaf_stepped, leaf_met, at_bot, packet_at, delivered, stepped, posted}
+use Rattle.botworld.specs.Network.{State, net_of, records_of, leaves_at, Follows, NeverDiverged, GrowsByNote, GrowsAtAccepted}
+use Rattle.botworld.specs.Standing.{IsSound, IsTrueChange, IsNumbered}
 use Rattle.botworld.proofs.History.{slice_get-behind, Extends-refl, NoneBack-refl, NoneBack-set, AllAtMost-weaker, AllAtMost-set, records_of-extended}
 use Rattle.botworld.proofs.History.{records_of-next, leaves_at-extended, leaves_at-get, leaves_at-set, leaf_of}
 use Rattle.botworld.proofs.Truth.{AllTrue-extended, AllTrue-append, AllTrue-at, AllTrue-to_each, last_is_true, served_are_true, AllTaken-last}

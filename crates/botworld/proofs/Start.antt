@@ -1,9 +1,9 @@
 -- A new world stands for the network before its first step.
-use Rattle.std.proofs.Common.{◌≡◌, ℕ, zero, suc, ◌+◌, ◌≤◌, List, [], ◌∷◌, length, refl, ap, sym, ◌∙◌, arith}
+use Rattle.std.proofs.Common.{◌≡◌, ℕ, zero, suc, ◌+◌, List, [], ◌∷◌, length, refl, ap, arith}
 use Rattle.sharelink.specs.LeafRules.{Leaf, new_leaf}
-use Rattle.botworld.specs.Net.{Net, new_net, new_leaves}
-use Rattle.botworld.specs.Network.{State, start, zeros, net_of, leaves_at}
-use Rattle.botworld.specs.Standing.{Stands, IsSound, AllAtMost}
+use Rattle.botworld.specs.Net.{new_net, new_leaves}
+use Rattle.botworld.specs.Network.{start, zeros, leaves_at}
+use Rattle.botworld.specs.Standing.{Stands, AllAtMost}
 
 length-zeros : (n : ℕ) → length (zeros n) ≡ n
 length-zeros zero = refl

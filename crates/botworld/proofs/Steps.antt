@@ -1,6 +1,6 @@
 -- A leaf's call, and the packets that it sends, are a step of the net.
-use Rattle.std.proofs.Common.{◌≡◌, ℕ, zero, suc, ◌+◌, ◌-◌, ◌<◌, ◌≤◌, List, [], ◌∷◌, length, get_or, slice_get, slice_set, Option, None, Some, Result, Ok, Err}
-use Rattle.std.proofs.Common.{IsOk, refl, ap, sym, subst, ◌∙◌, arith}
+use Rattle.std.proofs.Common.{◌≡◌, ℕ, zero, suc, ◌+◌, ◌-◌, ◌<◌, List, length, get_or, slice_set, Some, Result, Ok, Err}
+use Rattle.std.proofs.Common.{refl, ap, subst, ◌∙◌, arith}
 use Rattle.std.proofs.lemmas.Option.{slice_get_read}
 use Rattle.std.proofs.lemmas.List.{set-get_or}
 use Rattle.sharelink.specs.Meets.{Row, Meets, AnswerTakesMemory, TakesMemory}
@@ -12,7 +12,7 @@ use Rattle.sharelink.specs.declared.error.LinkFault.{LinkFault}
 use Rattle.bytetext.specs.declared.failure.Failure.TheVariants.{Refused, NoMemory}
 use Rattle.botworld.specs.declared.sent.Sent.{Sent}
 use Rattle.botworld.specs.declared.outcome.Outcome.{Outcome}
-use Rattle.botworld.specs.Net.{Net, Stepped, leaf_stepped, at_bot, answered, ComesOf, packet_at}
+use Rattle.botworld.specs.Net.{Net, leaf_stepped, at_bot, ComesOf, packet_at}
 use Rattle.botworld.specs.Posting.{Finishes}
 
 -- an element written back where it stands changes nothing

@@ -1,7 +1,6 @@
 -- What a world is to a contract, and what one step makes of it.
 use Rattle.std.specs.Prelude.{◌≡◌, ℕ, zero, suc, ◌+◌, nat_le, if◌then◌else◌, List, [], ◌∷◌, ◌++◌, length, slice_get, slice_set, Option, None, Some, Result}
 use Rattle.std.specs.Prelude.{Ok, Err}
-use Rattle.userfile.specs.declared.change.Change.{Change}
 use Rattle.sharelink.specs.Meets.{Row, TakesMemory}
 use Rattle.sharelink.specs.HubRules.{Hub, new_hub, hub_asked, hub_pumped, hub_received}
 use Rattle.sharelink.specs.LeafRules.{Leaf, new_leaf, leaf_asked, leaf_pumped, leaf_received}
@@ -11,7 +10,6 @@ use Rattle.sharelink.specs.declared.error.LinkFault.{LinkFault}
 use Rattle.botworld.specs.declared.sent.Sent.{Sent}
 use Rattle.botworld.specs.declared.step.Step.{Step}
 use Rattle.botworld.specs.declared.step.Step.TheVariants.{At, Deliver}
-use Rattle.botworld.specs.declared.step.Event.{Event}
 use Rattle.botworld.specs.declared.step.Event.TheVariants.{Ask, Pump}
 use Rattle.botworld.specs.declared.outcome.End.{End}
 use Rattle.botworld.specs.declared.outcome.End.TheVariants.{Note as ended, Refused as ended_refused, NoMemory as ended_no_memory}

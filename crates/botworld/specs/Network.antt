@@ -1,17 +1,16 @@
 -- The network as plain history: which changes the hub accepted, what waits, which version each leaf is at, and what was
 -- sent. Records are not part of it: a bot's records are what its version makes of the accepted changes.
-use Rattle.std.specs.Prelude.{◌≡◌, ℕ, zero, suc, ◌+◌, ◌≤◌, List, [], ◌∷◌, ◌++◌, length, map, slice_get, Option, None, Some}
+use Rattle.std.specs.Prelude.{◌≡◌, ℕ, zero, suc, ◌+◌, ◌≤◌, List, [], ◌∷◌, ◌++◌, length, slice_get, Option, None, Some}
 use Rattle.userfile.specs.Records.{Records}
 use Rattle.userfile.specs.Apply.{refusal}
 use Rattle.userfile.specs.Versions.{records_at}
 use Rattle.userfile.specs.declared.change.Change.{Change}
-use Rattle.sharelink.specs.HubRules.{Hub, own}
+use Rattle.sharelink.specs.HubRules.{own}
 use Rattle.sharelink.specs.LeafRules.{Leaf}
 use Rattle.sharelink.specs.declared.accepted.AcceptedChange.{AcceptedChange}
 use Rattle.sharelink.specs.declared.answer.Note.{Note}
 use Rattle.sharelink.specs.declared.answer.Note.TheVariants.{Queued, Idle, Accepted, Refused, Served, Old, Early, Applied, Stray}
-use Rattle.sharelink.specs.declared.packet.Packet.{Packet}
-use Rattle.sharelink.specs.declared.packet.Packet.TheVariants.{Hello, Change as change_packet}
+use Rattle.sharelink.specs.declared.packet.Packet.TheVariants.{Change as change_packet}
 use Rattle.sharelink.specs.declared.error.LinkFault.TheVariants.{Diverged}
 use Rattle.botworld.specs.declared.sent.Sent.{Sent}
 use Rattle.botworld.specs.declared.step.Step.{Step}

@@ -5,7 +5,6 @@ use Rattle.bytetext.specs.declared.failure.Failure.{Failure}
 use Rattle.sharelink.specs.declared.error.LinkFault.{LinkFault}
 use Rattle.bytetext.specs.declared.failure.Failure.TheVariants.{Refused, NoMemory}
 use Rattle.botworld.specs.declared.sent.Sent.{Sent}
-use Rattle.botworld.specs.declared.outcome.End.{End}
 use Rattle.botworld.specs.declared.outcome.End.TheVariants.{Note as ended, Refused as ended_refused, NoMemory as ended_no_memory}
 use Rattle.botworld.specs.declared.outcome.Outcome.{Outcome}
 use Rattle.botworld.specs.declared.outcome.Outcome.TheVariants.{Report as reported}

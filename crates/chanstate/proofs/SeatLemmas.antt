@@ -1,12 +1,12 @@
 -- Seats and their index: what edits of both mean for those who sit there.
 use Rattle.std.proofs.Common.{◌≡◌, ◌≢◌, ◌⊎◌, inl, inr, ⊎_elim, ℕ, zero, suc, ◌+◌, ◌<◌, Bool, true, false, cond, ◌||◌, List, [], ◌∷◌, ◌++◌, length, get_or}
-use Rattle.std.proofs.Common.{set, take, map, filter, nat_eq, eqb, refl, sym, ap, subst, ◌∙◌, Option, None, Some, is_some, Result, Ok, Err, IsOk, OnOk}
-use Rattle.std.proofs.Common.{true≢false, if◌then◌else◌, arith, rules}
+use Rattle.std.proofs.Common.{set, take, map, nat_eq, eqb, refl, sym, ap, subst, ◌∙◌, Option, None, Some, is_some, Result, Ok, Err, IsOk, OnOk}
+use Rattle.std.proofs.Common.{true≢false, if◌then◌else◌, arith}
 use Rattle.std.specs.Prelude.{find}
 use Rattle.std.specs.List.{list_any, filter_map, cons_option, position}
 use Rattle.std.specs.Option.{option_to_list, option_copied}
 use Rattle.std.specs.Borrow.{Bor}
-use Rattle.std.specs.Map.{lookup, values_of, IsKeyTest, AreApart, KeepsOthers}
+use Rattle.std.specs.Map.{IsKeyTest, AreApart, KeepsOthers}
 use Rattle.std.specs.Cmp.Lexicographic.{pointwise}
 use Rattle.std.specs.declared.vec.Vec.{Vec}
 use Rattle.std.specs.declared.alloc.Global.{Global}

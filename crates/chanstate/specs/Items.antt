@@ -2,9 +2,9 @@
 -- a list of channels, of modes or of names gives an item for each, in its order.
 -- A line that lacks a needed parameter says nothing.
 use Rattle.std.specs.Option.{option_to_list}
-use Rattle.std.specs.Prelude.{ℕ, ◌-◌, unwrap_or, Bool, true, false, ◌||◌, ◌&&◌, not, ◌==◌, nat_eq, nat_le, List, [], ◌∷◌, ◌++◌, map, filter, drop, take}
-use Rattle.std.specs.Prelude.{length, if◌then◌else◌, codes, Option, Some, None, slice_get, slice_index}
-use Rattle.std.specs.List.{list_any, list_all, filter_map, slice_split, position_or_len}
+use Rattle.std.specs.Prelude.{ℕ, ◌-◌, unwrap_or, Bool, true, false, ◌||◌, ◌&&◌, not, ◌==◌, nat_eq, List, [], ◌∷◌, ◌++◌, map, filter, drop, take}
+use Rattle.std.specs.Prelude.{length, if◌then◌else◌, codes, Option, Some, None, slice_get}
+use Rattle.std.specs.List.{list_any, filter_map, slice_split, position_or_len}
 use Rattle.std.specs.Cmp.Lexicographic.{pointwise}
 use Rattle.ircline.specs.declared.message.Message.{Message}
 use Rattle.rfccase.specs.Channels.{is_channel_name}

@@ -1,6 +1,6 @@
 -- The hub's side of the link, call by call.
-use Rattle.std.specs.Prelude.{ℕ, zero, suc, ◌+◌, ◌-◌, ◌==◌, nat_lt, nat_le, Bool, ◌||◌, List, [], ◌∷◌, ◌++◌, length, take, drop, map, if◌then◌else◌, Option}
-use Rattle.std.specs.Prelude.{None, Some, Result, Ok, Err}
+use Rattle.std.specs.Prelude.{ℕ, zero, suc, ◌+◌, ◌==◌, nat_lt, Bool, ◌||◌, List, [], ◌∷◌, ◌++◌, length, take, drop, if◌then◌else◌, Option}
+use Rattle.std.specs.Prelude.{None, Some, Ok}
 use Rattle.userfile.specs.Records.{Records, no_records}
 use Rattle.userfile.specs.Apply.{bad_shape, refusal, changed}
 use Rattle.userfile.specs.declared.change.Change.{Change}

@@ -1,11 +1,10 @@
 -- Which claim decides, by its place among all.
 use Rattle.std.proofs.Common.{◌≡◌, ℕ, zero, suc, ◌<◌, ◌≤◌, ◌⊎◌, inl, inr, nat_le, Bool, true, false, cond, ◌&&◌, List, [], ◌∷◌, refl, sym, ap, subst, ◌∙◌}
-use Rattle.std.proofs.Common.{arith, Option, None, Some, slice_get, codes, true≢false}
-use Rattle.std.specs.List.{list_all}
+use Rattle.std.proofs.Common.{arith, None, Some, slice_get, true≢false}
 use Rattle.std.proofs.lemmas.Bool.{cases_lt}
 use Rattle.std.proofs.lemmas.Bool.Decides.{nat_tests}
 use Rattle.userfile.specs.declared.user.User.{User}
-use Rattle.userfile.specs.Persons.{Claim, claims, is_most, decider, user_for, handle_of, handle_or_star, IsDecider, IsHandleFor}
+use Rattle.userfile.specs.Persons.{Claim, claims, is_most, decider, handle_of, handle_or_star, IsDecider, IsHandleFor}
 
 and_true : (a b : Bool) → (a && b) ≡ true → (a ≡ true) × (b ≡ true)
 and_true true b e = (refl, e)
@@ -36,8 +35,11 @@ Decided cs = ((cs ≡ []) × (decider cs ≡ None)) ⊎ ((k : ℕ) × ((c : Clai
 decider-most : (cs : List Claim) (k : ℕ) (c : Claim) → IsDecider cs k c → (j : ℕ) (other : Claim) → slice_get cs j ≡ Some other
     → other.literals ≤ c.literals
 decider-most cs k c d j other at = elim
-    (cases_lt j k) [ inl below ↦ (let lt = d.before j other below at in omega arith) | inr above ↦ elim
-    (cases_lt k j) [ inl behind ↦ d.behind j other behind at | inr same ↦ here same above ] ]
+    (cases_lt j k) [
+      | inl below ↦ (let lt = d.before j other below at in omega arith)
+      | inr above ↦ elim
+          (cases_lt k j) [ inl behind ↦ d.behind j other behind at | inr same ↦ here same above ]
+    ]
   where
     here : j ≤ k → k ≤ j → other.literals ≤ c.literals
     here le ge =
@@ -63,8 +65,11 @@ decided (c ∷ cs) = by (is_most c.literals cs) refl (decided cs)
     later few k d is = record { here = is.here; before = λ j other lt at. before j other lt at; behind = λ j other lt at. behind j other lt at }
       where
         more : c.literals < d.literals
-        more = elim (cases_lt c.literals d.literals) [ inl lt ↦ lt | inr ge ↦ absurd
-            (true≢false (sym (is_most-all c.literals cs (λ j other at. omega (arith, decider-most cs k d is j other at))) ∙ few)) ]
+        more = elim (cases_lt c.literals d.literals) [
+          | inl lt ↦ lt
+          | inr ge ↦ absurd
+              (true≢false (sym (is_most-all c.literals cs (λ j other at. omega (arith, decider-most cs k d is j other at))) ∙ few))
+        ]
 
         before : (j : ℕ) (other : Claim) → j < suc k → slice_get (c ∷ cs) j ≡ Some other → other.literals < d.literals
         before zero other lt at =

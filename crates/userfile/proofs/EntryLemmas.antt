@@ -1,6 +1,6 @@
 -- What a map's look-ups and edits mean for the users in it.
-use Rattle.std.proofs.Common.{◌≡◌, ℕ, ◌+◌, ◌<◌, ◌≤◌, Bool, true, false, not, cond, List, [], ◌∷◌, ◌++◌, filter, find, length, nat_eq, refl, sym, ap, subst}
-use Rattle.std.proofs.Common.{◌∙◌, Option, None, Some, arith}
+use Rattle.std.proofs.Common.{◌≡◌, ℕ, ◌+◌, ◌<◌, ◌≤◌, Bool, true, false, cond, List, [], ◌∷◌, ◌++◌, filter, length, nat_eq, refl, sym, ap, subst}
+use Rattle.std.proofs.Common.{◌∙◌, None, Some, arith}
 use Rattle.std.specs.List.{position_from}
 use Rattle.std.specs.Map.{values_of, keys_of, lookup, set_value}
 use Rattle.std.specs.Cmp.Lexicographic.{pointwise}
@@ -10,7 +10,7 @@ use Rattle.std.specs.declared.alloc.Global.{Global}
 use Rattle.rfccase.specs.Casemapping.{folded, is_same}
 use Rattle.userfile.specs.declared.user.User.{User}
 use Rattle.userfile.specs.declared.limits.TheConstants.{MAX_HANDLE}
-use Rattle.userfile.specs.Held.{user_of, users_without, with_user}
+use Rattle.userfile.specs.Held.{user_of, with_user}
 use Rattle.userfile.specs.Keys.{IsKeyed}
 use Rattle.userfile.proofs.TextLemmas.{is_same-length}
 
@@ -94,12 +94,12 @@ pub values_of-set_value : (h lower : List ℕ) (es : List Entry) (v : User) (edi
 values_of-set_value h lower [] v edit same keyed found = refl
 values_of-set_value h lower (x ∷ xs) v edit same keyed found =
     by (has_key lower x.0) (pointwise nat_eq (folded h) (folded x.1.handle)) (rw (keyed.0, same) refl) found
-        (values_of-set_value h lower xs v edit same keyed.2)
+    (values_of-set_value h lower xs v edit same keyed.2)
   where
     by : (b t : Bool) → b ≡ t → cond b (Some x.1) (lookup (has_key lower) xs) ≡ Some v
         → (lookup (has_key lower) xs ≡ Some v → values_of (set_value (has_key lower) xs (edit v)) ≡ with_user h edit (values_of xs))
         → values_of (cond b ((x.0, edit v) ∷ xs) (x ∷ set_value (has_key lower) xs (edit v)))
-            ≡ cond t (edit x.1 ∷ values_of xs) (x.1 ∷ with_user h edit (values_of xs))
+        ≡ cond t (edit x.1 ∷ values_of xs) (x.1 ∷ with_user h edit (values_of xs))
     by true true e here rest = let user : x.1 ≡ v = cc in ap (λ u. edit u ∷ values_of xs) (sym user)
     by false false e later rest = ap (λ us. x.1 ∷ us) (rest later)
     by true false e f rest = cc
@@ -121,7 +121,7 @@ pub inserted_last : (h : List ℕ) (k : Vec ℕ Global) (u : User) (es : List En
 inserted_last h k u [] same keyed none = refl
 inserted_last h k u (x ∷ xs) same keyed none =
     by (pointwise nat_eq k.items x.0.items) (pointwise nat_eq (folded h) (folded x.1.handle)) (rw (same, keyed.0) refl) none
-        (inserted_last h k u xs same keyed.2)
+    (inserted_last h k u xs same keyed.2)
   where
     by : (b t : Bool) → b ≡ t → cond t (Some x.1) (user_of h (values_of xs)) ≡ None
         → (user_of h (values_of xs) ≡ None → insert_entry (λ a b. pointwise nat_eq a.items b.items) xs k u ≡ xs ++ (k, u) ∷ [])
@@ -140,7 +140,7 @@ keyed-position h lower (x ∷ xs) i same keyed =
   where
     by : (b t : Bool) → b ≡ t → position_from (has_key lower) (i + 1) (keys_of xs) ≡ position_from (λ (u : User). is_same h u.handle) (i + 1) (values_of xs)
         → cond b (Some i) (position_from (has_key lower) (i + 1) (keys_of xs))
-            ≡ cond t (Some i) (position_from (λ (u : User). is_same h u.handle) (i + 1) (values_of xs))
+        ≡ cond t (Some i) (position_from (λ (u : User). is_same h u.handle) (i + 1) (values_of xs))
     by true true e rest = refl
     by false false e rest = rest
     by true false e rest = cc
@@ -152,4 +152,4 @@ position-long h [] i long keyed = refl
 position-long h (x ∷ xs) i long keyed =
     let short : length x.1.handle ≤ MAX_HANDLE = keyed.1 in
     ap (λ b. cond b (Some i) (position_from (λ (u : User). is_same h u.handle) (i + 1) (values_of xs))) (is_same-length h x.1.handle (omega arith))
-        ∙ position-long h xs (i + 1) long keyed.2
+    ∙ position-long h xs (i + 1) long keyed.2

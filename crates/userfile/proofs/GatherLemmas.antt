@@ -1,6 +1,6 @@
 -- Users whose handles differ, put into a map one by one.
-use Rattle.std.proofs.Common.{◌≡◌, ℕ, ◌≤◌, Bool, true, false, cond, ◌||◌, ◌&&◌, List, [], ◌∷◌, ◌++◌, length, sym, ap, subst, ◌∙◌, refl, nat_eq}
-use Rattle.std.proofs.Common.{append_assoc, Option, None, Some}
+use Rattle.std.proofs.Common.{◌≡◌, ℕ, ◌≤◌, Bool, true, false, cond, List, [], ◌∷◌, ◌++◌, length, sym, ap, subst, ◌∙◌, refl, nat_eq}
+use Rattle.std.proofs.Common.{append_assoc, None, Some}
 use Rattle.std.specs.Map.{values_of}
 use Rattle.std.specs.Cmp.Lexicographic.{pointwise}
 use Rattle.indexmap.specs.IndexMap.{insert_entry}
@@ -31,7 +31,7 @@ pub fresh : (ys zs : List User) (x : User) → repeats_handle (ys ++ x ∷ zs) �
 fresh [] zs x apart = refl
 fresh (y ∷ ys) zs x apart =
     let differs : is_same x.handle y.handle ≡ false = is_same-sym x.handle y.handle
-        ∙ list_any-middle (λ (u : User). is_same y.handle u.handle) ys zs x (or_false apart).0 in
+    ∙ list_any-middle (λ (u : User). is_same y.handle u.handle) ys zs x (or_false apart).0 in
     ap (λ b. cond b (Some y) (user_of x.handle ys)) differs ∙ fresh ys zs x (or_false apart).1
 
 -- a good user's handle is short
@@ -43,10 +43,13 @@ short_handle ys zs x good = is_handle-length _ (and_true (and_true (list_all-mid
 pub one_more : (all ys zs : List User) (u : User) (es new : List Entry) (k : Vec ℕ Global) → list_all is_user all ≡ true → repeats_handle all ≡ false
     → all ≡ ys ++ u ∷ zs → IsKeyed es → values_of es ≡ ys
     → k.items ≡ folded u.handle → new ≡ insert_entry (λ a b. pointwise nat_eq a.items b.items) es k u
-        → IsKeyed new × (values_of new ≡ ys ++ u ∷ []) × (all ≡ (ys ++ u ∷ []) ++ zs)
+    → IsKeyed new × (values_of new ≡ ys ++ u ∷ []) × (all ≡ (ys ++ u ∷ []) ++ zs)
 one_more all ys zs u es new k good apart parts keyed made key inserted =
     let nobody = ap (user_of u.handle) made ∙ fresh ys zs u (ap repeats_handle (sym parts) ∙ apart) in
     let last = inserted ∙ inserted_last u.handle k u es key keyed nobody in
-    let short = short_handle ys zs u (ap (list_all is_user) (sym parts) ∙ good) in
-    (subst IsKeyed (sym last) (IsKeyed-append _ _ _ keyed key short), ap values_of last ∙ values_of-append es _ _ ∙ ap (λ vs. vs ++ u ∷ []) made, parts
-        ∙ sym (append_assoc ys (u ∷ []) zs))
+    let short = short_handle ys zs u (ap (list_all is_user) (sym parts) ∙ good) in (
+      subst IsKeyed (sym last) (IsKeyed-append _ _ _ keyed key short),
+      ap values_of last ∙ values_of-append es _ _ ∙ ap (λ vs. vs ++ u ∷ []) made,
+      parts
+          ∙ sym (append_assoc ys (u ∷ []) zs),
+    )

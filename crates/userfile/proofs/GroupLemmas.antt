@@ -1,6 +1,6 @@
 -- The places under a tail, after one is put in, and after a user's place is left out.
-use Rattle.std.proofs.Common.{◌≡◌, ◌≢◌, ℕ, zero, suc, ◌-◌, ◌<◌, ◌≤◌, ◌==◌, nat_eq, nat_lt, inl, inr, Bool, true, false, cond, not, ◌||◌, List, [], ◌∷◌}
-use Rattle.std.proofs.Common.{◌++◌, map, filter, length, refl, sym, ap, subst, ◌∙◌, arith, Option, None, Some, slice_index, slice_set, true≢false}
+use Rattle.std.proofs.Common.{◌≡◌, ℕ, zero, suc, ◌-◌, ◌<◌, ◌≤◌, ◌==◌, nat_eq, nat_lt, inl, inr, Bool, true, false, cond, not, ◌||◌, List, [], ◌∷◌}
+use Rattle.std.proofs.Common.{◌++◌, map, filter, length, refl, sym, ap, subst, ◌∙◌, arith, None, Some, slice_index, slice_set}
 use Rattle.std.specs.List.{list_any}
 use Rattle.std.specs.Map.{lookup, set_value}
 use Rattle.std.specs.Cmp.Lexicographic.{pointwise, bytes_decides}
@@ -77,7 +77,7 @@ places_at-set_value t tail (e ∷ es) v w found grew n h =
 
     by : (b : Bool) → cond b (Some e.1) (lookup (λ k. pointwise nat_eq tail k) es) ≡ Some v
         → (lookup (λ k. pointwise nat_eq tail k) es ≡ Some v → IsIn n (places_at t es)
-            → IsIn n (places_at t (set_value (λ k. pointwise nat_eq tail k) es w)))
+        → IsIn n (places_at t (set_value (λ k. pointwise nat_eq tail k) es w)))
         → IsIn n (places_at t (cond b ((e.0, w) ∷ es) (e ∷ set_value (λ k. pointwise nat_eq tail k) es w)))
     by true f rest = let same : e.1 ≡ v = cc in here same (pointwise nat_eq t e.0) h
     by false f rest = there (rest f) (pointwise nat_eq t e.0) h
@@ -179,7 +179,7 @@ moves_in place n (x ∷ xs) le h = by (x == place) refl h (moves_in place n xs l
 -- what `retain` leaves of all groups, where the closure leaves a place out of each and drops the empty ones
 module _ {F : Type 0} (T : F → List ℕ → Vec ℕ Global → Bool → Vec ℕ Global → F → Type 0) (place : ℕ) (f : F)
     (says : (k : List ℕ) (v : Vec ℕ Global) (b : Bool) (w : Vec ℕ Global) (g : F) → T f k v b w g
-        → ((b ≡ not (length w.items == 0)) × (w.items ≡ places_without place v.items)) × (g ≡ f)) where
+    → ((b ≡ not (length w.items == 0)) × (w.items ≡ places_without place v.items)) × (g ≡ f)) where
   pub left_in : (m n : ℕ) → ((xs : List ℕ) → IsIn m xs → IsIn n (places_without place xs)) → (t : List ℕ) (es kept : List Group)
       → RetainsPairs T f es kept → IsIn m (places_at t es) → IsIn n (places_at t kept)
   left_in m n moves t [] kept h i = absurd i

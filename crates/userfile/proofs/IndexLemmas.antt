@@ -1,13 +1,11 @@
 -- The index of hostmasks covers all users, before and after each change, and so a search through it finds who decides.
-use Rattle.std.proofs.Common.{◌≡◌, ℕ, zero, suc, ◌+◌, ◌-◌, ◌<◌, ◌≤◌, ◌==◌, nat_eq, nat_lt, ◌⊎◌, inl, inr, Bool, true, false, cond, not, ◌||◌, List, [], ◌∷◌}
-use Rattle.std.proofs.Common.{◌++◌, map, filter, length, refl, sym, ap, subst, ◌∙◌, arith, Option, None, Some, Result, Ok, Err, OnOk, OnErr, slice_get}
+use Rattle.std.proofs.Common.{◌≡◌, ℕ, zero, suc, ◌+◌, ◌<◌, ◌≤◌, ◌==◌, inl, inr, Bool, true, false, cond, not, ◌||◌, List, [], ◌∷◌}
+use Rattle.std.proofs.Common.{◌++◌, filter, length, refl, sym, ap, subst, ◌∙◌, arith, Option, None, Some, Result, Ok, Err, OnOk, OnErr, slice_get}
 use Rattle.std.proofs.Common.{get_or, take, add-one, true≢false}
 use Rattle.std.specs.List.{list_any, position_from}
 use Rattle.std.proofs.lemmas.Bool.{cases_lt}
 use Rattle.std.proofs.lemmas.List.{take_more}
-use Rattle.std.proofs.lemmas.Bool.Decides.{nat_tests}
-use Rattle.std.specs.Cmp.Lexicographic.{pointwise}
-use Rattle.rfccase.specs.Casemapping.{folded, is_same}
+use Rattle.rfccase.specs.Casemapping.{is_same}
 use Rattle.wildmask.specs.Tails.{end_key}
 use Rattle.userfile.specs.declared.user.User.{User}
 use Rattle.userfile.specs.declared.persons.Winner.{Winner}
@@ -25,7 +23,6 @@ use Rattle.userfile.specs.Index.{mask_tail, IsIn, places_at, IsUnder, EndsWithTa
 use Rattle.userfile.proofs.GroupLemmas.{IsIn-left, IsIn-right}
 use Rattle.userfile.proofs.RepeatLemmas.{or_false, or_both}
 use Rattle.userfile.proofs.SoundLemmas.{is_same-like}
-use Rattle.userfile.proofs.TextLemmas.{is_same-sym}
 use Rattle.userfile.proofs.SearchLemmas.{AreBeaten, UsersBeaten, place_beaten, claim-after_places, best-user_for}
 
 -- ---- what is asked for
@@ -33,8 +30,11 @@ use Rattle.userfile.proofs.SearchLemmas.{AreBeaten, UsersBeaten, place_beaten, c
 in_asked : (index : TailIndex) (who : List ℕ) (n k j : ℕ) → j < k → IsIn n (asked_at index who j) → IsIn n (asked index who k)
 in_asked index who n zero j lt h = absurd (omega (arith, lt))
 in_asked index who n (suc k) j lt h = elim
-    (cases_lt j k) [ inl below ↦ IsIn-left n (asked index who k) (asked_at index who k) (in_asked index who n k j below h) | inr above ↦ IsIn-right n
-    (asked index who k) (asked_at index who k) (last above) ]
+    (cases_lt j k) [
+      | inl below ↦ IsIn-left n (asked index who k) (asked_at index who k) (in_asked index who n k j below h)
+      | inr above ↦ IsIn-right n
+          (asked index who k) (asked_at index who k) (last above)
+    ]
   where
     last : k ≤ j → IsIn n (asked_at index who k)
     last above = let same : j ≡ k = omega (arith, lt, above) in subst (λ i. IsIn n (asked_at index who i)) same h
@@ -44,9 +44,9 @@ mask_asked : (index : TailIndex) (who : List ℕ) (n : ℕ) (m : List ℕ) → I
     → IsIn n (asked index who 17)
 mask_asked index who n m under ends hit =
     let here : IsIn n (places_at (end_key (length (mask_tail m)) who) index.groups.entries) = subst (λ t. IsIn n (places_at t index.groups.entries))
-        (ends.ends who hit) under.1 in
+    (ends.ends who hit) under.1 in
     in_asked index who n 17 (length (mask_tail m)) ends.short
-        (subst (λ k. IsIn n (cond (k == 0) [] (places_at (end_key (length (mask_tail m)) who) index.groups.entries))) (sym under.0) here)
+    (subst (λ k. IsIn n (cond (k == 0) [] (places_at (end_key (length (mask_tail m)) who) index.groups.entries))) (sym under.0) here)
 
 some_asked : (index : TailIndex) (who : List ℕ) (n : ℕ) (ms : List (List ℕ)) → AreUnder index n ms → list_any (λ m. is_match m who) ms ≡ true
     → IsIn n (asked index who 17)
@@ -125,7 +125,7 @@ module _ (index : TailIndex) (h : List ℕ) (edit : User → User) where
       by : (b : Bool) → ((p : ℕ) (u : User) → cond b (Some n) (position_from (λ (x : User). is_same h x.handle) (n + 1) us) ≡ Some p
           → AreUnder index p u.masks → AreUnder index p (edit u).masks)
           → (((p : ℕ) (u : User) → position_from (λ (x : User). is_same h x.handle) (suc n) us ≡ Some p → AreUnder index p u.masks
-              → AreUnder index p (edit u).masks) → Covers index (suc n) (with_user h edit us))
+          → AreUnder index p (edit u).masks) → Covers index (suc n) (with_user h edit us))
           → Covers index n (cond b (edit x ∷ us) (x ∷ with_user h edit us))
       by true f rest = (f n x refl covers.0, covers.1)
       by false f rest = (covers.0, rest (λ p u at under. f p u (ap (λ k. position_from (λ (x : User). is_same h x.handle) k us) (sym next) ∙ at) under))
@@ -141,7 +141,7 @@ Covers-without_mask : (index : TailIndex) (h m : List ℕ) (edit : User → User
     → (us : List User) (n : ℕ) → Covers index n us → Covers index n (with_user h edit us)
 Covers-without_mask index h m edit same us n covers =
     Covers-with_user index h edit us n
-        (λ p u at under. subst (AreUnder index p) (sym (same u)) (AreUnder-filter index p (λ x. not (is_same m x)) u.masks under)) covers
+    (λ p u at under. subst (AreUnder index p) (sym (same u)) (AreUnder-filter index p (λ x. not (is_same m x)) u.masks under)) covers
 
 -- an edit that adds no mask leaves the index as good as it was
 pub Covers-edited : (index : TailIndex) (h : List ℕ) (edit : Edit) → adds_mask edit ≡ false → (us : List User) → Covers index 0 us
@@ -222,7 +222,7 @@ module _ (old new : TailIndex) (place : ℕ) (up : MovesUp old new place) (stays
 
       by : (b : Bool) → is_same h x.handle ≡ b → cond b (Some n) (position_from (λ (x : User). is_same h x.handle) (n + 1) us) ≡ Some place
           → (position_from (λ (x : User). is_same h x.handle) (suc n) us ≡ Some place → Covers new (suc n) (users_without h us))
-              → Covers new n (cond (not b) (x ∷ users_without h us) (users_without h us))
+          → Covers new n (cond (not b) (x ∷ users_without h us) (users_without h us))
       by true e at rest =
           let here : n ≡ place = cc in
           let gone = users_without-absent h us (absent-like h x.handle us e (or_false apart).0) in
@@ -253,7 +253,7 @@ pub AreUnder-next : (old new : TailIndex) (n : ℕ) (ms : List (List ℕ)) (i : 
     → AreUnder new n (take (i + 1) ms)
 AreUnder-next old new n ms i m keeps lt at under ends so_far =
     subst (AreUnder new n) (sym (take_more ms i m lt ∙ ap (λ x. take i ms ++ x ∷ []) (sym at)))
-        (AreUnder-push new n (take i ms) m (AreUnder-keeps old new keeps n (take i ms) so_far) under ends)
+    (AreUnder-push new n (take i ms) m (AreUnder-keeps old new keeps n (take i ms) so_far) under ends)
 
 -- one more of the users that a loop goes through
 pub Covers-next : (old new : TailIndex) → Keeps old new → (us : List User) (n i : ℕ) (u : User) → slice_get us i ≡ Some u → AreUnder new (i + n) u.masks
@@ -264,9 +264,11 @@ Covers-next old new keeps (x ∷ us) n zero u at under so_far =
     let place : 0 + n ≡ n = omega arith in
     (subst (λ (v : User). AreUnder new n v.masks) (sym user) (subst (λ k. AreUnder new k u.masks) place under), tt)
 Covers-next old new keeps (x ∷ us) n (suc i) u at under so_far =
-    let place : suc i + n ≡ i + suc n = omega arith in
-    (AreUnder-keeps old new keeps n x.masks so_far.0, Covers-next old new keeps us (suc n) i u at
-        (subst (λ k. AreUnder new k u.masks) place under) so_far.1)
+    let place : suc i + n ≡ i + suc n = omega arith in (
+      AreUnder-keeps old new keeps n x.masks so_far.0,
+      Covers-next old new keeps us (suc n) i u at
+          (subst (λ k. AreUnder new k u.masks) place under) so_far.1,
+    )
 
 pub Covers-added : {E : Type 0} (result : Result (Unit {0}) E) (old new : TailIndex) → Keeps old new
     → (us : List User) (i : ℕ) (u : User) (ms : List (List ℕ)) → slice_get us i ≡ Some u → ms ≡ u.masks
@@ -278,7 +280,7 @@ Covers-added (Ok _) old new keeps us i u ms at same under so_far =
 
 pub Covers-add_host : {E : Type 0} (result : Result (Unit {0}) E) (index : TailIndex) (h m : List ℕ) (old new : List User) → EndsWithTail m
     → ((p : ℕ) → position_from (λ (x : User). is_same h x.handle) 0 old ≡ Some p → IsUnder index (mask_tail m) p)
-        → OnOk result (new ≡ with_user h (with_mask m) old) → OnErr result (new ≡ old)
+    → OnOk result (new ≡ with_user h (with_mask m) old) → OnErr result (new ≡ old)
     → Covers index 0 old → Covers index 0 new
 Covers-add_host (Ok _) index h m old new ends under ok err covers = subst (Covers index 0) (sym ok) (Covers-with_mask index h m old ends under covers)
 Covers-add_host (Err _) index h m old new ends under ok err covers = subst (Covers index 0) (sym err) covers

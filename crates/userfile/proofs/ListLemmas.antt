@@ -1,8 +1,7 @@
 -- Lists with one element in the place of another.
-use Rattle.std.proofs.Common.{◌≡◌, ℕ, ◌+◌, ◌<◌, zero, suc, length, Bool, true, false, cond, List, [], ◌∷◌, ◌++◌, refl, sym, ap, ◌∙◌, arith, Some, None}
-use Rattle.std.proofs.Common.{Option, set}
+use Rattle.std.proofs.Common.{◌≡◌, ℕ, ◌+◌, ◌<◌, suc, length, Bool, true, false, cond, List, [], ◌∷◌, ◌++◌, refl, sym, ap, ◌∙◌, arith, Some, None}
+use Rattle.std.proofs.Common.{set}
 use Rattle.std.specs.List.{position_from}
-use Rattle.std.specs.Map.{values_of}
 use Rattle.userfile.specs.declared.channel_flags.ChannelFlags.{ChannelFlags}
 use Rattle.userfile.specs.Held.{with_entry}
 use Rattle.rfccase.specs.Casemapping.{is_same}

@@ -1,6 +1,6 @@
 -- Lists in which nothing is there twice, and tests of each element, after one is added or some are taken out.
-use Rattle.std.proofs.Common.{◌≡◌, ℕ, suc, ◌≤◌, Bool, true, false, cond, ◌&&◌, ◌||◌, List, [], ◌∷◌, ◌++◌, length, filter, find, Option, Some, None, is_some}
-use Rattle.std.proofs.Common.{refl, sym, ◌∙◌, ap, arith}
+use Rattle.std.proofs.Common.{◌≡◌, suc, ◌≤◌, Bool, true, false, cond, ◌&&◌, ◌||◌, List, [], ◌∷◌, ◌++◌, length, filter, find, Some, is_some}
+use Rattle.std.proofs.Common.{refl, ◌∙◌, arith}
 use Rattle.std.specs.List.{list_any, list_all}
 use Rattle.userfile.specs.Together.{repeats}
 

@@ -1,7 +1,7 @@
 -- What a search through some users' masks leaves as the best claim, and that it decides.
 use Rattle.std.proofs.Common.{◌≡◌, ℕ, zero, suc, ◌+◌, ◌<◌, ◌≤◌, ◌==◌, nat_lt, nat_le, ◌⊎◌, inl, inr, Bool, true, false, cond, ◌&&◌, ◌||◌, List, [], ◌∷◌}
 use Rattle.std.proofs.Common.{◌++◌, map, filter, refl, sym, ap, subst, ◌∙◌, arith, Option, None, Some, slice_get, ltb-false, ltb-true, true≢false}
-use Rattle.std.specs.List.{list_any, list_all}
+use Rattle.std.specs.List.{list_any}
 use Rattle.std.proofs.lemmas.Bool.{cases_lt, eqb-true}
 use Rattle.std.proofs.lemmas.Bool.Decides.{Decides-eqb, nat_tests}
 use Rattle.userfile.specs.declared.user.User.{User}
@@ -90,9 +90,11 @@ AreBeaten who n (m ∷ ms) best = (is_match m who ≡ true → IsBeaten (literal
 
 all_beaten : (who : List ℕ) (n : ℕ) (ms : List (List ℕ)) (best : Option Winner) → AreBeaten who n ms (after_masks who n ms best)
 all_beaten who n [] best = tt
-all_beaten who n (m ∷ ms) best =
-    (λ hit. beaten-after_masks who n ms (literals m) n (after_mask who n m best) (beaten_at who n m best hit), all_beaten who n ms
-        (after_mask who n m best))
+all_beaten who n (m ∷ ms) best = (
+  λ hit. beaten-after_masks who n ms (literals m) n (after_mask who n m best) (beaten_at who n m best hit),
+  all_beaten who n ms
+      (after_mask who n m best),
+)
 
 still_beaten : (who : List ℕ) (n : ℕ) (ms : List (List ℕ)) (old new : Option Winner) → ((l p : ℕ) → IsBeaten l p old → IsBeaten l p new)
     → AreBeaten who n ms old → AreBeaten who n ms new
@@ -116,7 +118,7 @@ place_beaten who users [] n u best among at = absurd among
 place_beaten who users (x ∷ ps) n u best (inr later) at = place_beaten who users ps n u (after_user who x (slice_get users x) best) later at
 place_beaten who users (x ∷ ps) n u best (inl same) at =
     let here : AreBeaten who n u.masks (after_user who x (slice_get users x) best) = subst
-        (λ k. AreBeaten who n u.masks (after_user who k (slice_get users k) best)) (sym same) (rw at (all_beaten who n u.masks best)) in
+    (λ k. AreBeaten who n u.masks (after_user who k (slice_get users k) best)) (sym same) (rw at (all_beaten who n u.masks best)) in
     still_beaten who n u.masks _ _ (λ l p h. beaten-after_places who users ps l p (after_user who x (slice_get users x) best) h) here
 
 -- ---- where the best claim is from
@@ -140,7 +142,7 @@ head_claim who m ms hit = rw (hit, (Decides-eqb (literals m) (literals m)).1 ref
 -- after a user's masks it is the one before, or that of one of these
 from_masks : (who : List ℕ) (n : ℕ) (ms : List (List ℕ)) (best : Option Winner)
     → (after_masks who n ms best ≡ best)
-        ⊎ ((l : ℕ) × ((after_masks who n ms best ≡ Some (record { literals = l; place = n })) × (has_claim who l ms ≡ true)))
+    ⊎ ((l : ℕ) × ((after_masks who n ms best ≡ Some (record { literals = l; place = n })) × (has_claim who l ms ≡ true)))
 from_masks who n [] best = inl refl
 from_masks who n (m ∷ ms) best = by (is_match m who && is_better (literals m) n best) refl (λ b. from_masks who n ms b)
   where
@@ -150,14 +152,17 @@ from_masks who n (m ∷ ms) best = by (is_match m who && is_better (literals m) 
 
     by : (c : Bool) → (is_match m who && is_better (literals m) n best) ≡ c
         → ((b : Option Winner)
-            → (after_masks who n ms b ≡ b)
-            ⊎ ((l : ℕ) × ((after_masks who n ms b ≡ Some (record { literals = l; place = n })) × (has_claim who l ms ≡ true))))
+        → (after_masks who n ms b ≡ b)
+        ⊎ ((l : ℕ) × ((after_masks who n ms b ≡ Some (record { literals = l; place = n })) × (has_claim who l ms ≡ true))))
         → (after_masks who n ms (cond c (Some (record { literals = literals m; place = n })) best) ≡ best)
         ⊎ ((l : ℕ) × ((after_masks who n ms (cond c (Some (record { literals = literals m; place = n })) best)
-            ≡ Some (record { literals = l; place = n })) × (has_claim who l (m ∷ ms) ≡ true)))
+        ≡ Some (record { literals = l; place = n })) × (has_claim who l (m ∷ ms) ≡ true)))
     by true e rest = elim
-        (rest (Some (record { literals = literals m; place = n }))) [ inl same ↦ inr
-        (literals m, (same, head_claim who m ms (and_true e).0)) | inr r ↦ inr (later _ r) ]
+        (rest (Some (record { literals = literals m; place = n }))) [
+          | inl same ↦ inr
+              (literals m, (same, head_claim who m ms (and_true e).0))
+          | inr r ↦ inr (later _ r)
+        ]
     by false e rest = elim (rest best) [ inl same ↦ inl same | inr r ↦ inr (later _ r) ]
 
 claim-after_user : (who : List ℕ) (users : List User) (n : ℕ) (o : Option User) (best : Option Winner) → slice_get users n ≡ o → IsClaim who users best
@@ -240,7 +245,7 @@ unfolding decider
 later_decides l [] ds below has = refl
 later_decides l (c ∷ cs) ds below has =
     ap (λ b. cond b (Some c.user) (decider (cs ++ ds))) (not_most l c.literals (cs ++ ds) below.0 (has-append l cs ds has))
-        ∙ later_decides l cs ds below.1 has
+    ∙ later_decides l cs ds below.1 has
 
 -- ---- the claims of users
 
@@ -330,7 +335,7 @@ wins who best (x ∷ us) n zero u at place has h =
     ∙ ap (λ v. Some v) same
 wins who best (x ∷ us) n (suc i) u at place has h =
     later_decides best.literals (claims_of who x x.masks) (claims who us) (below_of who x n best x.masks (omega (arith, place)) h.0)
-        (claims_have who best.literals us i u at has)
+    (claims_have who best.literals us i u at has)
     ∙ wins who best us (suc n) i u at (omega (arith, place)) has h.1
 
 nobody : (who : List ℕ) (us : List User) (n : ℕ) → UsersBeaten who n us None → claims who us ≡ []

@@ -1,18 +1,18 @@
 -- A change that isn't refused leaves records that stand together and are of good shape.
-use Rattle.std.proofs.Common.{◌≡◌, ℕ, suc, ◌+◌, ◌<◌, ◌≤◌, ◌==◌, nat_eq, nat_lt, Bool, true, false, cond, not, ◌&&◌, ◌||◌, if◌then◌else◌, List, [], ◌∷◌}
-use Rattle.std.proofs.Common.{◌++◌, length, filter, find, Option, None, Some, is_some, Result, Ok, Err, OnOk, OnErr, refl, ap, sym, subst, ◌∙◌, arith}
+use Rattle.std.proofs.Common.{◌≡◌, ℕ, suc, ◌+◌, ◌≤◌, ◌==◌, nat_eq, nat_lt, Bool, true, false, cond, not, ◌&&◌, ◌||◌, List, [], ◌∷◌}
+use Rattle.std.proofs.Common.{◌++◌, length, filter, Option, None, Some, is_some, Result, Ok, Err, OnOk, OnErr, refl, ap, sym, subst, ◌∙◌, arith}
 use Rattle.std.proofs.Common.{ltb-false, ltb-true, le-ltb, length-append}
 use Rattle.std.specs.List.{list_any, list_all}
 use Rattle.std.specs.Cmp.Lexicographic.{pointwise}
 use Rattle.rfccase.specs.Casemapping.{folded, is_same}
 use Rattle.rfccase.specs.Channels.{is_channel_name}
 use Rattle.userfile.specs.Records.{Records}
-use Rattle.userfile.specs.Shapes.{is_handle, is_ban_channel, is_hostmask, is_comment}
-use Rattle.userfile.specs.Apply.{fault_if, fault_unless, first_of_two, bad_shape, of_user, add_mask_fault, del_mask_fault, set_channel_fault, not_taken}
+use Rattle.userfile.specs.Shapes.{is_handle, is_ban_channel, is_comment}
+use Rattle.userfile.specs.Apply.{fault_if, fault_unless, first_of_two, bad_shape, of_user, add_mask_fault, set_channel_fault, not_taken}
 use Rattle.userfile.specs.Apply.{refusal, new_user, with_mask, without_mask, with_global, set_channel, with_channel, with_bot, user_edited, new_ban}
 use Rattle.userfile.specs.Apply.{changed}
 use Rattle.userfile.specs.Held.{user_of, with_user, entry_of, has_entry, entries_without, with_entry, is_ban}
-use Rattle.userfile.specs.Together.{repeats, repeats_channel, is_entry, is_user, is_good_ban, repeats_handle, repeats_mask, repeats_ban, is_over}
+use Rattle.userfile.specs.Together.{repeats_channel, is_entry, is_user, is_good_ban, repeats_handle, repeats_mask, repeats_ban, is_over}
 use Rattle.userfile.specs.Together.{records_fault, AreSound}
 use Rattle.userfile.specs.declared.user.User.{User}
 use Rattle.userfile.specs.declared.channel_flags.ChannelFlags.{ChannelFlags}
@@ -20,9 +20,8 @@ use Rattle.userfile.specs.declared.ban.Ban.{Ban}
 use Rattle.userfile.specs.declared.change.Change.{Change}
 use Rattle.userfile.specs.declared.change.Change.TheVariants.{AddUser, DelUser, AddHost, DelHost, SetGlobal, SetChan, SetBot, AddBan, DelBan}
 use Rattle.userfile.specs.declared.error.ChangeFault.{ChangeFault}
-use Rattle.userfile.specs.declared.error.ChangeFault.TheVariants.{BadHandle, BadMask, BadChannel, BadComment, UserExists, MaskExists, BanExists, Full}
 use Rattle.userfile.proofs.TextLemmas.{is_same-sym, is_same-Decides}
-use Rattle.userfile.proofs.RepeatLemmas.{or_false, or_both, and_true, and_both, list_any-filter, list_all-filter, list_all-push, length-filter-le}
+use Rattle.userfile.proofs.RepeatLemmas.{or_false, or_both, and_true, and_both, list_all-filter, list_all-push, length-filter-le}
 use Rattle.userfile.proofs.RepeatLemmas.{is_some-find, repeats-filter, repeats-push}
 
 -- ---- refusals that don't hold
@@ -60,7 +59,7 @@ names-like : (a b : List ℕ) (es : List ChannelFlags) → is_same a b ≡ true
 names-like a b [] e = refl
 names-like a b (x ∷ es) e =
     ap (λ t. t || list_any (λ (e : ChannelFlags). is_same a e.channel) es) (is_same-like a b x.channel e)
-        ∙ ap (λ t. is_same b x.channel || t) (names-like a b es e)
+    ∙ ap (λ t. is_same b x.channel || t) (names-like a b es e)
 
 names-with_entry : (k : List ℕ) (entry : ChannelFlags) (es : List ChannelFlags) → is_same k entry.channel ≡ false
     → list_any (λ (e : ChannelFlags). is_same k e.channel) es ≡ false
@@ -99,7 +98,7 @@ length-with_entry entry (x ∷ es) = by (is_same entry.channel x.channel) (lengt
   where
     by : (b : Bool) → (has_entry entry.channel es ≡ true → length (with_entry entry es) ≡ length es) × (length (with_entry entry es) ≤ length es + 1)
         → (is_some (cond b (Some x) (entry_of entry.channel es)) ≡ true → length (cond b (entry ∷ es) (x ∷ with_entry entry es)) ≡ suc (length es))
-            × (length (cond b (entry ∷ es) (x ∷ with_entry entry es)) ≤ suc (length es) + 1)
+        × (length (cond b (entry ∷ es) (x ∷ with_entry entry es)) ≤ suc (length es) + 1)
     by true r = (λ e. refl, omega arith)
     by false r = (λ e. ap suc (r.0 e), omega (arith, r.1))
 
@@ -145,8 +144,12 @@ sound_user : (u : User) → is_user u ≡ true → repeats_mask u.masks ≡ fals
 unfolding is_user
 sound_user u good apart over = record {
   handle = (and_true (and_true good).0).0;
-  channels = record { good = (and_true (and_true good).0).1; apart = not_true (and_true good).1; within = ltb-false 16 (length u.channels)
-      (or_false over).1 };
+  channels = record {
+    good = (and_true (and_true good).0).1;
+    apart = not_true (and_true good).1;
+    within = ltb-false 16 (length u.channels)
+        (or_false over).1;
+  };
   apart = apart;
   within = ltb-false 16 (length u.masks) (or_false over).0;
 }
@@ -165,8 +168,13 @@ sound-with_mask : (mask : List ℕ) (u : User) → add_mask_fault mask u ≡ Non
 sound-with_mask mask u free s =
     let n = first_none free in
     let room = ltb-true (length u.masks) 16 (unless_none _ n.1) in
-    record { handle = s.handle; channels = s.channels; apart = repeats-push is_same is_same-sym u.masks mask s.apart (if_none _ n.0); within = omega
-        (arith, room, length-append u.masks (mask ∷ [])) }
+    record {
+      handle = s.handle;
+      channels = s.channels;
+      apart = repeats-push is_same is_same-sym u.masks mask s.apart (if_none _ n.0);
+      within = omega
+          (arith, room, length-append u.masks (mask ∷ []));
+    }
 
 sound-without_mask : (mask : List ℕ) (u : User) → IsSoundUser u → IsSoundUser (without_mask mask u)
 sound-without_mask mask u s = record {
@@ -181,8 +189,13 @@ sound-with_global flags u s = record { handle = s.handle; channels = s.channels;
 
 sound-with_channel : (channel : List ℕ) (flags : ℕ) (u : User) → is_channel_name channel ≡ true → set_channel_fault channel flags u ≡ None → IsSoundUser u
     → IsSoundUser (with_channel channel flags u)
-sound-with_channel channel flags u named free s = record { handle = s.handle; channels = entries-set_channel channel flags u.channels named
-    (unless_none _ free) s.channels; apart = s.apart; within = s.within }
+sound-with_channel channel flags u named free s = record {
+  handle = s.handle;
+  channels = entries-set_channel channel flags u.channels named
+      (unless_none _ free) s.channels;
+  apart = s.apart;
+  within = s.within;
+}
 
 sound-with_bot : (flags : ℕ) (u : User) → IsSoundUser u → IsSoundUser (with_bot flags u)
 sound-with_bot flags u s = record { handle = s.handle; channels = s.channels; apart = s.apart; within = s.within }
@@ -231,7 +244,7 @@ module _ (handle : List ℕ) (edit : User → User) where
     where
       by : (b : Bool) → ((u : User) → cond b (Some x) (user_of handle us) ≡ Some u → IsSoundUser u → IsSoundUser (edit u))
           → (((u : User) → user_of handle us ≡ Some u → IsSoundUser u → IsSoundUser (edit u)) → AreSoundUsers (with_user handle edit us))
-              → AreSoundUsers (cond b (edit x ∷ us) (x ∷ with_user handle edit us))
+          → AreSoundUsers (cond b (edit x ∷ us) (x ∷ with_user handle edit us))
       by true f r = (f x refl s.0, s.1)
       by false f r = (s.0, r f)
 
@@ -250,7 +263,7 @@ module _ (handle : List ℕ) (edit : User → User) where
     where
       by : (b : Bool) → list_any (λ (u : User). is_same k u.handle) (with_user handle edit us) ≡ list_any (λ (u : User). is_same k u.handle) us
           → list_any (λ (u : User). is_same k u.handle) (cond b (edit x ∷ us) (x ∷ with_user handle edit us))
-              ≡ list_any (λ (u : User). is_same k u.handle) (x ∷ us)
+          ≡ list_any (λ (u : User). is_same k u.handle) (x ∷ us)
       by true r = ap (λ h. is_same k h || list_any (λ (u : User). is_same k u.handle) us) (keeps x)
       by false r = ap (λ b. is_same k x.handle || b) r
 

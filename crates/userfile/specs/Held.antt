@@ -1,6 +1,6 @@
 -- What records hold: the user of a handle, and what stands in a user's lists and among the bans. Handles, masks and
 -- channels are told apart by casemapping (RFC 2812 section 2.2).
-use Rattle.std.specs.Prelude.{ℕ, List, [], ◌∷◌, Bool, true, false, not, ◌&&◌, find, filter, if◌then◌else◌, Option, is_some}
+use Rattle.std.specs.Prelude.{ℕ, List, [], ◌∷◌, Bool, not, ◌&&◌, find, filter, if◌then◌else◌, Option, is_some}
 use Rattle.std.specs.List.{list_any}
 use Rattle.rfccase.specs.Casemapping.{is_same}
 use Rattle.userfile.specs.declared.user.User.{User}

@@ -1,7 +1,7 @@
 -- Who a person is, what flags a person has, and whom a ban keeps off.
 use Rattle.std.specs.Prelude.{◌≡◌, ◌<◌, ◌≤◌, ◌⊎◌, ℕ, ◌+◌, ◌*◌, ◌==◌, nat_lt, nat_le, Bool, ◌&&◌, ◌||◌, List, [], ◌∷◌, ◌++◌, length, map, filter, find}
 use Rattle.std.specs.Prelude.{slice_get, codes, if◌then◌else◌, Option, None, Some}
-use Rattle.std.specs.List.{list_all, flat_map}
+use Rattle.std.specs.List.{list_all}
 use Rattle.rfccase.specs.Casemapping.{is_same}
 use Rattle.userfile.specs.Held.{user_of, entry_of}
 use Rattle.userfile.specs.Hostmasks.{is_match, literals}

@@ -1,5 +1,5 @@
 -- What a userfile holds, as plain data.
-use Rattle.std.specs.Prelude.{ℕ, List, []}
+use Rattle.std.specs.Prelude.{List, []}
 use Rattle.userfile.specs.declared.user.User.{User}
 use Rattle.userfile.specs.declared.ban.Ban.{Ban}
 

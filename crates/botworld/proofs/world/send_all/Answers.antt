@@ -1,4 +1,4 @@
-use Rattle.std.proofs.Common.{◌≡◌, ◌+◌, ◌≤◌, ◌++◌, [], ◌∷◌, cond, is_ok, refl, arith, ap, sym, length, vec_len, vec_capacity, List, ◌∙◌}
+use Rattle.std.proofs.Common.{◌≡◌, ◌+◌, ◌++◌, [], ◌∷◌, cond, is_ok, refl, arith, ap, length, vec_len, List, ◌∙◌}
 use Rattle.sharelink.specs.declared.answer.Outgoing.{Outgoing}
 use Rattle.botworld.specs.Net.{posted}
 use Rattle.botworld.proofs.Growing.{posted-next, posted-end}

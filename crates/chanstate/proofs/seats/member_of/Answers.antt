@@ -1,4 +1,4 @@
-use Rattle.std.proofs.Common.{◌∙◌, ◌<◌, sym, ap, arith, length, Some, None}
+use Rattle.std.proofs.Common.{◌∙◌, ◌<◌, sym, arith, length}
 use Rattle.rfccase.specs.Casemapping.{folded}
 use Rattle.chanstate.specs.Seats.{seated}
 use Rattle.chanstate.specs.Members.{is_called}

@@ -1,6 +1,5 @@
 use Rattle.std.proofs.Common.{◌∙◌, ◌<◌, ap, sym, length, arith}
 use Rattle.rfccase.specs.Casemapping.{folded}
-use Rattle.chanstate.specs.declared.member.Member.{Member}
 use Rattle.chanstate.specs.Seats.{seated}
 use Rattle.chanstate.specs.Members.{is_called, with_nick}
 use Rattle.chanstate.proofs.FirstsLemmas.{first_changed-nowhere}

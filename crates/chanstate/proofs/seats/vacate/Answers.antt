@@ -1,4 +1,4 @@
-use Rattle.std.proofs.Common.{◌∙◌, ◌<◌, ap, sym, length, arith}
+use Rattle.std.proofs.Common.{◌∙◌, ◌<◌, sym, length, arith}
 use Rattle.rfccase.specs.Casemapping.{folded}
 use Rattle.chanstate.specs.Seats.{seated}
 use Rattle.chanstate.specs.Members.{is_called}

@@ -1,4 +1,4 @@
-use Rattle.std.proofs.Common.{◌≡◌, ◌∙◌, ◌==◌, map, ap, rules, tests}
+use Rattle.std.proofs.Common.{◌∙◌, ◌==◌, map, ap, rules, tests}
 use Rattle.std.proofs.lemmas.Iterator.Consumers.{YieldsList-end}
 use Rattle.std.proofs.lemmas.Iterator.Splits.{YieldsList-from_slice_split}
 use Rattle.script.proofs.pieces.pieces_of.Goals as goal

@@ -1,8 +1,4 @@
-use Rattle.std.proofs.Common.{◌≡◌, ◌∙◌, ap, sym, subst, arith, length, List, ℕ, Some, None, Option, set, rules}
-use Rattle.std.specs.List.{position_from}
-use Rattle.userfile.specs.Held.{with_entry}
-use Rattle.rfccase.specs.Casemapping.{is_same}
-use Rattle.userfile.specs.declared.channel_flags.ChannelFlags.{ChannelFlags}
+use Rattle.std.proofs.Common.{◌≡◌, ◌∙◌, ap, arith, set}
 use Rattle.userfile.proofs.ListLemmas.{with_entry-found, with_entry-absent, found_at, absent_from}
 use Rattle.userfile.proofs.channel_flags.put.Goals as goal
 

@@ -1,5 +1,5 @@
 use Rattle.userfile.specs.declared.limits.TheConstants.{MAX_HANDLE}
-use Rattle.std.proofs.Common.{◌≡◌, ◌≤◌, ◌++◌, [], ◌∷◌, ◌∙◌, ap, subst, sym, length, ℕ, List}
+use Rattle.std.proofs.Common.{◌≤◌, ◌++◌, [], ◌∷◌, ◌∙◌, ap, subst, sym, length, ℕ, List}
 use Rattle.std.specs.Map.{values_of}
 use Rattle.rfccase.specs.Casemapping.{folded}
 use Rattle.userfile.specs.Keys.{IsKeyed}
@@ -15,19 +15,19 @@ pub returns-clause-keyed : goal.returns-clause-keyed
 returns-clause-keyed c =
     let same = c.in_ok-key.ensures ∙ ap folded c.as_bytes.ensures in
     let last = c.in_ok-insert.ensures.entries
-        ∙ inserted_last c.args.handle.now c.in_ok-key.key _ c.args.users.now.entries same c.requires.keyed c.requires.absent in
+    ∙ inserted_last c.args.handle.now c.in_ok-key.key _ c.args.users.now.entries same c.requires.keyed c.requires.absent in
     let handle = ap (λ (u : User). u.handle) c.new-user.ensures ∙ c.in_ok-copy.ensures in
     subst IsKeyed (sym last)
-        (IsKeyed-append _ _ _ c.requires.keyed (same ∙ ap folded (sym handle))
-        (subst (λ (t : List ℕ). length t ≤ MAX_HANDLE) (sym handle) (is_handle-length _ c.requires.good)))
+    (IsKeyed-append _ _ _ c.requires.keyed (same ∙ ap folded (sym handle))
+    (subst (λ (t : List ℕ). length t ≤ MAX_HANDLE) (sym handle) (is_handle-length _ c.requires.good)))
 
 pub returns-clause-ok : goal.returns-clause-ok
 returns-clause-ok c =
     let same = c.in_ok-key.ensures ∙ ap folded c.as_bytes.ensures in
     let last = c.in_ok-insert.ensures.entries
-        ∙ inserted_last c.args.handle.now c.in_ok-key.key _ c.args.users.now.entries same c.requires.keyed c.requires.absent in
+    ∙ inserted_last c.args.handle.now c.in_ok-key.key _ c.args.users.now.entries same c.requires.keyed c.requires.absent in
     ap values_of last ∙ values_of-append c.args.users.now.entries _ _
-        ∙ ap (λ u. values_of c.args.users.now.entries ++ u ∷ []) (c.new-user.ensures ∙ ap new_user c.in_ok-copy.ensures)
+    ∙ ap (λ u. values_of c.args.users.now.entries ++ u ∷ []) (c.new-user.ensures ∙ ap new_user c.in_ok-copy.ensures)
 
 pub returns-clause-covers : goal.returns-clause-covers
 returns-clause-covers c = λ index covers. subst (Covers index 0) (sym (returns-clause-ok c))

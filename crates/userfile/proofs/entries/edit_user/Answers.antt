@@ -1,4 +1,4 @@
-use Rattle.std.proofs.Common.{◌≡◌, ◌∙◌, ap, sym, subst, List, ℕ, Some, None}
+use Rattle.std.proofs.Common.{◌∙◌, ap, sym, subst}
 use Rattle.std.specs.Map.{values_of, set_value}
 use Rattle.std.proofs.lemmas.Map.Steps.{set_value_same}
 use Rattle.std.proofs.lemmas.Result.{on_ok_weaker, on_err_weaker}
@@ -15,15 +15,15 @@ returns-in-Some-get_mut-clause-keyed c =
     let written = (c.get_mut.follows.holds c.make_edit.new.user).0 in
     let handle = handle_kept c.make_edit.result c.args.change c.in-Some-get_mut.user.now c.make_edit.new.user c.make_edit.ensures.ok c.make_edit.ensures.err in
     subst IsKeyed (sym written)
-        (IsKeyed-set_value c.as_bytes.result.now c.args.users.now.entries c.in-Some-get_mut.user.now c.make_edit.new.user c.requires.keyed
-        (sym c.in-Some-get_mut.ensures.value) handle)
+    (IsKeyed-set_value c.as_bytes.result.now c.args.users.now.entries c.in-Some-get_mut.user.now c.make_edit.new.user c.requires.keyed
+    (sym c.in-Some-get_mut.ensures.value) handle)
 
 pub returns-in-Some-get_mut-clause-ok : goal.returns-in-Some-get_mut-clause-ok
 returns-in-Some-get_mut-clause-ok c =
     let written = (c.get_mut.follows.holds c.make_edit.new.user).0 in
     let lower = c.as_bytes.ensures ∙ c.in-Some.ensures in
     let edited_there = values_of-set_value c.args.handle.now c.as_bytes.result.now c.args.users.now.entries c.in-Some-get_mut.user.now
-        (edited c.args.change) lower c.requires.keyed (sym c.in-Some-get_mut.ensures.value) in
+    (edited c.args.change) lower c.requires.keyed (sym c.in-Some-get_mut.ensures.value) in
     on_ok_weaker c.make_edit.result
     (λ new. ap values_of written ∙ ap (λ u. values_of (set_value (has_key c.as_bytes.result.now) c.args.users.now.entries u)) new ∙ edited_there)
     c.make_edit.ensures.ok
@@ -40,7 +40,7 @@ pub returns-in-None-clause-ok : goal.returns-in-None-clause-ok
 returns-in-None-clause-ok c =
     let lower = c.as_bytes.ensures ∙ c.in-Some.ensures in
     let nobody = sym (lookup-user_of c.args.handle.now c.as_bytes.result.now c.args.users.now.entries lower c.requires.keyed)
-        ∙ sym c.in-None.ensures.value in
+    ∙ sym c.in-None.ensures.value in
     ap values c.get_mut.follows.holds-at-none ∙ sym (with_user-absent c.args.handle.now (edited c.args.change) _ nobody)
 
 pub returns-in_default-clause-ok : goal.returns-in_default-clause-ok
@@ -51,4 +51,4 @@ returns-in_default-clause-ok c =
 pub returns-in-Some-get_mut-clause-covers : goal.returns-in-Some-get_mut-clause-covers
 returns-in-Some-get_mut-clause-covers c = λ index no_mask covers.
     Covers-made c.make_edit.result index c.args.handle.now c.args.change _ _ no_mask (returns-in-Some-get_mut-clause-ok c)
-        (returns-in-Some-get_mut-clause-err c) covers
+    (returns-in-Some-get_mut-clause-err c) covers

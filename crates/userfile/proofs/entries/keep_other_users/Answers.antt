@@ -1,4 +1,4 @@
-use Rattle.std.proofs.Common.{◌≡◌, ◌∙◌, ap, subst, sym, not, rules}
+use Rattle.std.proofs.Common.{◌∙◌, ap, subst, sym, not, rules}
 use Rattle.indexmap.proofs.CallerLemmas.{filter-RetainsPairs}
 use Rattle.std.specs.Map.{values_of}
 use Rattle.userfile.specs.Keys.{IsKeyed}

@@ -8,5 +8,5 @@ pub loop-held-preserved : goal.loop-held-preserved
 loop-held-preserved c =
     rw c.moved_up.ensures
     (map_over_more (moved_up c.args.place) c.args.places.now c.loop-held.places c.loop-held.held-index
-        (get_or c.loop-held.places c.loop-held.held-index 0) (omega arith) c.loop-held.invariant
+    (get_or c.loop-held.places c.loop-held.held-index 0) (omega arith) c.loop-held.invariant
     (get_or_default c.loop-held.places c.loop-held.held-index 0 _ (omega arith)))

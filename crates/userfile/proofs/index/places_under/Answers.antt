@@ -1,4 +1,4 @@
-use Rattle.std.proofs.Common.{◌≡◌, ◌∙◌, sym}
+use Rattle.std.proofs.Common.{◌∙◌, sym}
 use Rattle.userfile.proofs.GroupLemmas.{places_at-found, places_at-none}
 use Rattle.userfile.proofs.index.places_under.Goals as goal
 

@@ -1,4 +1,4 @@
-use Rattle.std.proofs.Common.{◌≡◌, sym, subst}
+use Rattle.std.proofs.Common.{sym, subst}
 use Rattle.std.proofs.lemmas.Result.{on_ok_weaker}
 use Rattle.userfile.specs.Index.{IsIn, places_at}
 use Rattle.userfile.proofs.GroupLemmas.{IsIn-last, places_at-set_value, places_at-written, places_at-insert, places_at-inserted}
@@ -9,7 +9,7 @@ returns-in-Some-clause-kept c = λ t n here.
     let written = (c.get_mut.follows.holds c.put_once.new.group).0 in
     subst (λ es. IsIn n (places_at t es)) (sym written)
     (places_at-set_value t c.args.tail c.args.groups.now.entries c.in-Some.group.now c.put_once.new.group
-        (sym c.in-Some.ensures.value) c.put_once.ensures.kept n here)
+    (sym c.in-Some.ensures.value) c.put_once.ensures.kept n here)
 
 pub returns-in-Some-clause-ok : goal.returns-in-Some-clause-ok
 returns-in-Some-clause-ok c =
@@ -17,7 +17,7 @@ returns-in-Some-clause-ok c =
     on_ok_weaker c.put_once.result
     (λ here. subst (λ es. IsIn c.args.place (places_at c.args.tail es)) (sym written)
     (subst (IsIn c.args.place)
-        (sym (places_at-written c.args.tail c.args.groups.now.entries c.in-Some.group.now c.put_once.new.group (sym c.in-Some.ensures.value))) here))
+    (sym (places_at-written c.args.tail c.args.groups.now.entries c.in-Some.group.now c.put_once.new.group (sym c.in-Some.ensures.value))) here))
     c.put_once.ensures.ok
 
 pub returns-clause-kept : goal.returns-clause-kept

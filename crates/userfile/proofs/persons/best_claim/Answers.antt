@@ -1,4 +1,4 @@
-use Rattle.std.proofs.Common.{◌≡◌, ◌∙◌, None, ap, sym, add-one}
+use Rattle.std.proofs.Common.{◌∙◌, None, ap, sym, add-one}
 use Rattle.indexmap.specs.IndexMap.{values}
 use Rattle.userfile.specs.Index.{asked, asked_at}
 use Rattle.userfile.specs.Search.{after_places}
@@ -13,5 +13,5 @@ loop-len-preserved c =
     let len = c.loop-len.len in
     rw add-one
     (c.best_of_places-best.ensures ∙ ap (λ ps. after_places who users ps c.loop-len.best) c.places_of.ensures
-        ∙ ap (after_places who users (asked_at index who len)) c.loop-len.invariant
+    ∙ ap (after_places who users (asked_at index who len)) c.loop-len.invariant
     ∙ sym (after_places-append who users (asked index who len) (asked_at index who len) None))

@@ -1,4 +1,4 @@
-use Rattle.std.proofs.Common.{◌≡◌, ◌∙◌, ap}
+use Rattle.std.proofs.Common.{◌∙◌, ap}
 use Rattle.indexmap.specs.IndexMap.{values}
 use Rattle.userfile.specs.Search.{user_at}
 use Rattle.userfile.proofs.IndexLemmas.{asked-user_for}

@@ -1,8 +1,8 @@
-use Rattle.std.proofs.Common.{◌≡◌, ◌<◌, ◌-◌, List, arith, length, slice_set, subst}
+use Rattle.std.proofs.Common.{◌<◌, ◌-◌, List, arith, length, slice_set, subst}
 use Rattle.userfile.specs.declared.change.Change.{Change}
 use Rattle.sharelink.specs.Meets.{Meets}
-use Rattle.sharelink.specs.HubRules.{Hub, hub_asked, hub_pumped, hub_received}
-use Rattle.sharelink.specs.LeafRules.{Leaf, leaf_asked, leaf_pumped, leaf_received}
+use Rattle.sharelink.specs.HubRules.{Hub, hub_asked}
+use Rattle.sharelink.specs.LeafRules.{Leaf, leaf_asked}
 use Rattle.botworld.specs.declared.sent.Sent.{Sent}
 use Rattle.botworld.specs.Net.{Net, ComesOf, at_bot}
 use Rattle.botworld.specs.Posting.{Finishes}

@@ -1,8 +1,8 @@
-use Rattle.std.proofs.Common.{◌≡◌, ◌<◌, ◌-◌, List, Option, Some, arith, length, get_or, slice_set, subst, sym, ap, ◌∙◌}
+use Rattle.std.proofs.Common.{◌<◌, ◌-◌, List, Option, arith, length, get_or, slice_set, subst, sym, ap, ◌∙◌}
 use Rattle.sharelink.specs.HubRules.{Hub, hub_received}
 use Rattle.sharelink.specs.LeafRules.{Leaf, leaf_received}
 use Rattle.botworld.specs.declared.sent.Sent.{Sent}
-use Rattle.botworld.specs.Net.{Net, ComesOf, at_bot, delivered, packet_at}
+use Rattle.botworld.specs.Net.{Net, ComesOf, delivered, packet_at}
 use Rattle.botworld.specs.Posting.{Finishes}
 use Rattle.botworld.proofs.Steps.{leaf_comes, packet_found}
 use Rattle.botworld.proofs.world.World.deliver.Goals as goal

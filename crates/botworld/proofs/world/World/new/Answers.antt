@@ -1,7 +1,3 @@
-use Rattle.std.proofs.Common.{◌≡◌, [], subst, sym, ap, ◌∙◌}
-use Rattle.botworld.specs.Net.{Net, new_net}
-use Rattle.botworld.specs.Network.{start}
-use Rattle.botworld.specs.Standing.{Stands}
 use Rattle.botworld.proofs.Start.{start_stands}
 use Rattle.botworld.proofs.world.World.new.Goals as goal
 

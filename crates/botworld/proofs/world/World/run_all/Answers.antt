@@ -1,9 +1,8 @@
-use Rattle.std.proofs.Common.{◌≡◌, ◌+◌, ◌++◌, [], ◌∷◌, List, cond, is_ok, arith, ap, sym, subst, ◌∙◌, length, length-append, take, get_or, refl, vec_len}
-use Rattle.std.proofs.Common.{vec_capacity, inr}
+use Rattle.std.proofs.Common.{◌≡◌, ◌+◌, ◌++◌, [], ◌∷◌, cond, is_ok, arith, ap, sym, ◌∙◌, length, length-append, take, refl, vec_len}
+use Rattle.std.proofs.Common.{inr}
 use Rattle.std.proofs.lemmas.Option.{slice_get_read}
 use Rattle.std.proofs.lemmas.List.{take_more}
 use Rattle.botworld.specs.declared.step.Step.{Step}
-use Rattle.botworld.specs.declared.outcome.Outcome.{Outcome}
 use Rattle.botworld.specs.Net.{Net, missing}
 use Rattle.botworld.proofs.Runs.{leads_on, leads_nowhere}
 use Rattle.botworld.proofs.world.World.run_all.Goals as goal

@@ -1,11 +1,6 @@
-use Rattle.std.proofs.Common.{◌≡◌, ℕ, List, Option, None, Some, ap, ◌∙◌, sym, subst, suc, zero, refl}
-use Rattle.std.specs.Option.{option_map}
-use Rattle.sharelink.specs.LeafRules.{Leaf}
-use Rattle.userfile.specs.Records.{Records}
+use Rattle.std.proofs.Common.{ap, ◌∙◌, sym}
 use Rattle.botworld.specs.Net.{Net}
-use Rattle.botworld.specs.Network.{State, net_of, records_of}
 use Rattle.botworld.specs.Standing.{shown_version, shown_records}
-use Rattle.botworld.proofs.History.{leaves_at-get, leaf_of}
 use Rattle.botworld.proofs.Shown.{shown_at_version}
 use Rattle.botworld.proofs.world.World.userfile.Goals as goal
 

@@ -1,4 +1,4 @@
-use Rattle.std.proofs.Common.{◌≡◌, ◌∙◌, ap, List, ℕ}
+use Rattle.std.proofs.Common.{◌∙◌, ap, List, ℕ}
 use Rattle.wildmask.specs.declared.items.MaskKind.{MaskKind}
 use Rattle.wildmask.specs.declared.items.MaskKind.TheVariants.{Host}
 use Rattle.wildmask.specs.Items.{literals_of}
@@ -9,4 +9,4 @@ pub returns : goal.returns
 unfolding literals
 returns c =
     c.literals.ensures ∙ ap (λ (k : MaskKind). literals_of k c.self.inside.mask.text) c.self.invariant
-        ∙ ap (λ (t : List ℕ). literals_of Host t) c.self.view_is
+    ∙ ap (λ (t : List ℕ). literals_of Host t) c.self.view_is

@@ -1,4 +1,4 @@
-use Rattle.std.proofs.Common.{◌≡◌, ◌∙◌, ◌↔◌, ap, subst, IsTrue}
+use Rattle.std.proofs.Common.{◌∙◌, ◌↔◌, ap, subst, IsTrue}
 use Rattle.wildmask.specs.Masks.{GivenMask, IsMatch, is_match as is_mask_match}
 use Rattle.userfile.specs.Hostmasks.{is_match}
 use Rattle.userfile.proofs.MatchLemmas.{host_mask-same}

@@ -12,17 +12,17 @@ pub returns-clause-value : goal.returns-clause-value
 unfolding mask_tail
 returns-clause-value c =
     c.tail.ensures.value ∙ ap (λ (k : MaskKind). tail_of (items_of k c.self.inside.mask.text)) c.self.invariant
-        ∙ ap (λ (t : List ℕ). tail_of (items_of Host t)) c.self.view_is
+    ∙ ap (λ (t : List ℕ). tail_of (items_of Host t)) c.self.view_is
 
 pub returns-clause-ends : goal.returns-clause-ends
 unfolding mask_tail
 returns-clause-ends c =
     let value = c.tail.ensures.value ∙ ap (λ (k : MaskKind). tail_of (items_of k c.self.inside.mask.text)) c.self.invariant
-        ∙ ap (λ (t : List ℕ). tail_of (items_of Host t)) c.self.view_is in
+    ∙ ap (λ (t : List ℕ). tail_of (items_of Host t)) c.self.view_is in
     record {
       short = subst (λ (t : List ℕ). length t < 17) value (omega (arith, c.tail.ensures.short));
       ends = λ who hit. subst (λ (t : List ℕ). t ≡ end_key (length t) who) value
           (c.tail.ensures.ends who
-              (subst (λ (m : GivenMask). IsMatch m who) (sym (host_mask-same _ _ c.self.invariant c.self.view_is))
-              ((is_match-Decides c.args.self.now who).0 hit)));
+          (subst (λ (m : GivenMask). IsMatch m who) (sym (host_mask-same _ _ c.self.invariant c.self.view_is))
+          ((is_match-Decides c.args.self.now who).0 hit)));
     }

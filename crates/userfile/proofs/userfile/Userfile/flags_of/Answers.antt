@@ -1,4 +1,4 @@
-use Rattle.std.proofs.Common.{◌≡◌, ◌∙◌, ap}
+use Rattle.std.proofs.Common.{◌∙◌, ap}
 use Rattle.userfile.specs.Persons.{flags_on}
 use Rattle.userfile.proofs.userfile.Userfile.flags_of.Goals as goal
 
