@@ -15,7 +15,8 @@ use Rattle.bottimers.proofs.EntryLists.{length-kept, timers_kept}
 
 -- ---- the refusal, where the interval is good
 
-module _ (inside : Inside) (h : Held) (view : held inside ≡ h) (i t n : ℕ) (count : n ≡ length (filter (λ e. is_kept t e.timer) inside.entries.items)) (some : i ≡ 0 → ⊥) (short : i ≤ MAX_INTERVAL) where
+module _ (inside : Inside) (h : Held) (view : held inside ≡ h) (i t n : ℕ) (count : n
+    ≡ length (filter (λ e. is_kept t e.timer) inside.entries.items)) (some : i ≡ 0 → ⊥) (short : i ≤ MAX_INTERVAL) where
   count_is : n ≡ length (timers_at t h)
   count_is = subst (λ g. n ≡ length (timers_at t g)) view (count ∙ length-kept t inside.entries.items)
 
@@ -39,7 +40,8 @@ module _ (inside : Inside) (h : Held) (view : held inside ≡ h) (i t n : ℕ) (
 
 -- ---- the new timer
 
-module _ (inside : Inside) (h : Held) (view : held inside ≡ h) (m : Timer) (ys zs : List Entry) (e : Entry) (same : e.timer ≡ m) (kept : ys ≡ map (counted m.made) (filter (λ e. is_kept m.made e.timer) inside.entries.items)) (pushed : zs ≡ ys ++ e ∷ []) where
+module _ (inside : Inside) (h : Held) (view : held inside ≡ h) (m : Timer) (ys zs : List Entry) (e : Entry) (same : e.timer ≡ m) (kept : ys
+    ≡ map (counted m.made) (filter (λ e. is_kept m.made e.timer) inside.entries.items)) (pushed : zs ≡ ys ++ e ∷ []) where
   -- what is kept, and the new one after it
   timers_are : map (λ (e : Entry). e.timer) zs ≡ filter (is_kept m.made) (map (λ e. e.timer) inside.entries.items) ++ m ∷ []
   timers_are =

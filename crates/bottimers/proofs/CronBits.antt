@@ -21,7 +21,8 @@ later_test : (k n : ℕ) → k ≢ n → ltb k n ≡ ltb k (n + 1)
 later_test k n ne = grind (arith, nat_tests)
 
 -- one more number of a span
-pub has_more : (s : Span) (set n : ℕ) → n < 64 → s.first ≤ n → n ≤ s.last → (n - s.first) % s.step ≡ 0 → ((k : ℕ) → has set k ≡ (ltb k n && in_span s k)) → (k : ℕ) → has (bit_or set (1 * 2 ^ n % 2 ^ 64)) k ≡ (ltb k (n + 1) && in_span s k)
+pub has_more : (s : Span) (set n : ℕ) → n < 64 → s.first ≤ n → n ≤ s.last → (n - s.first) % s.step ≡ 0
+    → ((k : ℕ) → has set k ≡ (ltb k n && in_span s k)) → (k : ℕ) → has (bit_or set (1 * 2 ^ n % 2 ^ 64)) k ≡ (ltb k (n + 1) && in_span s k)
 has_more s set n small above below step so_far k =
     elim (cases_eq k n) [
       | inl same ↦
@@ -36,7 +37,8 @@ has_more s set n small above below step so_far k =
     ]
 
 -- and one that is none
-pub has_same : (s : Span) (set n : ℕ) → ((n - s.first) % s.step ≡ 0 → ⊥) → ((k : ℕ) → has set k ≡ (ltb k n && in_span s k)) → (k : ℕ) → has set k ≡ (ltb k (n + 1) && in_span s k)
+pub has_same : (s : Span) (set n : ℕ) → ((n - s.first) % s.step ≡ 0 → ⊥) → ((k : ℕ) → has set k ≡ (ltb k n && in_span s k)) → (k : ℕ)
+    → has set k ≡ (ltb k (n + 1) && in_span s k)
 has_same s set n step so_far k =
     elim (cases_eq k n) [
       | inl same ↦

@@ -30,7 +30,8 @@ module _ (c : ℕ) (xs : List ℕ) where
   pub front_some : (i : ℕ) → position (at_byte c) xs ≡ Some i → take i xs ≡ before c xs
   front_some i e = ap (λ n. take n xs) (sym (place_some i e).0)
 
-  pub back_some : (i : ℕ) → position (at_byte c) xs ≡ Some i → ◌≡◌ {A = Option (List ℕ)} (Some (take (length xs - (i + 1)) (drop (i + 1) xs))) (cond (has_byte c xs) (Some (after c xs)) None)
+  pub back_some : (i : ℕ) → position (at_byte c) xs ≡ Some i
+      → ◌≡◌ {A = Option (List ℕ)} (Some (take (length xs - (i + 1)) (drop (i + 1) xs))) (cond (has_byte c xs) (Some (after c xs)) None)
   back_some i e =
       let p = place_some i e in
       let whole = take_all (length xs - (i + 1)) (drop (i + 1) xs) (omega (arith, length-drop (i + 1) xs)) in
@@ -61,11 +62,13 @@ module _ (c : ℕ) (xs : List ℕ) where
 abbrev pub rest_after : ℕ → List ℕ → Option (List ℕ)
 rest_after c xs = cond (has_byte c xs) (Some (after c xs)) None
 
-rest_cond : (low high : ℕ) (b : Bool) (ys : List ℕ) → list_all (λ item. is_some (span_of low high item)) (cond b (slice_split (at_byte 44) ys) []) ≡ is_rest low high (cond b (Some ys) None)
+rest_cond : (low high : ℕ) (b : Bool) (ys : List ℕ)
+    → list_all (λ item. is_some (span_of low high item)) (cond b (slice_split (at_byte 44) ys) []) ≡ is_rest low high (cond b (Some ys) None)
 rest_cond low high true ys = refl
 rest_cond low high false ys = refl
 
-in_rest_cond : (low high n : ℕ) (b : Bool) (ys : List ℕ) → list_any (λ item. in_span_if_any (span_of low high item) n) (cond b (slice_split (at_byte 44) ys) []) ≡ in_rest low high (cond b (Some ys) None) n
+in_rest_cond : (low high n : ℕ) (b : Bool) (ys : List ℕ)
+    → list_any (λ item. in_span_if_any (span_of low high item) n) (cond b (slice_split (at_byte 44) ys) []) ≡ in_rest low high (cond b (Some ys) None) n
 in_rest_cond low high n true ys = refl
 in_rest_cond low high n false ys = refl
 
@@ -74,13 +77,16 @@ is_field-cut low high xs =
     ap (list_all (λ item. is_some (span_of low high item))) (split_cut 44 xs)
     ∙ ap (λ b. is_some (span_of low high (before 44 xs)) && b) (rest_cond low high (has_byte 44 xs) (after 44 xs))
 
-pub in_field-cut : (low high : ℕ) (xs : List ℕ) (n : ℕ) → in_field low high xs n ≡ (in_span_if_any (span_of low high (before 44 xs)) n || in_rest low high (rest_after 44 xs) n)
+pub in_field-cut : (low high : ℕ) (xs : List ℕ) (n : ℕ)
+    → in_field low high xs n ≡ (in_span_if_any (span_of low high (before 44 xs)) n || in_rest low high (rest_after 44 xs) n)
 in_field-cut low high xs n =
     ap (list_any (λ item. in_span_if_any (span_of low high item) n)) (split_cut 44 xs)
     ∙ ap (λ b. in_span_if_any (span_of low high (before 44 xs)) n || b) (in_rest_cond low high n (has_byte 44 xs) (after 44 xs))
 
 -- one item of a field, with what it means
-pub field_step : (low high : ℕ) (items item : List ℕ) (more : Option (List ℕ)) (s : Span) → item ≡ before 44 items → more ≡ rest_after 44 items → span_of low high item ≡ Some s → (is_field low high items ≡ is_rest low high more) × ((n : ℕ) → in_field low high items n ≡ (in_span s n || in_rest low high more n))
+pub field_step : (low high : ℕ) (items item : List ℕ) (more : Option (List ℕ)) (s : Span) → item ≡ before 44 items → more ≡ rest_after 44 items
+    → span_of low high item ≡ Some s → (is_field low high items ≡ is_rest low high more)
+    × ((n : ℕ) → in_field low high items n ≡ (in_span s n || in_rest low high more n))
 field_step low high items item more s front back means =
     let span : span_of low high (before 44 items) ≡ Some s = ap (span_of low high) (sym front) ∙ means in (
       is_field-cut low high items

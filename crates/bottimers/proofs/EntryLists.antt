@@ -35,18 +35,21 @@ map-map g f (x ∷ xs) = ap (λ ys. g (f x) ∷ ys) (map-map g f xs)
 kept_same : (t : ℕ) (m : Timer) → (eqb m.count 0 || ltb 0 (repeats_left m t)) ≡ is_kept t m
 kept_same t m = grind (arith, nat_tests)
 
-pub kept_counted : (t : ℕ) (xs : List Entry) → filter (λ e. eqb e.timer.count 0 || ltb 0 e.repeats) (map (counted t) xs) ≡ map (counted t) (filter (λ e. is_kept t e.timer) xs)
+pub kept_counted : (t : ℕ) (xs : List Entry) → filter (λ e. eqb e.timer.count 0 || ltb 0 e.repeats) (map (counted t) xs)
+    ≡ map (counted t) (filter (λ e. is_kept t e.timer) xs)
 kept_counted t xs =
     filter-map (λ e. eqb e.timer.count 0 || ltb 0 e.repeats) (counted t) xs
     ∙ ap (map (counted t)) (filter_agree (λ e. eqb e.timer.count 0 || ltb 0 (repeats_left e.timer t)) (λ e. is_kept t e.timer) (λ e. kept_same t e.timer) xs)
 
 -- the timers that are left
-pub timers_kept : (t : ℕ) (xs : List Entry) → map (λ e. e.timer) (map (counted t) (filter (λ e. is_kept t e.timer) xs)) ≡ filter (is_kept t) (map (λ e. e.timer) xs)
+pub timers_kept : (t : ℕ) (xs : List Entry) → map (λ e. e.timer) (map (counted t) (filter (λ e. is_kept t e.timer) xs))
+    ≡ filter (is_kept t) (map (λ e. e.timer) xs)
 timers_kept t xs =
     map-map (λ e. e.timer) (counted t) (filter (λ e. is_kept t e.timer) xs) ∙ sym (filter-map (is_kept t) (λ e. e.timer) xs)
 
 -- what is left runs
-pub running_kept : (from t : ℕ) (xs : List Entry) → All (λ e. IsRunning from e × (from ≤ t)) xs → All (IsRunning t) (map (counted t) (filter (λ e. is_kept t e.timer) xs))
+pub running_kept : (from t : ℕ) (xs : List Entry) → All (λ e. IsRunning from e × (from ≤ t)) xs
+    → All (IsRunning t) (map (counted t) (filter (λ e. is_kept t e.timer) xs))
 running_kept from t xs all =
     let some = All-filter (λ e. is_kept t e.timer) (λ e. IsRunning from e × (from ≤ t)) xs all in
     let kept = filter_passes (λ (e : Entry). is_kept t e.timer) xs in
@@ -62,11 +65,13 @@ running_kept from t xs all =
     })
 
 -- each runs at the last second given, and what comes next is later
-pub running_above : (last : Option ℕ) (t : ℕ) (xs : List Entry) → IsAbove last t → All (IsRunningAt last) xs → All (λ e. IsRunning (unwrap_or last 0) e × (unwrap_or last 0 < t)) xs
+pub running_above : (last : Option ℕ) (t : ℕ) (xs : List Entry) → IsAbove last t → All (IsRunningAt last) xs
+    → All (λ e. IsRunning (unwrap_or last 0) e × (unwrap_or last 0 < t)) xs
 running_above None t xs above all = λ k d l. absurd (all k d l)
 running_above (Some last) t xs above all = λ k d l. (all k d l, above)
 
-pub running_not_below : (last : Option ℕ) (t : ℕ) (xs : List Entry) → IsNotBelow last (Some t) → All (IsRunningAt last) xs → All (λ e. IsRunning (unwrap_or last 0) e × (unwrap_or last 0 ≤ t)) xs
+pub running_not_below : (last : Option ℕ) (t : ℕ) (xs : List Entry) → IsNotBelow last (Some t) → All (IsRunningAt last) xs
+    → All (λ e. IsRunning (unwrap_or last 0) e × (unwrap_or last 0 ≤ t)) xs
 running_not_below None t xs above all = λ k d l. absurd (all k d l)
 running_not_below (Some last) t xs above all = λ k d l. (all k d l, above)
 
@@ -80,7 +85,8 @@ take-written n xs ys whole same =
     let fits : n ≤ length ys = omega arith in
     take-append-le n ys (drop (length ys) xs) fits ∙ take_all n ys (omega arith)
 
-pub running_to : (last : Option ℕ) (t : ℕ) (xs : List Entry) → IsAbove last t → All (IsRunningAt last) xs → All (λ e. IsRunning (unwrap_or last 0) e × (unwrap_or last 0 ≤ t)) xs
+pub running_to : (last : Option ℕ) (t : ℕ) (xs : List Entry) → IsAbove last t → All (IsRunningAt last) xs
+    → All (λ e. IsRunning (unwrap_or last 0) e × (unwrap_or last 0 ≤ t)) xs
 running_to last t xs above all = λ k d l.
     let r = running_above last t xs above all k d l in
     (r.0, omega (arith, r.1))

@@ -64,8 +64,11 @@ module _ (m : Timer) (from to : ℕ) (made : m.made ≤ from) (later : from ≤ 
   pub units_left-positive : 0 < units_left m from
   units_left-positive = next_in_positive _ _ _ _ (unit_of-mono m.kind m.made from made) (unit_of-mono m.kind from to later) counts
 
-  pub used_jump : cond (ltb (unit_of m.kind to - unit_of m.kind from) (units_left m from)) 0 ((unit_of m.kind to - unit_of m.kind from - units_left m from) / m.interval + 1) + used m from ≡ used m to
+  pub used_jump : cond (ltb (unit_of m.kind to - unit_of m.kind from) (units_left m from)) 0
+      ((unit_of m.kind to - unit_of m.kind from - units_left m from) / m.interval + 1) + used m from ≡ used m to
   used_jump = fallen_jump _ _ _ _ (unit_of-mono m.kind m.made from made) (unit_of-mono m.kind from to later) counts
 
-  pub units_left_jump : cond (ltb (unit_of m.kind to - unit_of m.kind from) (units_left m from)) (units_left m from - (unit_of m.kind to - unit_of m.kind from)) (m.interval - (unit_of m.kind to - unit_of m.kind from - units_left m from) % m.interval) ≡ units_left m to
+  pub units_left_jump : cond (ltb (unit_of m.kind to - unit_of m.kind from) (units_left m from))
+      (units_left m from - (unit_of m.kind to - unit_of m.kind from))
+      (m.interval - (unit_of m.kind to - unit_of m.kind from - units_left m from) % m.interval) ≡ units_left m to
   units_left_jump = left_jump _ _ _ _ (unit_of-mono m.kind m.made from made) (unit_of-mono m.kind from to later) counts

@@ -1,7 +1,8 @@
 -- Moments, and the seconds that a reading of the clock runs.
 use Rattle.std.specs.Prelude.{ℕ, ◌+◌, ◌-◌, ◌<◌, max, nat_lt, if◌then◌else◌, Option, Some, None, List, []}
 use Rattle.std.specs.List.{range_with_len}
-use Rattle.bottimers.specs.declared.limits.TheConstants.{MOMENTS_END, MAX_SECONDS}
+use Rattle.bytetext.specs.declared.moment.TheConstants.{MOMENTS_END}
+use Rattle.bottimers.specs.declared.limits.TheConstants.{MAX_SECONDS}
 use Rattle.bottimers.specs.declared.fault.ClockFault.{ClockFault}
 use Rattle.bottimers.specs.declared.fault.ClockFault.TheVariants.{BadMoment}
 

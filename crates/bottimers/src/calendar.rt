@@ -4,8 +4,7 @@ ghost use Rattle.bottimers.specs.Seconds.{IsMoment};
 ghost use Rattle.bottimers.specs.Civil.{IsOffset, IsCalendarMinute};
 
 use crate::fault::ClockFault;
-use crate::limits::MOMENTS_END;
-use bytetext::{NoMemory, TryCopy};
+use bytetext::{MOMENTS_END, NoMemory, TryCopy};
 use jiff::Timestamp;
 use jiff::tz::Offset;
 use std::alloc::Global;

@@ -4,8 +4,8 @@ ghost use Rattle.bottimers.specs.Faults.{RefusedFor};
 ghost use Rattle.bottimers.specs.Seconds.{reading_fault, seconds_run, seconds_between, last_after};
 
 use crate::fault::{ClockError, ClockFault};
-use crate::limits::{MAX_SECONDS, MOMENTS_END};
-use bytetext::{Failure, NoMemory, TryCopy};
+use crate::limits::MAX_SECONDS;
+use bytetext::{Failure, MOMENTS_END, NoMemory, TryCopy};
 use std::alloc::Global;
 use std::marker::Model;
 

@@ -43,7 +43,7 @@ pub use crate::calendar::{CivilMinute, civil};
 pub use crate::clock::Clock;
 pub use crate::cron::Cron;
 pub use crate::fault::{ClockError, ClockFault, CronFault};
-pub use crate::limits::{MAX_ID, MAX_INTERVAL, MAX_OFFSET, MAX_SECONDS, MAX_TIMERS, MOMENTS_END};
+pub use crate::limits::{MAX_ID, MAX_INTERVAL, MAX_OFFSET, MAX_SECONDS, MAX_TIMERS};
 pub use crate::status::TimerStatus;
 pub use crate::timer::{Timer, TimerKind};
 pub use crate::timers::Timers;

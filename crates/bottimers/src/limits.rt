@@ -1,8 +1,5 @@
 // The limits of clocks and timers. All are our own choice, since Eggdrop states none.
 
-/// The first second after the year 2999: moments are the whole seconds before it.
-pub const MOMENTS_END: u64 = 32_503_680_000;
-
 /// How many seconds one reading of the clock runs at most.
 pub const MAX_SECONDS: u64 = 600;
 

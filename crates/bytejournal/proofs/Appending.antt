@@ -17,11 +17,13 @@ first_shut [] long shut = absurd (omega arith)
 first_shut (gate ∷ rest) long shut = means_shut gate rest (gate ∷ rest) shut refl
 
 -- beside the active disk's contents the other disk's don't count
-pub beside : (is_open : Bool) (contents : Contents) (bytes : List ℕ) → IdleIs is_open contents.generation bytes → chosen (Open contents) (held bytes) ≡ Some contents
+pub beside : (is_open : Bool) (contents : Contents) (bytes : List ℕ) → IdleIs is_open contents.generation bytes
+    → chosen (Open contents) (held bytes) ≡ Some contents
 beside false contents bytes is = ap (chosen (Open contents)) (first_shut bytes is.0 is.1).held_is
 beside true contents bytes is = ap (chosen (Open contents)) is.1 ∙ newer contents is.0 is.2
 
-pub meaning_is : (is_open : Bool) (contents : Contents) (image bytes : List ℕ) → Means image (Open contents) → IdleIs is_open contents.generation bytes → meaning image bytes ≡ Some contents
+pub meaning_is : (is_open : Bool) (contents : Contents) (image bytes : List ℕ) → Means image (Open contents)
+    → IdleIs is_open contents.generation bytes → meaning image bytes ≡ Some contents
 meaning_is is_open contents image bytes means idle = ap (λ (h : Held). chosen h (held bytes)) means.held_is ∙ beside is_open contents bytes idle
 
 module _ {D : Type 0} (state : D → State) (journal : Journal D) (rest : IsAtRest state journal) where
@@ -34,8 +36,10 @@ module _ {D : Type 0} (state : D → State) (journal : Journal D) (rest : IsAtRe
   pub still_either : (after : Option Contents) → IsEither (contents_of state journal) after (state journal.active).seen (state journal.idle).seen
   still_either after = record { means = inl refl; first_whole = active_means.whole; second_whole = rest.idle_whole }
 
-  pub nothing_happens : HasNoOther state journal.active → HasNoOther state journal.idle → (after : Option Contents) → EachMoment state journal.active journal.idle journal.active journal.idle (IsEither (contents_of state journal) after)
-  nothing_happens active_only idle_only after = none_written state journal.active journal.idle (IsEither (contents_of state journal) after) active_only rest.active_settled idle_only rest.idle_settled (still_either after)
+  pub nothing_happens : HasNoOther state journal.active → HasNoOther state journal.idle → (after : Option Contents)
+      → EachMoment state journal.active journal.idle journal.active journal.idle (IsEither (contents_of state journal) after)
+  nothing_happens active_only idle_only after = none_written state journal.active journal.idle
+      (IsEither (contents_of state journal) after) active_only rest.active_settled idle_only rest.idle_settled (still_either after)
 
   module _ (entry : List ℕ) (small : length entry < 2 ^ 32) where
     pub appended_are : option_map (added entry) (contents_of state journal) ≡ Some (added entry rest.contents)
@@ -45,36 +49,70 @@ module _ {D : Type 0} (state : D → State) (journal : Journal D) (rest : IsAtRe
         → IsEither (contents_of state journal) (option_map (added entry) (contents_of state journal)) image (state journal.idle).seen
     either_appended image half =
         ⊎_elim
-        (λ m. record { means = inl (meaning_is journal.idle_open rest.contents image (state journal.idle).seen m rest.idle ∙ sym contents_are); first_whole = m.whole; second_whole = rest.idle_whole })
-        (λ m. record { means = inr (meaning_is journal.idle_open (added entry rest.contents) image (state journal.idle).seen m rest.idle ∙ sym appended_are); first_whole = m.whole; second_whole = rest.idle_whole })
+        (λ m. record {
+          means = inl (meaning_is journal.idle_open rest.contents image (state journal.idle).seen m rest.idle ∙ sym contents_are);
+          first_whole = m.whole;
+          second_whole = rest.idle_whole;
+        })
+        (λ m. record {
+          means = inr (meaning_is journal.idle_open (added entry rest.contents) image (state journal.idle).seen m rest.idle
+              ∙ sym appended_are);
+          first_whole = m.whole;
+          second_whole = rest.idle_whole;
+        })
         (while_appending (state journal.active).seen journal.gate rest.contents rest.front rest.inside rest.closed entry small image half)
 
     module _ (active : D) where
       -- at each moment of an append
-      pub append_moments : HasNoOther state journal.idle → LeavesOnly (state journal.active) (state active) (IsHalfWritten (state journal.active).seen journal.gate (entry_bytes entry ++ (0 ∷ [])))
-          → EachMoment state journal.active journal.idle active journal.idle (IsEither (contents_of state journal) (option_map (added entry) (contents_of state journal)))
+      pub append_moments : HasNoOther state journal.idle
+          → LeavesOnly (state journal.active) (state active) (IsHalfWritten (state journal.active).seen journal.gate (entry_bytes entry ++ (0 ∷ [])))
+          → EachMoment state journal.active journal.idle active journal.idle
+          (IsEither (contents_of state journal) (option_map (added entry) (contents_of state journal)))
       append_moments idle_only run = one_written state journal.active journal.idle active _ _ idle_only rest.idle_settled run either_appended
 
       module _ (written : (state active).seen ≡ with_gate (state journal.active).seen journal.gate (entry_bytes entry ++ (0 ∷ [])) 1) where
         pub appended_counts : meaning (state active).seen (state journal.idle).seen ≡ option_map (added entry) (contents_of state journal)
         appended_counts =
             meaning_is journal.idle_open (added entry rest.contents) (state active).seen (state journal.idle).seen
-            (subst (λ (l : List ℕ). Means l (Open (added entry rest.contents))) (sym written) (after_append (state journal.active).seen journal.gate rest.contents rest.front rest.inside rest.closed entry small)) rest.idle
+            (subst (λ (l : List ℕ). Means l (Open (added entry rest.contents))) (sym written)
+            (after_append (state journal.active).seen journal.gate rest.contents rest.front rest.inside rest.closed entry small)) rest.idle
             ∙ sym appended_are
 
         pub rests_after : (size : ℕ) (spent : Bool) → size ≡ length (entry_bytes entry ++ (0 ∷ [])) → IsSettled (state active)
-            → IsAtRest state (record { active = active; idle = journal.idle; swapped = journal.swapped; idle_open = journal.idle_open; generation = journal.generation; gate = journal.gate + size; spent = spent })
+            → IsAtRest state (record {
+              active = active;
+              idle = journal.idle;
+              swapped = journal.swapped;
+              idle_open = journal.idle_open;
+              generation =
+                  journal.generation;
+              gate = journal.gate + size;
+              spent = spent;
+            })
         rests_after size spent size_is settled =
             let file = (state journal.active).seen in
             let front = take journal.gate file ++ (1 ∷ entry_bytes entry) in
             let end = drop (journal.gate + 1 + length (entry_bytes entry ++ (0 ∷ []))) file in
-            let whole : (state active).seen ≡ front ++ (0 ∷ end) = written ∙ file_after file journal.gate rest.contents rest.front rest.inside rest.closed entry small in
-            let long : length front ≡ journal.gate + size = omega (arith, size_is, length-append (entry_bytes entry) (0 ∷ []), length-append (take journal.gate file) (1 ∷ entry_bytes entry), length-take journal.gate file, rest.inside) in
-            let front_is : take (journal.gate + size) (state active).seen ≡ front = ap (λ (l : List ℕ). take (journal.gate + size) l) whole ∙ take_at front (0 ∷ end) (journal.gate + size) long in
-            let gate_is : get_or (state active).seen (journal.gate + size) 0 ≡ 0 = ap (λ (l : List ℕ). get_or l (journal.gate + size) 0) whole ∙ ap (λ (n : ℕ). get_or (front ++ (0 ∷ end)) n 0) (sym long) ∙ get_or-append_seam front 0 end 0 in
+            let whole : (state active).seen ≡ front ++ (0 ∷ end) = written
+            ∙ file_after file journal.gate rest.contents rest.front rest.inside rest.closed entry small in
+            let long : length front ≡ journal.gate + size =
+            omega (
+              arith,
+              size_is,
+              length-append (entry_bytes entry) (0 ∷ []),
+              length-append (take journal.gate file)
+                  (1 ∷ entry_bytes entry),
+              length-take journal.gate file,
+              rest.inside,
+            ) in
+            let front_is : take (journal.gate + size) (state active).seen ≡ front = ap (λ (l : List ℕ). take (journal.gate + size) l) whole
+            ∙ take_at front (0 ∷ end) (journal.gate + size) long in
+            let gate_is : get_or (state active).seen (journal.gate + size) 0 ≡ 0 = ap (λ (l : List ℕ). get_or l (journal.gate + size) 0) whole
+            ∙ ap (λ (n : ℕ). get_or (front ++ (0 ∷ end)) n 0) (sym long) ∙ get_or-append_seam front 0 end 0 in
             record {
               contents = added entry rest.contents;
-              front = subst (λ (l : List ℕ). IsFront l (added entry rest.contents)) (sym front_is) (front_after file journal.gate rest.contents rest.front rest.inside rest.closed entry small);
+              front = subst (λ (l : List ℕ). IsFront l (added entry rest.contents)) (sym front_is)
+                  (front_after file journal.gate rest.contents rest.front rest.inside rest.closed entry small);
               inside = omega (arith, ap length whole, length-append front (0 ∷ end), long);
               closed = λ is_one. let both : 0 ≡ 1 = sym gate_is ∙ is_one in absurd (omega arith);
               generation = rest.generation;

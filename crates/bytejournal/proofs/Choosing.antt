@@ -30,11 +30,13 @@ found_contents found = record { generation = found.generation; base = found.base
 module _ (bytes : List ℕ) (found : Found) (is : IsFound bytes found) where
   held_rest : (rest : List ℕ) → drop found.gate bytes ≡ rest → held bytes ≡ Open (found_contents found)
   held_rest [] none =
-      let alone : bytes ≡ take found.gate bytes = sym (take-append-drop found.gate bytes) ∙ ap (λ (l : List ℕ). take found.gate bytes ++ l) none ∙ append-nil (take found.gate bytes) in
+      let alone : bytes ≡ take found.gate bytes = sym (take-append-drop found.gate bytes) ∙ ap (λ (l : List ℕ). take found.gate bytes ++ l) none
+      ∙ append-nil (take found.gate bytes) in
       ap held alone ∙ front_alone (take found.gate bytes) (found_contents found) is.front
   held_rest (gate ∷ rest) more =
       let inside : found.gate < length bytes = omega (arith, ap length more, length-drop found.gate bytes) in
-      let at_gate : get_or bytes found.gate 0 ≡ gate = ap (λ (n : ℕ). get_or bytes n 0) (omega arith) ∙ sym (get_or-drop found.gate bytes 0 0) ∙ ap (λ (l : List ℕ). get_or l 0 0) more in
+      let at_gate : get_or bytes found.gate 0 ≡ gate = ap (λ (n : ℕ). get_or bytes n 0) (omega arith) ∙ sym (get_or-drop found.gate bytes 0 0)
+      ∙ ap (λ (l : List ℕ). get_or l 0 0) more in
       ap held (sym (take-append-drop found.gate bytes) ∙ ap (λ (l : List ℕ). take found.gate bytes ++ l) more)
       ∙ front_closed (take found.gate bytes) (found_contents found) gate rest is.front (λ is_one. is.ends inside (at_gate ∙ is_one))
 
@@ -44,8 +46,10 @@ module _ (bytes : List ℕ) (found : Found) (is : IsFound bytes found) where
   -- where all gates are there, one ends the entries
   inside_rest : IsWhole bytes → (rest : List ℕ) → drop found.gate bytes ≡ rest → found.gate < length bytes
   inside_rest whole [] none =
-      let alone : bytes ≡ take found.gate bytes = sym (take-append-drop found.gate bytes) ∙ ap (λ (l : List ℕ). take found.gate bytes ++ l) none ∙ append-nil (take found.gate bytes) in
-      let cut : Broken ≡ Open (found_contents found) = sym (is.front (1 ∷ [])) ∙ ap (λ (l : List ℕ). held (l ++ 1 ∷ [])) (sym alone) ∙ whole (1 ∷ []) ∙ found_held in
+      let alone : bytes ≡ take found.gate bytes = sym (take-append-drop found.gate bytes) ∙ ap (λ (l : List ℕ). take found.gate bytes ++ l) none
+      ∙ append-nil (take found.gate bytes) in
+      let cut : Broken ≡ Open (found_contents found) = sym (is.front (1 ∷ [])) ∙ ap (λ (l : List ℕ). held (l ++ 1 ∷ [])) (sym alone) ∙ whole (1 ∷ [])
+      ∙ found_held in
       absurd (cc cut)
   inside_rest whole (gate ∷ rest) more = omega (arith, ap length more, length-drop found.gate bytes)
 
@@ -71,16 +75,22 @@ shut_rests generation (gate ∷ rest) ends inside = ((omega arith, ends (omega a
 pub shut_is_idle : (generation : ℕ) (bytes : List ℕ) → EndsAt bytes 0 → IsIdle false generation bytes 0
 shut_is_idle generation bytes ends = record { inside = λ whole. (shut_idle generation bytes ends whole).0; rests = shut_rests generation bytes ends }
 
-pub found_is_idle : (generation : ℕ) (bytes : List ℕ) (found : Found) → IsFound bytes found → found.generation < generation → IsIdle true generation bytes found.gate
+pub found_is_idle : (generation : ℕ) (bytes : List ℕ) (found : Found) → IsFound bytes found → found.generation < generation
+    → IsIdle true generation bytes found.gate
 found_is_idle generation bytes found is older = record {
   inside = found_inside bytes found is;
-  rests = λ inside. ((found_contents found, found_held bytes found is, older), (at_gate bytes found.gate (found_contents found) is.front inside (is.ends inside)).whole);
+  rests = λ inside. (
+    (found_contents found, found_held bytes found is, older),
+    (at_gate bytes found.gate (found_contents found) is.front inside (is.ends inside)).whole,
+  );
 }
 
 module _ {D : Type 0} (state : D → State) where
-  module _ (active idle : D) (swapped idle_open whole : Bool) (found : Found) (gate : ℕ) (is : IsFound (state active).seen found) (beside : IsIdle idle_open found.generation (state idle).seen gate)
+  module _ (active idle : D) (swapped idle_open whole : Bool) (found : Found) (gate : ℕ) (is : IsFound (state active).seen found)
+      (beside : IsIdle idle_open found.generation (state idle).seen gate)
       (test : IsTrue whole ↔ ((found.gate < length (state active).seen) × (gate < length (state idle).seen))) where
-    found_at_rest : IsSettled (state active) → IsSettled (state idle) → whole ≡ true → IsAtRest state (opened_as active idle swapped idle_open whole found).journal
+    found_at_rest : IsSettled (state active) → IsSettled (state idle) → whole ≡ true
+        → IsAtRest state (opened_as active idle swapped idle_open whole found).journal
     found_at_rest settled settled' is_whole =
         let inside = test.0 is_whole in
         record {
@@ -98,8 +108,10 @@ module _ {D : Type 0} (state : D → State) where
     found_whole : IsWhole (state active).seen → IsWhole (state idle).seen → whole ≡ true
     found_whole active_whole idle_whole = test.1 (found_inside (state active).seen found is active_whole, beside.inside idle_whole)
 
-  pub opens_first : (first second : D) (idle_open whole : Bool) (found : Found) (gate : ℕ) (result : Opened D) → result ≡ opened_as first second false idle_open whole found → IsFound (state first).seen found
-      → chosen (Open (found_contents found)) (held (state second).seen) ≡ Some (found_contents found) → IsIdle idle_open found.generation (state second).seen gate
+  pub opens_first : (first second : D) (idle_open whole : Bool) (found : Found) (gate : ℕ) (result : Opened D)
+      → result ≡ opened_as first second false idle_open whole found → IsFound (state first).seen found
+      → chosen (Open (found_contents found)) (held (state second).seen) ≡ Some (found_contents found)
+      → IsIdle idle_open found.generation (state second).seen gate
       → (IsTrue whole ↔ ((found.gate < length (state first).seen) × (gate < length (state second).seen))) → Chooses state first second (Ok result)
   opens_first first second idle_open whole found gate result is reads counts beside test =
       subst (λ r. Chooses state first second (Ok r)) (sym is) (
@@ -113,7 +125,8 @@ module _ {D : Type 0} (state : D → State) where
         },
       )
 
-  pub opens_second : (first second : D) (idle_open whole : Bool) (found : Found) (gate : ℕ) (result : Opened D) → result ≡ opened_as second first true idle_open whole found → IsFound (state second).seen found
+  pub opens_second : (first second : D) (idle_open whole : Bool) (found : Found) (gate : ℕ) (result : Opened D)
+      → result ≡ opened_as second first true idle_open whole found → IsFound (state second).seen found
       → chosen (Open (found_contents found)) (held (state first).seen) ≡ Some (found_contents found) → IsIdle idle_open found.generation (state first).seen gate
       → (IsTrue whole ↔ ((found.gate < length (state second).seen) × (gate < length (state first).seen))) → Chooses state first second (Ok result)
   opens_second first second idle_open whole found gate result is reads counts beside test =
@@ -121,7 +134,8 @@ module _ {D : Type 0} (state : D → State) where
         refl,
         refl,
         λ settled settled'. record {
-          found = ap (chosen (held (state first).seen)) (found_held (state second).seen found reads) ∙ chosen_comm (held (state first).seen) (Open (found_contents found)) ∙ counts;
+          found = ap (chosen (held (state first).seen)) (found_held (state second).seen found reads)
+              ∙ chosen_comm (held (state first).seen) (Open (found_contents found)) ∙ counts;
           going = refl;
           whole = λ first_whole second_whole. found_whole second first true idle_open whole found gate reads beside test second_whole first_whole;
           at_rest = found_at_rest second first true idle_open whole found gate reads beside test settled' settled;

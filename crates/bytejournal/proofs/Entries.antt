@@ -26,7 +26,8 @@ pub if_some : {T : Type 0} (test : Bool) (x y : T) → (if test then Some x else
 if_some true x y is = (refl, cc)
 if_some false x y is = absurd (cc is)
 
-sized_parts : (long : Bool) (n : ℕ) (bytes text rest : List ℕ) → counted_out (if long then Some (n, bytes) else None) ≡ Some (text, rest) → (long ≡ true) × (leb n (length bytes) ≡ true) × (take n bytes ≡ text) × (drop n bytes ≡ rest)
+sized_parts : (long : Bool) (n : ℕ) (bytes text rest : List ℕ) → counted_out (if long then Some (n, bytes) else None) ≡ Some (text, rest)
+    → (long ≡ true) × (leb n (length bytes) ≡ true) × (take n bytes ≡ text) × (drop n bytes ≡ rest)
 sized_parts true n bytes text rest is =
     let parts = if_some (leb n (length bytes)) (take n bytes, drop n bytes) (text, rest) is in
     (refl, parts.0, ap (λ (p : List ℕ × List ℕ). p.0) parts.1, ap (λ (p : List ℕ × List ℕ). p.1) parts.1)
@@ -45,7 +46,8 @@ sized_is bytes text rest is =
     let long : 4 ≤ length bytes = leb-true _ _ parts.0 in
     let fits : n ≤ length (drop 4 bytes) = leb-true _ _ parts.1 in
     record {
-      split = sym (take-append-drop 4 bytes) ∙ ap (λ (l : List ℕ). take 4 bytes ++ l) (sym (take-append-drop n (drop 4 bytes)) ∙ ap (λ (l : List ℕ). l ++ drop n (drop 4 bytes)) parts.2 ∙ ap (λ (l : List ℕ). text ++ l) parts.3) ∙ sym (append_assoc (take 4 bytes) text rest);
+      split = sym (take-append-drop 4 bytes) ∙ ap (λ (l : List ℕ). take 4 bytes ++ l) (sym (take-append-drop n (drop 4 bytes))
+          ∙ ap (λ (l : List ℕ). l ++ drop n (drop 4 bytes)) parts.2 ∙ ap (λ (l : List ℕ). text ++ l) parts.3) ∙ sym (append_assoc (take 4 bytes) text rest);
       four_bytes = omega (arith, length-take 4 bytes);
       number = omega (arith, fits, ap length parts.2, length-take n (drop 4 bytes));
     }
@@ -57,7 +59,9 @@ pub closed : (limit gate : ℕ) (rest : List ℕ) → gate ≢ 1 → entries_wit
 closed zero gate rest shut = refl
 closed (suc limit) gate rest shut = rw (eqb_not gate 1 shut) refl
 
-same_from : (low high : ℕ) (text : Option (List ℕ × List ℕ)) → ((first : List ℕ × List ℕ) → text ≡ Some first → entries_within low first.1 ≡ entries_within high first.1) → entries_from (λ more. entries_within low more) text ≡ entries_from (λ more. entries_within high more) text
+same_from : (low high : ℕ) (text : Option (List ℕ × List ℕ))
+    → ((first : List ℕ × List ℕ) → text ≡ Some first → entries_within low first.1 ≡ entries_within high first.1)
+    → entries_from (λ more. entries_within low more) text ≡ entries_from (λ more. entries_within high more) text
 same_from low high None same = refl
 same_from low high (Some first) same = ap (entry_before first.0) (same first refl)
 
@@ -76,7 +80,8 @@ same_within (suc low) (suc high) (gate ∷ rest) a b =
     same_within low high first.1 (omega (arith, shorter, a)) (omega (arith, shorter, b))))
 
 -- an open gate and a text are read as an entry before those in what follows
-pub open_entry : (four text rest : List ℕ) → length four ≡ 4 → from_be_bytes w32 four ≡ length text → entries_of (1 ∷ (four ++ text) ++ rest) ≡ entry_before text (entries_of rest)
+pub open_entry : (four text rest : List ℕ) → length four ≡ 4 → from_be_bytes w32 four ≡ length text
+    → entries_of (1 ∷ (four ++ text) ++ rest) ≡ entry_before text (entries_of rest)
 open_entry four text rest size is =
     ap (entries_from (λ more. entries_within (length ((four ++ text) ++ rest)) more)) (sized_at four text rest size is)
     ∙ ap (entry_before text) (same_within (length ((four ++ text) ++ rest)) (length rest) rest (omega (arith, length-append (four ++ text) rest)) (omega arith))

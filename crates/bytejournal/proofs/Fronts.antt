@@ -15,7 +15,8 @@ one_entry four text size is rest = open_entry four text rest size is ∙ before 
     before (Some entries) = refl
 
 pub more_entries : (front back : List ℕ) (old new : List (List ℕ)) → AreEntries front old → AreEntries back new → AreEntries (front ++ back) (old ++ new)
-more_entries front back old new are more rest = ap entries_of (append_assoc front back rest) ∙ are (back ++ rest) ∙ ap (all_before old) (more rest) ∙ before (entries_of rest)
+more_entries front back old new are more rest = ap entries_of (append_assoc front back rest) ∙ are (back ++ rest) ∙ ap (all_before old) (more rest)
+    ∙ before (entries_of rest)
   where
     before : (entries : Option (List (List ℕ))) → all_before old (all_before new entries) ≡ all_before (old ++ new) entries
     before None = refl
@@ -25,27 +26,33 @@ more_entries front back old new are more rest = ap entries_of (append_assoc fron
 abbrev pub with_entries : Contents → List (List ℕ) → Contents
 with_entries contents entries = record { generation = contents.generation; base = contents.base; entries = contents.entries ++ entries }
 
-pub front_more : (front back : List ℕ) (contents : Contents) (entries : List (List ℕ)) → IsFront front contents → AreEntries back entries → IsFront (front ++ back) (with_entries contents entries)
-front_more front back contents entries is are rest = ap held (append_assoc front back rest) ∙ is (back ++ rest) ∙ ap (extended contents) (are rest) ∙ before (entries_of rest)
+pub front_more : (front back : List ℕ) (contents : Contents) (entries : List (List ℕ)) → IsFront front contents → AreEntries back entries
+    → IsFront (front ++ back) (with_entries contents entries)
+front_more front back contents entries is are rest = ap held (append_assoc front back rest) ∙ is (back ++ rest) ∙ ap (extended contents) (are rest)
+    ∙ before (entries_of rest)
   where
     before : (more : Option (List (List ℕ))) → extended contents (all_before entries more) ≡ extended (with_entries contents entries) more
     before None = refl
-    before (Some more) = ap (λ (es : List (List ℕ)). Open (record { generation = contents.generation; base = contents.base; entries = es })) (sym (append_assoc contents.entries entries more))
+    before (Some more) = ap (λ (es : List (List ℕ)). Open (record { generation = contents.generation; base = contents.base; entries = es }))
+        (sym (append_assoc contents.entries entries more))
 
 -- the bytes before the first gate after a base
 abbrev pub start : List ℕ → List ℕ → List ℕ → List ℕ
 start generation size base = 1 ∷ (layout ++ (generation ++ (size ++ base)))
 
-pub front_start : (generation size base : List ℕ) → length generation ≡ 4 → length size ≡ 4 → from_be_bytes w32 size ≡ length base → IsFront (start generation size base) (record { generation = from_be_bytes w32 generation; base = base; entries = [] })
+pub front_start : (generation size base : List ℕ) → length generation ≡ 4 → length size ≡ 4 → from_be_bytes w32 size ≡ length base
+    → IsFront (start generation size base) (record { generation = from_be_bytes w32 generation; base = base; entries = [] })
 front_start generation size base g s is rest =
     ap from_generation (ap numbered (append_assoc generation (size ++ base) rest) ∙ numbered_at generation ((size ++ base) ++ rest) g)
     ∙ ap (from_base (from_be_bytes w32 generation)) (sized_at size base rest s is)
 
 nothing_more : (contents : Contents) → extended contents (Some []) ≡ Open contents
-nothing_more contents = ap (λ (es : List (List ℕ)). Open (record { generation = contents.generation; base = contents.base; entries = es })) (append-nil contents.entries)
+nothing_more contents = ap (λ (es : List (List ℕ)). Open (record { generation = contents.generation; base = contents.base; entries = es }))
+    (append-nil contents.entries)
 
 -- a closed gate ends the entries, whatever stands after it
-pub front_closed : (front : List ℕ) (contents : Contents) (gate : ℕ) (rest : List ℕ) → IsFront front contents → gate ≢ 1 → held (front ++ gate ∷ rest) ≡ Open contents
+pub front_closed : (front : List ℕ) (contents : Contents) (gate : ℕ) (rest : List ℕ) → IsFront front contents → gate ≢ 1
+    → held (front ++ gate ∷ rest) ≡ Open contents
 front_closed front contents gate rest is shut = is (gate ∷ rest) ∙ ap (extended contents) (closed (length (gate ∷ rest)) gate rest shut) ∙ nothing_more contents
 
 -- and so does a missing one
@@ -54,7 +61,8 @@ front_alone front contents is = ap held (sym (append-nil front)) ∙ is [] ∙ n
 
 pub whole_closed : (front : List ℕ) (contents : Contents) (gate : ℕ) (rest : List ℕ) → IsFront front contents → gate ≢ 1 → IsWhole (front ++ gate ∷ rest)
 whole_closed front contents gate rest is shut more =
-    ap held (append_assoc front (gate ∷ rest) more) ∙ front_closed front contents gate (rest ++ more) is shut ∙ sym (front_closed front contents gate rest is shut)
+    ap held (append_assoc front (gate ∷ rest) more) ∙ front_closed front contents gate (rest ++ more) is shut
+    ∙ sym (front_closed front contents gate rest is shut)
 
 -- where the first gate is closed nothing counts
 pub shut_gate : (gate : ℕ) (rest : List ℕ) → gate ≢ 1 → held (gate ∷ rest) ≡ Shut

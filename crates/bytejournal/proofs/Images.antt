@@ -14,12 +14,15 @@ pub record Means (image : List ℕ) (holds : Held) : Type 0 where
   pub held_is : held image ≡ holds
   pub whole : IsWhole image
 
-pub means_open : (front : List ℕ) (contents : Contents) (gate : ℕ) (rest image : List ℕ) → IsFront front contents → gate ≢ 1 → image ≡ front ++ (gate ∷ rest) → Means image (Open contents)
+pub means_open : (front : List ℕ) (contents : Contents) (gate : ℕ) (rest image : List ℕ) → IsFront front contents → gate ≢ 1
+    → image ≡ front ++ (gate ∷ rest) → Means image (Open contents)
 means_open front contents gate rest image is shut same =
-    subst (λ (l : List ℕ). Means l (Open contents)) (sym same) (record { held_is = front_closed front contents gate rest is shut; whole = whole_closed front contents gate rest is shut })
+    subst (λ (l : List ℕ). Means l (Open contents)) (sym same)
+    (record { held_is = front_closed front contents gate rest is shut; whole = whole_closed front contents gate rest is shut })
 
 pub means_shut : (gate : ℕ) (rest image : List ℕ) → gate ≢ 1 → image ≡ gate ∷ rest → Means image Shut
-means_shut gate rest image shut same = subst (λ (l : List ℕ). Means l Shut) (sym same) (record { held_is = shut_gate gate rest shut; whole = whole_shut gate rest shut })
+means_shut gate rest image shut same = subst (λ (l : List ℕ). Means l Shut) (sym same)
+    (record { held_is = shut_gate gate rest shut; whole = whole_shut gate rest shut })
 
 -- the bytes of an entry before its closed gate
 abbrev pub entry_bytes : List ℕ → List ℕ
@@ -28,7 +31,8 @@ entry_bytes entry = to_be_bytes w32 (length entry) ++ entry
 abbrev pub base_bytes : ℕ → List ℕ → List ℕ
 base_bytes generation base = layout ++ (to_be_bytes w32 generation ++ (to_be_bytes w32 (length base) ++ base))
 
-module _ (file : List ℕ) (gate : ℕ) (contents : Contents) (front : IsFront (take gate file) contents) (inside : gate < length file) (shut : get_or file gate 0 ≢ 1) where
+module _ (file : List ℕ) (gate : ℕ) (contents : Contents) (front : IsFront (take gate file) contents) (inside : gate < length file)
+    (shut : get_or file gate 0 ≢ 1) where
   gate_stands : take (gate + 1) file ≡ take gate file ++ (get_or file gate 0 ∷ [])
   gate_stands = let one : gate + 1 ≡ suc gate = omega arith in ap (λ (n : ℕ). take n file) one ∙ take-suc file gate 0 inside
 
@@ -36,7 +40,8 @@ module _ (file : List ℕ) (gate : ℕ) (contents : Contents) (front : IsFront (
   pub behind_gate : (image : List ℕ) → take (gate + 1) image ≡ take (gate + 1) file → Means image (Open contents)
   behind_gate image same =
       means_open (take gate file) contents (get_or file gate 0) (drop (gate + 1) image) image front shut
-      (sym (take-append-drop (gate + 1) image) ∙ ap (λ (l : List ℕ). l ++ drop (gate + 1) image) (same ∙ gate_stands) ∙ append_assoc (take gate file) (get_or file gate 0 ∷ []) (drop (gate + 1) image))
+      (sym (take-append-drop (gate + 1) image) ∙ ap (λ (l : List ℕ). l ++ drop (gate + 1) image) (same ∙ gate_stands)
+      ∙ append_assoc (take gate file) (get_or file gate 0 ∷ []) (drop (gate + 1) image))
 
   pub at_gate : Means file (Open contents)
   at_gate = behind_gate file refl
@@ -46,23 +51,32 @@ module _ (file : List ℕ) (gate : ℕ) (contents : Contents) (front : IsFront (
     text = entry_bytes entry ++ (0 ∷ [])
 
     pub front_after : IsFront (take gate file ++ (1 ∷ entry_bytes entry)) (added entry contents)
-    front_after = front_more (take gate file) (1 ∷ entry_bytes entry) contents (entry ∷ []) front (one_entry (to_be_bytes w32 (length entry)) entry refl (from_be_bytes-to_be_bytes_4 (length entry) small))
+    front_after = front_more (take gate file) (1 ∷ entry_bytes entry) contents (entry ∷ []) front
+        (one_entry (to_be_bytes w32 (length entry)) entry refl (from_be_bytes-to_be_bytes_4 (length entry) small))
 
-    pub file_after : with_gate file gate (entry_bytes entry ++ (0 ∷ [])) 1 ≡ (take gate file ++ (1 ∷ entry_bytes entry)) ++ (0 ∷ drop (gate + 1 + length (entry_bytes entry ++ (0 ∷ []))) file)
+    pub file_after : with_gate file gate (entry_bytes entry ++ (0 ∷ [])) 1
+        ≡ (take gate file ++ (1 ∷ entry_bytes entry)) ++ (0 ∷ drop (gate + 1 + length (entry_bytes entry ++ (0 ∷ []))) file)
     file_after =
         let rest = drop (gate + 1 + length (entry_bytes entry ++ (0 ∷ []))) file in
-        ap (λ (l : List ℕ). take gate file ++ (1 ∷ l)) (append_assoc (entry_bytes entry) (0 ∷ []) rest) ∙ sym (append_assoc (take gate file) (1 ∷ entry_bytes entry) (0 ∷ rest))
+        ap (λ (l : List ℕ). take gate file ++ (1 ∷ l)) (append_assoc (entry_bytes entry) (0 ∷ []) rest)
+        ∙ sym (append_assoc (take gate file) (1 ∷ entry_bytes entry) (0 ∷ rest))
 
     pub after_append : Means (with_gate file gate (entry_bytes entry ++ (0 ∷ [])) 1) (Open (added entry contents))
-    after_append = means_open (take gate file ++ (1 ∷ entry_bytes entry)) (added entry contents) 0 (drop (gate + 1 + length (entry_bytes entry ++ (0 ∷ []))) file) (with_gate file gate (entry_bytes entry ++ (0 ∷ [])) 1) front_after (omega arith) file_after
+    after_append = means_open (take gate file ++ (1 ∷ entry_bytes entry)) (added entry contents) 0
+        (drop (gate + 1 + length (entry_bytes entry ++ (0 ∷ []))) file) (with_gate file gate (entry_bytes entry ++ (0 ∷ [])) 1) front_after
+        (omega arith) file_after
 
     with_shut : (g : ℕ) → g ≢ 1 → Means (with_gate file gate (entry_bytes entry ++ (0 ∷ [])) g) (Open contents)
-    with_shut g closed = means_open (take gate file) contents g ((entry_bytes entry ++ (0 ∷ [])) ++ drop (gate + 1 + length (entry_bytes entry ++ (0 ∷ []))) file) (with_gate file gate (entry_bytes entry ++ (0 ∷ [])) g) front closed refl
+    with_shut g closed = means_open (take gate file) contents g
+        ((entry_bytes entry ++ (0 ∷ [])) ++ drop (gate + 1 + length (entry_bytes entry ++ (0 ∷ []))) file)
+        (with_gate file gate (entry_bytes entry ++ (0 ∷ [])) g) front closed refl
 
     -- while an entry is appended
-    pub while_appending : (image : List ℕ) → IsHalfWritten file gate (entry_bytes entry ++ (0 ∷ [])) image → Means image (Open contents) ⊎ Means image (Open (added entry contents))
+    pub while_appending : (image : List ℕ) → IsHalfWritten file gate (entry_bytes entry ++ (0 ∷ [])) image
+        → Means image (Open contents) ⊎ Means image (Open (added entry contents))
     while_appending image (inl same) = inl (behind_gate image same)
     while_appending image (inr torn) = elim (cases_eq torn.0 1) [
-      | inl is_one ↦ inr (subst (λ (l : List ℕ). Means l (Open (added entry contents))) (sym (torn.1 ∙ ap (λ (g : ℕ). with_gate file gate (entry_bytes entry ++ (0 ∷ [])) g) is_one)) after_append)
+      | inl is_one ↦ inr (subst (λ (l : List ℕ). Means l (Open (added entry contents)))
+          (sym (torn.1 ∙ ap (λ (g : ℕ). with_gate file gate (entry_bytes entry ++ (0 ∷ [])) g) is_one)) after_append)
       | inr closed ↦ inl (subst (λ (l : List ℕ). Means l (Open contents)) (sym torn.1) (with_shut torn.0 closed))
     ]

@@ -9,13 +9,16 @@ pub joined : (first second third : State) (P Q R : List ℕ → Type 0) → Leav
 joined first second third P Q R one two from_P from_Q = record {
   later = omega (arith, one.later, two.later);
   each = λ image left. ⊎_elim (λ earlier. from_P image (one.each image earlier)) (from_Q image) (two.before first.moment image one.later left);
-  before = λ t image le left. ⊎_elim (λ mid. ⊎_elim (λ earlier. inl earlier) (λ p. inr (from_P image p)) (one.before t image le mid)) (λ q. inr (from_Q image q)) (two.before t image (omega (arith, le, one.later)) left);
+  before = λ t image le left. ⊎_elim (λ mid. ⊎_elim (λ earlier. inl earlier) (λ p. inr (from_P image p)) (one.before t image le mid))
+      (λ q. inr (from_Q image q)) (two.before t image (omega (arith, le, one.later)) left);
 }
 
 -- a call that changes nothing
-pub kept : (old new : State) → IsSettled old → ((image : List ℕ) → old.left_since old.moment image → old.may_leave image) → SameBytes old new → LeavesOnly old new (λ image. image ≡ old.seen)
+pub kept : (old new : State) → IsSettled old → ((image : List ℕ) → old.left_since old.moment image → old.may_leave image) → SameBytes old new
+    → LeavesOnly old new (λ image. image ≡ old.seen)
 kept old new settled only same = record {
   later = same.time.later;
-  each = λ image left. ⊎_elim (λ earlier. settled image (only image earlier)) (λ now. settled image (same.left image now)) (same.time.nothing_else old.moment image (omega arith) left);
+  each = λ image left. ⊎_elim (λ earlier. settled image (only image earlier)) (λ now. settled image (same.left image now))
+      (same.time.nothing_else old.moment image (omega arith) left);
   before = λ t image le left. ⊎_elim (λ earlier. inl earlier) (λ now. inr (settled image (same.left image now))) (same.time.nothing_else t image le left);
 }

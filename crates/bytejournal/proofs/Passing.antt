@@ -5,7 +5,8 @@ use Rattle.bytejournal.specs.Meaning.{sized, all_before, entries_of, AreEntries}
 use Rattle.bytejournal.proofs.Entries.{Spelled, sized_is, cut_entry}
 use Rattle.bytejournal.proofs.Fronts.{one_entry, more_entries}
 
-module _ (bytes : List ℕ) (gate : ℕ) (texts : List (List ℕ)) (inside : gate < length bytes) (is_open : get_or bytes gate 0 ≡ 1) (so_far : AreEntries (take gate bytes) texts) where
+module _ (bytes : List ℕ) (gate : ℕ) (texts : List (List ℕ)) (inside : gate < length bytes) (is_open : get_or bytes gate 0
+    ≡ 1) (so_far : AreEntries (take gate bytes) texts) where
   opened : drop gate bytes ≡ 1 ∷ drop (gate + 1) bytes
   opened = drop_more bytes gate 0 inside ∙ ap (λ (g : ℕ). g ∷ drop (gate + 1) bytes) is_open
 
@@ -17,22 +18,34 @@ module _ (bytes : List ℕ) (gate : ℕ) (texts : List (List ℕ)) (inside : gat
     entry = 1 ∷ (take 4 (drop (gate + 1) bytes) ++ text)
 
     pub entry_inside : gate + (5 + length text) ≤ length bytes
-    entry_inside = omega (arith, ap length spelled.split, length-append (take 4 (drop (gate + 1) bytes) ++ text) rest, length-append (take 4 (drop (gate + 1) bytes)) text, spelled.four_bytes, length-drop (gate + 1) bytes)
+    entry_inside = omega (
+      arith,
+      ap length spelled.split,
+      length-append (take 4 (drop (gate + 1) bytes) ++ text) rest,
+      length-append
+          (take 4 (drop (gate + 1) bytes)) text,
+      spelled.four_bytes,
+      length-drop (gate + 1) bytes,
+    )
 
     front_is : take (gate + (5 + length text)) bytes ≡ take gate bytes ++ (1 ∷ (take 4 (drop (gate + 1) bytes) ++ text))
     front_is =
         let e = 1 ∷ (take 4 (drop (gate + 1) bytes) ++ text) in
         let whole : bytes ≡ (take gate bytes ++ e) ++ rest =
-        sym (take-append-drop gate bytes) ∙ ap (λ (l : List ℕ). take gate bytes ++ l) (opened ∙ ap (λ (l : List ℕ). 1 ∷ l) spelled.split) ∙ sym (append_assoc (take gate bytes) e rest) in
+        sym (take-append-drop gate bytes) ∙ ap (λ (l : List ℕ). take gate bytes ++ l) (opened ∙ ap (λ (l : List ℕ). 1 ∷ l) spelled.split)
+        ∙ sym (append_assoc (take gate bytes) e rest) in
         ap (λ (l : List ℕ). take (gate + (5 + length text)) l) whole
-        ∙ take_at (take gate bytes ++ e) rest (gate + (5 + length text)) (omega (arith, length-append (take gate bytes) e, length-append (take 4 (drop (gate + 1) bytes)) text, spelled.four_bytes, length-take gate bytes))
+        ∙ take_at (take gate bytes ++ e) rest (gate + (5 + length text))
+        (omega (arith, length-append (take gate bytes) e, length-append (take 4 (drop (gate + 1) bytes)) text, spelled.four_bytes, length-take gate bytes))
 
     -- one entry more
     pub entries_go_on : AreEntries (take (gate + (5 + length text)) bytes) (texts ++ text ∷ [])
     entries_go_on =
         subst (λ (front : List ℕ). AreEntries front (texts ++ text ∷ [])) (sym front_is)
-        (more_entries (take gate bytes) (1 ∷ (take 4 (drop (gate + 1) bytes) ++ text)) texts (text ∷ []) so_far (one_entry (take 4 (drop (gate + 1) bytes)) text spelled.four_bytes spelled.number))
+        (more_entries (take gate bytes) (1 ∷ (take 4 (drop (gate + 1) bytes) ++ text)) texts (text ∷ []) so_far
+        (one_entry (take 4 (drop (gate + 1) bytes)) text spelled.four_bytes spelled.number))
 
   -- an entry that is cut short
   pub entries_cut : sized (drop (gate + 1) bytes) ≡ None → entries_of bytes ≡ None
-  entries_cut cut = ap entries_of (sym (take-append-drop gate bytes)) ∙ so_far (drop gate bytes) ∙ ap (all_before texts) (ap entries_of opened ∙ cut_entry (drop (gate + 1) bytes) cut)
+  entries_cut cut = ap entries_of (sym (take-append-drop gate bytes)) ∙ so_far (drop gate bytes)
+      ∙ ap (all_before texts) (ap entries_of opened ∙ cut_entry (drop (gate + 1) bytes) cut)

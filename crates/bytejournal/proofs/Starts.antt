@@ -19,7 +19,8 @@ numbered_is bytes number rest is =
     let parts = if_some (leb 4 (length bytes)) (from_be_bytes w32 (take 4 bytes), drop 4 bytes) (number, rest) is in
     record { long = leb-true _ _ parts.0; number_is = ap (λ (p : ℕ × List ℕ). p.0) parts.1; rest_is = ap (λ (p : ℕ × List ℕ). p.1) parts.1 }
 
-module _ (bytes numbers sizes base rest : List ℕ) (generation : ℕ) (letters : bytes ≡ layout ++ numbers) (number : numbered numbers ≡ Some (generation, sizes)) (text : sized sizes ≡ Some (base, rest)) where
+module _ (bytes numbers sizes base rest : List ℕ) (generation : ℕ) (letters : bytes ≡ layout ++ numbers) (number : numbered numbers
+    ≡ Some (generation, sizes)) (text : sized sizes ≡ Some (base, rest)) where
   four : List ℕ
   four = take 4 numbers
 
@@ -32,10 +33,19 @@ module _ (bytes numbers sizes base rest : List ℕ) (generation : ℕ) (letters 
   split : 1 ∷ bytes ≡ start (take 4 numbers) (take 4 sizes) base ++ rest
   split =
       ap (λ (l : List ℕ). 1 ∷ l) (letters ∙ ap (λ (l : List ℕ). layout ++ l)
-      (sym (take-append-drop 4 numbers) ∙ ap (λ (l : List ℕ). take 4 numbers ++ l) (is_number.rest_is ∙ spelled.split) ∙ sym (append_assoc (take 4 numbers) (take 4 sizes ++ base) rest)))
+      (sym (take-append-drop 4 numbers) ∙ ap (λ (l : List ℕ). take 4 numbers ++ l) (is_number.rest_is ∙ spelled.split)
+      ∙ sym (append_assoc (take 4 numbers) (take 4 sizes ++ base) rest)))
 
   size : length (start (take 4 numbers) (take 4 sizes) base) ≡ 14 + length base
-  size = omega (arith, length-take 4 numbers, is_number.long, spelled.four_bytes, length-append (take 4 numbers) (take 4 sizes ++ base), length-append (take 4 sizes) base)
+  size = omega (
+    arith,
+    length-take 4 numbers,
+    is_number.long,
+    spelled.four_bytes,
+    length-append (take 4 numbers) (take 4 sizes ++ base),
+    length-append
+        (take 4 sizes) base,
+  )
 
   pub start_size : length bytes ≡ 13 + length base + length rest
   start_size = omega (arith, size, ap length split, length-append (start (take 4 numbers) (take 4 sizes) base) rest)
@@ -44,18 +54,21 @@ module _ (bytes numbers sizes base rest : List ℕ) (generation : ℕ) (letters 
   front = subst (λ (g : ℕ). IsFront (start (take 4 numbers) (take 4 sizes) base) (record { generation = g; base = base; entries = [] })) is_number.number_is
       (front_start (take 4 numbers) (take 4 sizes) base (omega (arith, length-take 4 numbers, is_number.long)) spelled.four_bytes spelled.number)
 
-  pub is_found : (found : Entries) → HasEntries rest found → IsFound (1 ∷ bytes) (record { generation = generation; base = base; entries = found.texts; gate = 14 + length base + found.gate })
+  pub is_found : (found : Entries) → HasEntries rest found
+      → IsFound (1 ∷ bytes) (record { generation = generation; base = base; entries = found.texts; gate = 14 + length base + found.gate })
   is_found found has =
       let s = start (take 4 numbers) (take 4 sizes) base in
       let gate = 14 + length base + found.gate in
       let whole : 1 ∷ bytes ≡ (s ++ take found.gate rest) ++ drop found.gate rest =
       split ∙ ap (λ (l : List ℕ). s ++ l) (sym (take-append-drop found.gate rest)) ∙ sym (append_assoc s (take found.gate rest) (drop found.gate rest)) in
       let is_front : take gate (1 ∷ bytes) ≡ s ++ take found.gate rest =
-      ap (λ (l : List ℕ). take gate l) whole ∙ take_at (s ++ take found.gate rest) (drop found.gate rest) gate (omega (arith, size, length-append s (take found.gate rest), length-take found.gate rest, has.inside)) in
+      ap (λ (l : List ℕ). take gate l) whole ∙ take_at (s ++ take found.gate rest) (drop found.gate rest) gate
+      (omega (arith, size, length-append s (take found.gate rest), length-take found.gate rest, has.inside)) in
       record {
         inside = omega (arith, start_size, has.inside);
         front = subst (λ (f : List ℕ). IsFront f (record { generation = generation; base = base; entries = found.texts })) (sym is_front)
             (front_more s (take found.gate rest) (record { generation = generation; base = base; entries = [] }) found.texts front has.entries);
         ends = λ inside is_open. has.ends (omega (arith, inside, start_size))
-            (sym (get_or-append-add s rest found.gate 0) ∙ ap (λ (l : List ℕ). get_or l (length s + found.gate) 0) (sym split) ∙ ap (λ (n : ℕ). get_or (1 ∷ bytes) n 0) (omega (arith, size)) ∙ is_open);
+            (sym (get_or-append-add s rest found.gate 0) ∙ ap (λ (l : List ℕ). get_or l (length s + found.gate) 0) (sym split)
+            ∙ ap (λ (n : ℕ). get_or (1 ∷ bytes) n 0) (omega (arith, size)) ∙ is_open);
       }

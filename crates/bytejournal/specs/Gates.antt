@@ -22,4 +22,5 @@ closed_first is_open file = if is_open then with_first file 0 else file
 -- what a crash may leave while a file is replaced: another first gate, where it stood open, or the file with that gate
 -- closed and the text half written
 abbrev pub IsHalfReplaced : Bool → List ℕ → List ℕ → List ℕ → Type 0
-IsHalfReplaced is_open file text image = ((gate : ℕ) × (is_open ≡ true) × (image ≡ with_first file gate)) ⊎ IsHalfWritten (closed_first is_open file) 0 text image
+IsHalfReplaced is_open file text image = ((gate : ℕ) × (is_open ≡ true) × (image ≡ with_first file gate))
+    ⊎ IsHalfWritten (closed_first is_open file) 0 text image

@@ -63,7 +63,8 @@ module _ {D : Type 0} (state : D → State) where
 
   -- a disk failed between these two states
   abbrev pub DiskFailed : Journal D → Journal D → Type 0
-  DiskFailed old new = Rose (state (first_disk old)).failed (state (first_disk new)).failed ⊎ Rose (state (second_disk old)).failed (state (second_disk new)).failed
+  DiskFailed old new = Rose (state (first_disk old)).failed (state (first_disk new)).failed
+      ⊎ Rose (state (second_disk old)).failed (state (second_disk new)).failed
 
   -- both disks are as they were
   abbrev pub SameDisks : Journal D → Journal D → Type 0
@@ -80,9 +81,11 @@ module _ {D : Type 0} (state : D → State) where
 
   -- Putting another base in place, by cases on the answer.
   abbrev pub Rebases : Journal D → List ℕ → Result (Unit {0}) (Failure JournalFault) → Journal D → Type 0
-  Rebases old base (Ok _) new = (old.spent ≡ false) × (new.spent ≡ false) × (new.generation ≡ old.generation + 1) × (contents_of new ≡ option_map (rebased base) (contents_of old))
+  Rebases old base (Ok _) new = (old.spent ≡ false) × (new.spent ≡ false) × (new.generation ≡ old.generation + 1)
+      × (contents_of new ≡ option_map (rebased base) (contents_of old))
   Rebases old base (Err (Refused DiskFault)) new = (old.spent ≡ false) × (new.spent ≡ true) × DiskFailed old new
   Rebases old base (Err (Refused NotAJournal)) new = ⊥
   Rebases old base (Err (Refused Spent)) new = (old.spent ≡ true) × (new ≡ old)
   Rebases old base (Err (Refused GenerationsSpent)) new = (old.spent ≡ false) × (old.generation ≡ 2 ^ 32 - 1) × (new ≡ old)
-  Rebases old base (Err NoMemory) new = (old.spent ≡ false) × (old.generation < 2 ^ 32 - 1) × (new.spent ≡ false) × SameDisks old new × (contents_of new ≡ contents_of old)
+  Rebases old base (Err NoMemory) new = (old.spent ≡ false) × (old.generation < 2 ^ 32 - 1) × (new.spent ≡ false) × SameDisks old new
+      × (contents_of new ≡ contents_of old)

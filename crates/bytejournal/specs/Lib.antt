@@ -1,3 +1,4 @@
+pub mod Faults
 pub mod Gates
 pub mod Meaning
 pub mod Reading

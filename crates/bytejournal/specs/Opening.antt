@@ -58,14 +58,24 @@ new_text base = (layout ++ (to_be_bytes w32 1 ++ (to_be_bytes w32 (length base) 
 
 -- writing a new journal, by cases on the answer
 abbrev pub WritesNew : State → State → List ℕ → Result (Unit {0}) (Failure JournalFault) → State → State → Type 0
-WritesNew first second base (Ok _) first' second' = (first'.seen ≡ with_gate (with_first first.seen 0) 0 (new_text base) 1) × (second'.seen ≡ with_first second.seen 0) × IsSettled first' × IsSettled second'
+WritesNew first second base (Ok _) first' second' = (first'.seen ≡ with_gate (with_first first.seen 0) 0 (new_text base) 1)
+    × (second'.seen ≡ with_first second.seen 0) × IsSettled first' × IsSettled second'
 WritesNew first second base (Err error) first' second' = CannotCreate first second error first' second'
 
 module _ {D : Type 0} where
   -- the journal that was found on the active disk
   abbrev pub opened_as : D → D → Bool → Bool → Bool → Found → Opened D
   opened_as active idle swapped idle_open whole found = record {
-    journal = record { active = active; idle = idle; swapped = swapped; idle_open = idle_open; generation = found.generation; gate = found.gate; spent = false };
+    journal = record {
+      active = active;
+      idle = idle;
+      swapped = swapped;
+      idle_open = idle_open;
+      generation = found.generation;
+      gate =
+          found.gate;
+      spent = false;
+    };
     base = found.base;
     entries = found.entries;
     whole = whole;
@@ -96,13 +106,17 @@ module _ {D : Type 0} (state : D → State) where
 
   -- choosing the active disk, by cases on the answer: the disks are handed on as they are
   abbrev pub Chooses : D → D → Result (Opened D) (Returned D) → Type 0
-  Chooses first second (Ok opened) = (first_disk opened.journal ≡ first) × (second_disk opened.journal ≡ second) × (IsSettled (state first) → IsSettled (state second) → IsOpened (state first).seen (state second).seen opened)
-  Chooses first second (Err returned) = (returned.error ≡ Refused NotAJournal) × (meaning (state first).seen (state second).seen ≡ None) × (returned.disks.first ≡ first) × (returned.disks.second ≡ second)
+  Chooses first second (Ok opened) = (first_disk opened.journal ≡ first) × (second_disk opened.journal ≡ second)
+      × (IsSettled (state first) → IsSettled (state second) → IsOpened (state first).seen (state second).seen opened)
+  Chooses first second (Err returned) = (returned.error ≡ Refused NotAJournal) × (meaning (state first).seen (state second).seen ≡ None)
+      × (returned.disks.first ≡ first) × (returned.disks.second ≡ second)
 
   -- Opening a journal, by cases on the answer.
   abbrev pub Opens : D → D → Result (Opened D) (Returned D) → Type 0
-  Opens first second (Ok opened) = IsOpened (state first).seen (state second).seen opened × Untouched (state first) (state (first_disk opened.journal)) × Untouched (state second) (state (second_disk opened.journal))
-  Opens first second (Err returned) = Refuses first second returned.error returned.disks.first returned.disks.second × Untouched (state first) (state returned.disks.first) × Untouched (state second) (state returned.disks.second)
+  Opens first second (Ok opened) = IsOpened (state first).seen (state second).seen opened
+      × Untouched (state first) (state (first_disk opened.journal)) × Untouched (state second) (state (second_disk opened.journal))
+  Opens first second (Err returned) = Refuses first second returned.error returned.disks.first returned.disks.second
+      × Untouched (state first) (state returned.disks.first) × Untouched (state second) (state returned.disks.second)
 
   -- Making a journal, by cases on the answer.
   abbrev pub Creates : D → D → List ℕ → Result (Journal D) (Returned D) → Type 0
@@ -111,4 +125,5 @@ module _ {D : Type 0} (state : D → State) where
 
   -- Opening a journal again on what a crash left of its disks.
   abbrev pub Restarts : Journal D → Result (Opened D) (Returned D) → Type 0
-  Restarts journal result = (first : D) × (second : D) × Reopened (state (first_disk journal)) (state first) × Reopened (state (second_disk journal)) (state second) × Opens first second result
+  Restarts journal result = (first : D) × (second : D) × Reopened (state (first_disk journal)) (state first)
+      × Reopened (state (second_disk journal)) (state second) × Opens first second result

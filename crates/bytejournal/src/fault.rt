@@ -1,4 +1,7 @@
 // Why a journal refuses a call.
+ghost use Rattle.std.specs.Prelude.{◌≡◌};
+ghost use Rattle.bytejournal.specs.Faults.{code_of};
+
 use bytetext::Failure;
 use thiserror::Error;
 
@@ -18,6 +21,20 @@ pub enum JournalFault {
     /// The generations are used up, so no other base can be written.
     #[error("the generations are used up: create a new journal")]
     GenerationsSpent,
+}
+
+impl JournalFault {
+    /// The short code that transcripts print: `J1` to `J4`.
+    pub fn code(self) -> &'static str
+        ensures { result.now ≡ code_of self }
+    {
+        match self {
+            JournalFault::DiskFault => "J1",
+            JournalFault::NotAJournal => "J2",
+            JournalFault::Spent => "J3",
+            JournalFault::GenerationsSpent => "J4",
+        }
+    }
 }
 
 /// Why a journal's call did nothing, or left open whether it did. A journal tests for faults first and makes all room

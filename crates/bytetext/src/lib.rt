@@ -6,6 +6,7 @@
 //! `Vec` and give it back without taking memory.
 //!
 //! [`NoMemory`] is the one answer where a growth is refused. It comes from either of the allocator's errors by `?`.
+//! [`MOMENTS_END`] bounds the seconds that clocks, queues and bans count.
 //!
 //! ```text
 //! let name = Text::from_slice(alloc, b"egg0")?;
@@ -15,10 +16,12 @@
 
 mod failure;
 mod memory;
+mod moment;
 mod seq;
 mod text;
 
 pub use crate::failure::{Failure, refuse};
 pub use crate::memory::NoMemory;
+pub use crate::moment::MOMENTS_END;
 pub use crate::seq::{Seq, TryCopy, copies_of};
 pub use crate::text::{Text, Texts};

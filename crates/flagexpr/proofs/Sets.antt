@@ -101,10 +101,12 @@ pow_test : (b letter : ℕ) → is_ascii_alphabetic b ≡ true → is_ascii_alph
 pow_test b letter hb hl =
     ⊎_elim
     (λ same. ap (λ k. eqb (bit_at (2 ^ place_of b) (place_of k)) 1) (sym same) ∙ ap (λ k. eqb k 1) (bit_at-pow_same (place_of b)) ∙ sym (eq-eqb b letter same))
-    (λ other. ap (λ k. eqb k 1) (bit_at-pow_other (place_of b) (place_of letter) (λ e. other (same_from_place_of b letter hb hl (sym e)))) ∙ sym (ne_eqb b letter other))
+    (λ other. ap (λ k. eqb k 1) (bit_at-pow_other (place_of b) (place_of letter) (λ e. other (same_from_place_of b letter hb hl (sym e))))
+    ∙ sym (ne_eqb b letter other))
     (cases_eq b letter)
 
-with_letter-yes : (flags b letter : ℕ) → is_ascii_alphabetic b ≡ true → is_ascii_alphabetic letter ≡ true → has_letter (with_letter flags b) letter ≡ (has_letter flags letter || eqb b letter)
+with_letter-yes : (flags b letter : ℕ) → is_ascii_alphabetic b ≡ true → is_ascii_alphabetic letter ≡ true
+    → has_letter (with_letter flags b) letter ≡ (has_letter flags letter || eqb b letter)
 unfolding with_letter
 with_letter-yes flags b letter hb hl =
     ap (λ t. has_letter (cond t (bit_or flags (2 ^ place_of b)) flags) letter) hb
@@ -119,13 +121,15 @@ or-false true = refl
 or-false false = refl
 
 -- what is no letter is not the letter that one looks for
-with_letter-no : (flags b letter : ℕ) → is_ascii_alphabetic b ≡ false → is_ascii_alphabetic letter ≡ true → has_letter (with_letter flags b) letter ≡ (has_letter flags letter || eqb b letter)
+with_letter-no : (flags b letter : ℕ) → is_ascii_alphabetic b ≡ false → is_ascii_alphabetic letter ≡ true
+    → has_letter (with_letter flags b) letter ≡ (has_letter flags letter || eqb b letter)
 unfolding with_letter
 with_letter-no flags b letter hb hl =
     ap (λ t. has_letter (cond t (bit_or flags (2 ^ place_of b)) flags) letter) hb ∙ or-false (has_letter flags letter)
     ∙ ap (λ t. has_letter flags letter || t) (sym (ne_eqb b letter (λ e. absurd (false≢true (sym hb ∙ ap is_ascii_alphabetic e ∙ hl)))))
 
-has_letter-with_letter : (flags b letter : ℕ) → is_ascii_alphabetic letter ≡ true → has_letter (with_letter flags b) letter ≡ (has_letter flags letter || eqb b letter)
+has_letter-with_letter : (flags b letter : ℕ) → is_ascii_alphabetic letter ≡ true
+    → has_letter (with_letter flags b) letter ≡ (has_letter flags letter || eqb b letter)
 has_letter-with_letter flags b letter hl =
     ⊎_elim (λ yes. with_letter-yes flags b letter yes hl) (λ none. with_letter-no flags b letter none hl) (cases_Bool (is_ascii_alphabetic b))
 
@@ -133,7 +137,8 @@ or_assoc : (a b c : Bool) → ((a || b) || c) ≡ (a || (b || c))
 or_assoc true b c = refl
 or_assoc false b c = refl
 
-has_letter-fold : (flags : ℕ) (bytes : List ℕ) (letter : ℕ) → is_ascii_alphabetic letter ≡ true → has_letter (fold with_letter flags bytes) letter ≡ (has_letter flags letter || list_any (λ b. eqb b letter) bytes)
+has_letter-fold : (flags : ℕ) (bytes : List ℕ) (letter : ℕ) → is_ascii_alphabetic letter ≡ true
+    → has_letter (fold with_letter flags bytes) letter ≡ (has_letter flags letter || list_any (λ b. eqb b letter) bytes)
 has_letter-fold flags [] letter hl = or-false (has_letter flags letter)
 has_letter-fold flags (b ∷ bytes) letter hl =
     has_letter-fold (with_letter flags b) bytes letter hl
@@ -144,7 +149,8 @@ has_letter-fold flags (b ∷ bytes) letter hl =
 pub has_letter-set_of : (bytes : List ℕ) (letter : ℕ) → has_letter (set_of bytes) letter ≡ (is_ascii_alphabetic letter && list_any (λ b. eqb b letter) bytes)
 has_letter-set_of bytes letter =
     ⊎_elim
-    (λ yes. has_letter-fold 0 bytes letter yes ∙ ap (λ t. t || list_any (λ b. eqb b letter) bytes) (has_letter-empty letter) ∙ ap (λ t. t && list_any (λ b. eqb b letter) bytes) (sym yes))
+    (λ yes. has_letter-fold 0 bytes letter yes ∙ ap (λ t. t || list_any (λ b. eqb b letter) bytes) (has_letter-empty letter)
+    ∙ ap (λ t. t && list_any (λ b. eqb b letter) bytes) (sym yes))
     (λ none. has_letter-no (set_of bytes) letter none ∙ ap (λ t. t && list_any (λ b. eqb b letter) bytes) (sym none))
     (cases_Bool (is_ascii_alphabetic letter))
 
@@ -192,8 +198,10 @@ apart_at a b e letter =
 within_at : (a b : ℕ) → bit_and a b ≡ a → (letter : ℕ) → cond (has_letter a letter) (has_letter b letter) true ≡ true
 within_at a b e letter =
     ⊎_elim
-    (λ yes. ap (λ t. cond t (has_letter b letter) true) (has_letter-yes a letter yes) ∙ ap (λ t. cond (eqb (bit_at a (place_of letter)) 1) t true) (has_letter-yes b letter yes)
-    ∙ bit_within _ _ (bit_at-lt a (place_of letter)) (bit_at-lt b (place_of letter)) (sym (bit_at_and a b (place_of letter)) ∙ ap (λ n. bit_at n (place_of letter)) e))
+    (λ yes. ap (λ t. cond t (has_letter b letter) true) (has_letter-yes a letter yes)
+    ∙ ap (λ t. cond (eqb (bit_at a (place_of letter)) 1) t true) (has_letter-yes b letter yes)
+    ∙ bit_within _ _ (bit_at-lt a (place_of letter)) (bit_at-lt b (place_of letter)) (sym (bit_at_and a b (place_of letter))
+    ∙ ap (λ n. bit_at n (place_of letter)) e))
     (λ none. ap (λ t. cond t (has_letter b letter) true) (has_letter-no a letter none))
     (cases_Bool (is_ascii_alphabetic letter))
 
@@ -203,7 +211,8 @@ apart_from_letters a b small h =
     same_from_bits_below 52 (bit_and a b) 0 below (omega arith)
     (λ i within. bit_at_and a b i
     ∙ bit_none _ _ (bit_at-lt a i) (bit_at-lt b i)
-    (ap (λ t. t && eqb (bit_at b i) 1) (sym (has_letter-letter_at a i within)) ∙ ap (λ t. has_letter a (letter_at i) && t) (sym (has_letter-letter_at b i within))
+    (ap (λ t. t && eqb (bit_at b i) 1) (sym (has_letter-letter_at a i within))
+    ∙ ap (λ t. has_letter a (letter_at i) && t) (sym (has_letter-letter_at b i within))
     ∙ fails_each (λ letter. has_letter a letter && has_letter b letter) h i within)
     ∙ sym (bit_at-zero i))
 
@@ -213,7 +222,8 @@ within_from_letters a b small h =
     same_from_bits_below 52 (bit_and a b) a below small
     (λ i within. bit_at_and a b i
     ∙ bit_kept _ _ (bit_at-lt a i) (bit_at-lt b i)
-    (ap (λ t. cond t (eqb (bit_at b i) 1) true) (sym (has_letter-letter_at a i within)) ∙ ap (λ t. cond (has_letter a (letter_at i)) t true) (sym (has_letter-letter_at b i within))
+    (ap (λ t. cond t (eqb (bit_at b i) 1) true) (sym (has_letter-letter_at a i within))
+    ∙ ap (λ t. cond (has_letter a (letter_at i)) t true) (sym (has_letter-letter_at b i within))
     ∙ passes_each (λ letter. cond (has_letter a letter) (has_letter b letter) true) h i within))
 
 -- sets share a letter where they share a bit
@@ -244,7 +254,9 @@ and-true : (t : Bool) → (t && true) ≡ t
 and-true true = refl
 and-true false = refl
 
-any_kept_same : (p : ℕ → Bool) (letter x : ℕ) (xs : List ℕ) → x ≡ letter → list_any (λ b. eqb b letter) (filter p xs) ≡ (p letter && list_any (λ b. eqb b letter) xs) → list_any (λ b. eqb b letter) (filter p (x ∷ xs)) ≡ (p letter && list_any (λ b. eqb b letter) (x ∷ xs))
+any_kept_same : (p : ℕ → Bool) (letter x : ℕ) (xs : List ℕ) → x ≡ letter
+    → list_any (λ b. eqb b letter) (filter p xs) ≡ (p letter && list_any (λ b. eqb b letter) xs)
+    → list_any (λ b. eqb b letter) (filter p (x ∷ xs)) ≡ (p letter && list_any (λ b. eqb b letter) (x ∷ xs))
 any_kept_same p letter x xs same h =
     ⊎_elim
     (λ yes. ap (λ t. list_any (λ b. eqb b letter) (cond t (x ∷ filter p xs) (filter p xs))) (ap p same ∙ yes)
@@ -256,7 +268,9 @@ any_kept_same p letter x xs same h =
     ∙ ap (λ t. t && list_any (λ b. eqb b letter) (x ∷ xs)) (sym none))
     (cases_Bool (p letter))
 
-any_kept_other : (p : ℕ → Bool) (letter x : ℕ) (xs : List ℕ) → x ≢ letter → list_any (λ b. eqb b letter) (filter p xs) ≡ (p letter && list_any (λ b. eqb b letter) xs) → list_any (λ b. eqb b letter) (filter p (x ∷ xs)) ≡ (p letter && list_any (λ b. eqb b letter) (x ∷ xs))
+any_kept_other : (p : ℕ → Bool) (letter x : ℕ) (xs : List ℕ) → x ≢ letter
+    → list_any (λ b. eqb b letter) (filter p xs) ≡ (p letter && list_any (λ b. eqb b letter) xs)
+    → list_any (λ b. eqb b letter) (filter p (x ∷ xs)) ≡ (p letter && list_any (λ b. eqb b letter) (x ∷ xs))
 any_kept_other p letter x xs other h =
     ⊎_elim
     (λ yes. ap (λ t. list_any (λ b. eqb b letter) (cond t (x ∷ filter p xs) (filter p xs))) yes

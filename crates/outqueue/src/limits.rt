@@ -14,6 +14,3 @@ pub const COST: u64 = 2;
 
 /// How many lines go at one moment at most: those that cost as many seconds as the timer may get ahead.
 pub const MAX_AT_ONCE: usize = 5;
-
-/// The first second after the year 2999: moments are the whole seconds before it.
-pub const MOMENTS_END: u64 = 32_503_680_000;

@@ -7,10 +7,10 @@ ghost use Rattle.outqueue.specs.Refusals.{refusal, Puts, PutsReserved};
 
 use crate::fault::{PutError, QueueFault};
 use crate::lane::Lane;
-use crate::limits::{AHEAD, COST, MAX_AT_ONCE, MAX_LINES, MOMENTS_END};
+use crate::limits::{AHEAD, COST, MAX_AT_ONCE, MAX_LINES};
 use crate::line::is_bad_line;
 use crate::queue::{Queue, Which};
-use bytetext::{Failure, NoMemory, Text, Texts, TryCopy, refuse};
+use bytetext::{Failure, MOMENTS_END, NoMemory, Text, Texts, TryCopy, refuse};
 use std::alloc::Global;
 use std::marker::Model;
 

@@ -1,9 +1,10 @@
 -- Texts that are the same by casemapping, and folded texts as keys: for callers.
 use Rattle.std.proofs.Common.{◌≡◌, ◌≢◌, ◌↔◌, ℕ, ◌<◌, ◌++◌, true, List, [], ◌∷◌, length, nat_eq, get_or, refl, sym, ◌∙◌, ap, arith}
-use Rattle.std.proofs.lemmas.Bool.Decides.{nat_tests}
+use Rattle.std.specs.Bool.{Decides}
+use Rattle.std.proofs.lemmas.Bool.Decides.{nat_tests, same_from_decides}
 use Rattle.std.proofs.lemmas.List.{get_or-map, length-map, map-append}
 use Rattle.std.specs.Cmp.Lexicographic.{pointwise, bytes_decides}
-use Rattle.rfccase.specs.Casemapping.{low, folded, IsSame}
+use Rattle.rfccase.specs.Casemapping.{low, folded, IsSame, is_same}
 
 -- ---- being the same is an equivalence
 
@@ -31,6 +32,13 @@ low-low b = grind (arith, nat_tests)
 pub folded-folded : (text : List ℕ) → folded (folded text) ≡ folded text
 folded-folded [] = refl
 folded-folded (b ∷ text) = cc (low-low b, folded-folded text)
+
+-- the test and the relation agree, and so do both orders of the test
+pub is_same-Decides : (a b : List ℕ) → Decides (is_same a b) (IsSame a b)
+is_same-Decides a b = bytes_decides (folded a) (folded b)
+
+pub is_same-sym : (a b : List ℕ) → is_same a b ≡ is_same b a
+is_same-sym a b = same_from_decides _ _ (is_same-Decides a b) (λ h. sym ((is_same-Decides b a).0 h), λ h. (is_same-Decides b a).1 (sym h))
 
 -- two keys are equal exactly where their texts are the same
 pub equal_keys : (a b : List ℕ) → (pointwise nat_eq (folded a) (folded b) ≡ true) ↔ IsSame a b

@@ -17,7 +17,8 @@ event_of numbers before = record { is_write = slice_index numbers 0 == 1; at = s
 -- an image from before a write, with the written range torn.
 abbrev pub Images : List Event → List ℕ → List ℕ → Type 0
 Images [] seen image = image ≡ seen
-Images (event ∷ past) seen image = (image ≡ seen) ⊎ (IsTrue event.is_write × ((earlier : List ℕ) × Images past event.seen earlier × Torn event.at event.len earlier image))
+Images (event ∷ past) seen image = (image ≡ seen) ⊎ (IsTrue event.is_write
+    × ((earlier : List ℕ) × Images past event.seen earlier × Torn event.at event.len earlier image))
 
 -- What a crash at some moment since t might have left. A moment is the number of events before it.
 abbrev pub LeftSince : List Event → List ℕ → ℕ → List ℕ → Type 0

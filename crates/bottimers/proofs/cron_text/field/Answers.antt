@@ -14,7 +14,8 @@ returns-in_default-span-clause-accepted c =
 
 pub loop-rest-preserved : goal.loop-rest-preserved
 loop-rest-preserved c =
-    let step = field_step c.args.low c.args.high c.in-Some.items.now c.cut.result.0.now (rest_of c.cut.result.1) c.in-Some-span.span c.cut.ensures.front c.cut.ensures.back (sym c.span.ensures.value ∙ c.in-Some-span.is) in
+    let step = field_step c.args.low c.args.high c.in-Some.items.now c.cut.result.0.now
+    (rest_of c.cut.result.1) c.in-Some-span.span c.cut.ensures.front c.cut.ensures.back (sym c.span.ensures.value ∙ c.in-Some-span.is) in
     let so_far = rw c.in-Some.is at c.loop-rest.invariant.0 in
     let sets = rw c.in-Some.is at c.loop-rest.invariant.1 in (
       sym step.0 ∙ so_far,

@@ -8,4 +8,5 @@ returns-clause-any_moment g c =
     let state = g.D.Disk.state in
     joined _ _ _ _ _ _ c.write_and_sync.ensures.any_moment c.write_and_sync-2.ensures.any_moment
     (λ image torn. inl torn.before)
-    (λ image torn. torn_gate (state c.args.disk.now).seen c.args.text.now (state c.write_and_sync.new.disk).seen c.args.gate c.requires.inside c.in_ok-write_and_sync.ensures.written image torn)
+    (λ image torn. torn_gate (state c.args.disk.now).seen c.args.text.now
+    (state c.write_and_sync.new.disk).seen c.args.gate c.requires.inside c.in_ok-write_and_sync.ensures.written image torn)

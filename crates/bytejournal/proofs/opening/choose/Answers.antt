@@ -18,7 +18,8 @@ returns-in-Open-Shut g c =
 pub returns-in-Shut-Open : goal.returns-in-Shut-Open
 returns-in-Shut-Open g c =
     let shut = subst (λ r. Reads (g.D.Disk.state c.args.first).seen r) c.in-Shut-Open.is-0 c.requires.first_reads in
-    opens_second g.D.Disk.state c.args.first c.args.second false c.are_inside-whole-in-Shut-Open.result c.in-Shut-Open.b 0 c.open_found-in-Shut-Open.result c.open_found-in-Shut-Open.ensures
+    opens_second g.D.Disk.state c.args.first c.args.second false c.are_inside-whole-in-Shut-Open.result c.in-Shut-Open.b 0
+    c.open_found-in-Shut-Open.result c.open_found-in-Shut-Open.ensures
     (subst (λ r. Reads (g.D.Disk.state c.args.second).seen r) c.in-Shut-Open.is-1 c.requires.second_reads)
     (ap (chosen (Open (found_contents c.in-Shut-Open.b))) (shut_held (g.D.Disk.state c.args.first).seen shut))
     (shut_is_idle c.in-Shut-Open.b.generation (g.D.Disk.state c.args.first).seen shut) c.are_inside-whole-in-Shut-Open.ensures
@@ -27,9 +28,12 @@ pub returns-then-b-a : goal.returns-then-b-a
 returns-then-b-a g c =
     let a = c.in-Open-Open.a in
     let b = c.in-Open-Open.b in
-    let one : IsFound (g.D.Disk.state c.args.first).seen a = subst (λ r. Reads (g.D.Disk.state c.args.first).seen r) c.in-Open-Open.is-0 c.requires.first_reads in
-    let two : IsFound (g.D.Disk.state c.args.second).seen b = subst (λ r. Reads (g.D.Disk.state c.args.second).seen r) c.in-Open-Open.is-1 c.requires.second_reads in
-    opens_first g.D.Disk.state c.args.first c.args.second true c.are_inside-whole-then-b-a.result a b.gate c.open_found-then-b-a.result c.open_found-then-b-a.ensures one
+    let one : IsFound (g.D.Disk.state c.args.first).seen a =
+    subst (λ r. Reads (g.D.Disk.state c.args.first).seen r) c.in-Open-Open.is-0 c.requires.first_reads in
+    let two : IsFound (g.D.Disk.state c.args.second).seen b =
+    subst (λ r. Reads (g.D.Disk.state c.args.second).seen r) c.in-Open-Open.is-1 c.requires.second_reads in
+    opens_first g.D.Disk.state c.args.first c.args.second true c.are_inside-whole-then-b-a.result a b.gate c.open_found-then-b-a.result
+    c.open_found-then-b-a.ensures one
     (ap (chosen (Open (found_contents a))) (found_held (g.D.Disk.state c.args.second).seen b two) ∙ newer (found_contents a) (found_contents b) c.if-b-a.true)
     (found_is_idle a.generation (g.D.Disk.state c.args.second).seen b two c.if-b-a.true) c.are_inside-whole-then-b-a.ensures
 
@@ -37,9 +41,12 @@ pub returns-then-a-b : goal.returns-then-a-b
 returns-then-a-b g c =
     let a = c.in-Open-Open.a in
     let b = c.in-Open-Open.b in
-    let one : IsFound (g.D.Disk.state c.args.first).seen a = subst (λ r. Reads (g.D.Disk.state c.args.first).seen r) c.in-Open-Open.is-0 c.requires.first_reads in
-    let two : IsFound (g.D.Disk.state c.args.second).seen b = subst (λ r. Reads (g.D.Disk.state c.args.second).seen r) c.in-Open-Open.is-1 c.requires.second_reads in
-    opens_second g.D.Disk.state c.args.first c.args.second true c.are_inside-whole-then-a-b.result b a.gate c.open_found-then-a-b.result c.open_found-then-a-b.ensures two
+    let one : IsFound (g.D.Disk.state c.args.first).seen a =
+    subst (λ r. Reads (g.D.Disk.state c.args.first).seen r) c.in-Open-Open.is-0 c.requires.first_reads in
+    let two : IsFound (g.D.Disk.state c.args.second).seen b =
+    subst (λ r. Reads (g.D.Disk.state c.args.second).seen r) c.in-Open-Open.is-1 c.requires.second_reads in
+    opens_second g.D.Disk.state c.args.first c.args.second true c.are_inside-whole-then-a-b.result b a.gate c.open_found-then-a-b.result
+    c.open_found-then-a-b.ensures two
     (ap (chosen (Open (found_contents b))) (found_held (g.D.Disk.state c.args.first).seen a one) ∙ newer (found_contents b) (found_contents a) c.if-a-b.true)
     (found_is_idle b.generation (g.D.Disk.state c.args.first).seen a one c.if-a-b.true) c.are_inside-whole-then-a-b.ensures
 
@@ -47,10 +54,14 @@ pub returns-in-Open-Open : goal.returns-in-Open-Open
 returns-in-Open-Open g c =
     let a = c.in-Open-Open.a in
     let b = c.in-Open-Open.b in
-    let one : IsFound (g.D.Disk.state c.args.first).seen a = subst (λ r. Reads (g.D.Disk.state c.args.first).seen r) c.in-Open-Open.is-0 c.requires.first_reads in
-    let two : IsFound (g.D.Disk.state c.args.second).seen b = subst (λ r. Reads (g.D.Disk.state c.args.second).seen r) c.in-Open-Open.is-1 c.requires.second_reads in (
+    let one : IsFound (g.D.Disk.state c.args.first).seen a =
+    subst (λ r. Reads (g.D.Disk.state c.args.first).seen r) c.in-Open-Open.is-0 c.requires.first_reads in
+    let two : IsFound (g.D.Disk.state c.args.second).seen b =
+    subst (λ r. Reads (g.D.Disk.state c.args.second).seen r) c.in-Open-Open.is-1 c.requires.second_reads in (
       ap (λ r. r.error) c.no_journal.ensures,
-      ap (λ h. chosen h (held (g.D.Disk.state c.args.second).seen)) (found_held (g.D.Disk.state c.args.first).seen a one) ∙ ap (chosen (Open (found_contents a))) (found_held (g.D.Disk.state c.args.second).seen b two) ∙ none_newer (found_contents a) (found_contents b) c.if-b-a.false c.if-a-b.false,
+      ap (λ h. chosen h (held (g.D.Disk.state c.args.second).seen)) (found_held (g.D.Disk.state c.args.first).seen a one)
+          ∙ ap (chosen (Open (found_contents a))) (found_held (g.D.Disk.state c.args.second).seen b two)
+          ∙ none_newer (found_contents a) (found_contents b) c.if-b-a.false c.if-a-b.false,
       ap (λ r. r.disks.first) c.no_journal.ensures,
       ap (λ r. r.disks.second) c.no_journal.ensures,
     )

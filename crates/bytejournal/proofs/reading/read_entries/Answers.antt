@@ -16,10 +16,12 @@ loop-gate-preserved c =
     let entry = c.in-Some.entry.now in
     let rest = c.in-Some.field-0-1.now in
     let read : sized (drop (gate + 1) bytes) ≡ Some (entry, rest) = ap sized (sym (after_gate bytes gate)) ∙ c.in-Some.ensures in
-    let pushed : c.push.new.self ≡ texts ++ entry ∷ [] = c.in_ok-push-in-Some.ensures.ok ∙ ap (λ (t : List ℕ). texts ++ t ∷ []) c.in_ok-from_slice-in-Some.ensures in
+    let pushed : c.push.new.self ≡ texts ++ entry ∷ [] = c.in_ok-push-in-Some.ensures.ok
+    ∙ ap (λ (t : List ℕ). texts ++ t ∷ []) c.in_ok-from_slice-in-Some.ensures in
     record {
       inside = entry_inside bytes gate texts c.loop-gate-test.true c.if-bytes-gate-eq1.true c.loop-gate.invariant.entries entry rest read;
-      entries = subst (λ (ts : List (List ℕ)). AreEntries (take (gate + (5 + length entry)) bytes) ts) (sym pushed) (entries_go_on bytes gate texts c.loop-gate-test.true c.if-bytes-gate-eq1.true c.loop-gate.invariant.entries entry rest read);
+      entries = subst (λ (ts : List (List ℕ)). AreEntries (take (gate + (5 + length entry)) bytes) ts) (sym pushed)
+          (entries_go_on bytes gate texts c.loop-gate-test.true c.if-bytes-gate-eq1.true c.loop-gate.invariant.entries entry rest read);
     }
 
 pub returns-in-None : goal.returns-in-None

@@ -8,7 +8,8 @@ use Rattle.bytejournal.proofs.reading.read_open.Goals as goal
 
 -- the base's copy and its length
 copied : (bytes base copy : List ℕ) (generation size gate : ℕ) (entries : List (List ℕ)) → copy ≡ base → size ≡ length copy
-    → IsFound bytes (record { generation = generation; base = base; entries = entries; gate = 14 + length base + gate }) → IsFound bytes (record { generation = generation; base = copy; entries = entries; gate = 14 + size + gate })
+    → IsFound bytes (record { generation = generation; base = base; entries = entries; gate = 14 + length base + gate })
+    → IsFound bytes (record { generation = generation; base = copy; entries = entries; gate = 14 + size + gate })
 copied bytes base copy generation size gate entries same long found =
     subst (λ (n : ℕ). IsFound bytes (record { generation = generation; base = copy; entries = entries; gate = 14 + n + gate })) (sym long)
     (subst (λ (b : List ℕ). IsFound bytes (record { generation = generation; base = b; entries = entries; gate = 14 + length b + gate })) (sym same) found)
@@ -19,5 +20,7 @@ returns c =
     let rest = c.in-Some-text_front.rest.now in
     let letters : bytes ≡ layout ++ c.in-Some.rest.now = strip_prefix_is Decides-eqb bytes layout (Some c.in-Some.rest) c.in-Some.ensures.cases in
     let has : HasEntries rest c.in-Some-2.found = subst (λ o. MatchOption o (entries_of rest ≡ None) (HasEntries rest)) c.in-Some-2.is c.in_ok-found.ensures in
-    copied (1 ∷ bytes) c.in-Some-text_front.base.now c.in_ok-base.base c.in-Some-number_front.generation c.len.result c.in-Some-2.found.gate c.in-Some-2.found.texts c.in_ok-base.ensures c.len.ensures
-    (is_found bytes c.in-Some.rest.now c.in-Some-number_front.rest.now c.in-Some-text_front.base.now rest c.in-Some-number_front.generation letters c.in-Some-number_front.ensures c.in-Some-text_front.ensures c.in-Some-2.found has)
+    copied (1 ∷ bytes) c.in-Some-text_front.base.now c.in_ok-base.base c.in-Some-number_front.generation c.len.result c.in-Some-2.found.gate
+    c.in-Some-2.found.texts c.in_ok-base.ensures c.len.ensures
+    (is_found bytes c.in-Some.rest.now c.in-Some-number_front.rest.now c.in-Some-text_front.base.now rest c.in-Some-number_front.generation letters
+    c.in-Some-number_front.ensures c.in-Some-text_front.ensures c.in-Some-2.found has)

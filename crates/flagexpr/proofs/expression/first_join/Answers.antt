@@ -12,4 +12,5 @@ returns-then-is_join-clause-at c =
 pub returns-clause-at : goal.returns-clause-at
 returns-clause-at c =
     let all : length c.args.text.now ≤ c.loop-at.at = omega arith in
-    sym (position_or_len_is is_join c.args.text.now (length c.args.text.now) 0 (omega arith) (λ k h. c.loop-at.invariant k (omega arith)) (λ h. absurd (omega arith)))
+    sym (position_or_len_is is_join c.args.text.now (length c.args.text.now) 0 (omega arith) (λ k h. c.loop-at.invariant k (omega arith))
+    (λ h. absurd (omega arith)))

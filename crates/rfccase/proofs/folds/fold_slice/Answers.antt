@@ -7,5 +7,6 @@ use Rattle.rfccase.proofs.folds.fold_slice.Goals as goal
 pub loop-byte-preserved : goal.loop-byte-preserved
 loop-byte-preserved c =
     rw c.fold.ensures.lower
-    (map_over_more low c.args.text.now c.loop-byte.text c.loop-byte.byte-index (get_or c.loop-byte.text c.loop-byte.byte-index 0) (omega arith) c.loop-byte.invariant
+    (map_over_more low c.args.text.now c.loop-byte.text c.loop-byte.byte-index (get_or c.loop-byte.text c.loop-byte.byte-index 0)
+    (omega arith) c.loop-byte.invariant
     (get_or_default c.loop-byte.text c.loop-byte.byte-index 0 _ (omega arith)))

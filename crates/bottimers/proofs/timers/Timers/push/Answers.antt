@@ -19,7 +19,15 @@ invariant_of-self c =
       running =
           All-same (IsRunning now) _ _ c.push_reserved.ensures.items
           (All-push (IsRunning now) c.pass.new.entries.items c.new.result before c.new.ensures.running);
-      room = omega (arith, c.self.invariant.room, c.pass.ensures.room, c.pass.ensures.fewer, c.push_reserved.ensures.capacity, c.push_reserved.ensures.len, c.requires.room);
+      room = omega (
+        arith,
+        c.self.invariant.room,
+        c.pass.ensures.room,
+        c.pass.ensures.fewer,
+        c.push_reserved.ensures.capacity,
+        c.push_reserved.ensures.len,
+        c.requires.room,
+      );
     }
 
 pub returns-clause-added : goal.returns-clause-added

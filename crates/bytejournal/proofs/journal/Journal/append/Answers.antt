@@ -21,7 +21,8 @@ returns-in-Ok-clause-any_moment g c going =
     let after = option_map (added c.args.entry.now) (contents_of g.D.Disk.state j) in
     pair g.D.Disk.state j.swapped _ _ _ _ _ (either_comm (contents_of g.D.Disk.state j) after)
     (append_moments g.D.Disk.state j (c.requires.sound going) c.args.entry.now c.requires.small c.put_after_gate.new.disk (g.met.D.Disk.only_now j.idle)
-    (subst (λ (t : List ℕ). LeavesOnly (g.D.Disk.state j.active) (g.D.Disk.state c.put_after_gate.new.disk) (IsHalfWritten (g.D.Disk.state j.active).seen j.gate t)) (c.deref.ensures.value ∙ c.in_ok-text.ensures) c.put_after_gate.ensures.any_moment))
+    (subst (λ (t : List ℕ). LeavesOnly (g.D.Disk.state j.active) (g.D.Disk.state c.put_after_gate.new.disk)
+    (IsHalfWritten (g.D.Disk.state j.active).seen j.gate t)) (c.deref.ensures.value ∙ c.in_ok-text.ensures) c.put_after_gate.ensures.any_moment))
 
 pub returns-in-Err-NoMemory-clause-any_moment : goal.returns-in-Err-NoMemory-clause-any_moment
 returns-in-Err-NoMemory-clause-any_moment g c going =
@@ -29,7 +30,8 @@ returns-in-Err-NoMemory-clause-any_moment g c going =
     let after = option_map (added c.args.entry.now) (contents_of g.D.Disk.state j) in
     pair g.D.Disk.state j.swapped _ _ _ _ _ (either_comm (contents_of g.D.Disk.state j) after)
     (append_moments g.D.Disk.state j (c.requires.sound going) c.args.entry.now c.requires.small c.put_after_gate.new.disk (g.met.D.Disk.only_now j.idle)
-    (subst (λ (t : List ℕ). LeavesOnly (g.D.Disk.state j.active) (g.D.Disk.state c.put_after_gate.new.disk) (IsHalfWritten (g.D.Disk.state j.active).seen j.gate t)) (c.deref.ensures.value ∙ c.in_ok-text.ensures) c.put_after_gate.ensures.any_moment))
+    (subst (λ (t : List ℕ). LeavesOnly (g.D.Disk.state j.active) (g.D.Disk.state c.put_after_gate.new.disk)
+    (IsHalfWritten (g.D.Disk.state j.active).seen j.gate t)) (c.deref.ensures.value ∙ c.in_ok-text.ensures) c.put_after_gate.ensures.any_moment))
 
 pub returns-clause-any_moment : goal.returns-clause-any_moment
 returns-clause-any_moment g c going =
@@ -37,7 +39,8 @@ returns-clause-any_moment g c going =
     let after = option_map (added c.args.entry.now) (contents_of g.D.Disk.state j) in
     pair g.D.Disk.state j.swapped _ _ _ _ _ (either_comm (contents_of g.D.Disk.state j) after)
     (append_moments g.D.Disk.state j (c.requires.sound going) c.args.entry.now c.requires.small c.put_after_gate.new.disk (g.met.D.Disk.only_now j.idle)
-    (subst (λ (t : List ℕ). LeavesOnly (g.D.Disk.state j.active) (g.D.Disk.state c.put_after_gate.new.disk) (IsHalfWritten (g.D.Disk.state j.active).seen j.gate t)) (c.deref.ensures.value ∙ c.in_ok-text.ensures) c.put_after_gate.ensures.any_moment))
+    (subst (λ (t : List ℕ). LeavesOnly (g.D.Disk.state j.active) (g.D.Disk.state c.put_after_gate.new.disk)
+    (IsHalfWritten (g.D.Disk.state j.active).seen j.gate t)) (c.deref.ensures.value ∙ c.in_ok-text.ensures) c.put_after_gate.ensures.any_moment))
 
 pub returns-in-Ok-clause-row : goal.returns-in-Ok-clause-row
 returns-in-Ok-clause-row g c =

@@ -31,7 +31,8 @@ returns-in-Err-NoMemory-clause-any_moment g c going =
     let after = option_map (rebased c.args.base.now) (contents_of state j) in
     pair g.D.Disk.state j.swapped _ _ _ _ _ (either_comm (contents_of g.D.Disk.state j) after)
     (rebase_moments g.D.Disk.state j (c.requires.sound going) c.args.base.now c.requires.small left c.replace.new.disk (g.met.D.Disk.only_now j.active)
-    (subst (λ (t : List ℕ). LeavesOnly (g.D.Disk.state j.idle) (g.D.Disk.state c.replace.new.disk) (IsHalfReplaced j.idle_open (g.D.Disk.state j.idle).seen t)) (c.deref.ensures.value ∙ c.in_ok-text.ensures) c.replace.ensures.any_moment))
+    (subst (λ (t : List ℕ). LeavesOnly (g.D.Disk.state j.idle) (g.D.Disk.state c.replace.new.disk)
+    (IsHalfReplaced j.idle_open (g.D.Disk.state j.idle).seen t)) (c.deref.ensures.value ∙ c.in_ok-text.ensures) c.replace.ensures.any_moment))
 
 pub returns-clause-any_moment : goal.returns-clause-any_moment
 returns-clause-any_moment g c going =
@@ -41,7 +42,8 @@ returns-clause-any_moment g c going =
     let after = option_map (rebased c.args.base.now) (contents_of state j) in
     pair g.D.Disk.state j.swapped _ _ _ _ _ (either_comm (contents_of g.D.Disk.state j) after)
     (rebase_moments g.D.Disk.state j (c.requires.sound going) c.args.base.now c.requires.small left c.replace.new.disk (g.met.D.Disk.only_now j.active)
-    (subst (λ (t : List ℕ). LeavesOnly (g.D.Disk.state j.idle) (g.D.Disk.state c.replace.new.disk) (IsHalfReplaced j.idle_open (g.D.Disk.state j.idle).seen t)) (c.deref.ensures.value ∙ c.in_ok-text.ensures) c.replace.ensures.any_moment))
+    (subst (λ (t : List ℕ). LeavesOnly (g.D.Disk.state j.idle) (g.D.Disk.state c.replace.new.disk)
+    (IsHalfReplaced j.idle_open (g.D.Disk.state j.idle).seen t)) (c.deref.ensures.value ∙ c.in_ok-text.ensures) c.replace.ensures.any_moment))
 
 pub returns-in-Ok-clause-any_moment : goal.returns-in-Ok-clause-any_moment
 returns-in-Ok-clause-any_moment g c going =
@@ -49,9 +51,12 @@ returns-in-Ok-clause-any_moment g c going =
     let state = g.D.Disk.state in
     let left : j.generation + 1 < 2 ^ 32 = search rules in
     let after = option_map (rebased c.args.base.now) (contents_of g.D.Disk.state j) in
-    let moments = rebase_moments g.D.Disk.state j (c.requires.sound going) c.args.base.now c.requires.small left c.replace.new.disk (g.met.D.Disk.only_now j.active)
-    (subst (λ (t : List ℕ). LeavesOnly (g.D.Disk.state j.idle) (g.D.Disk.state c.replace.new.disk) (IsHalfReplaced j.idle_open (g.D.Disk.state j.idle).seen t)) (c.deref.ensures.value ∙ c.in_ok-text.ensures) c.replace.ensures.any_moment) in
-    pair_swapped g.D.Disk.state j.swapped j.active j.idle c.swap.new.y c.swap.new.x (IsEither (contents_of g.D.Disk.state j) after) (either_comm (contents_of g.D.Disk.state j) after)
+    let moments = rebase_moments g.D.Disk.state j (c.requires.sound going) c.args.base.now c.requires.small left c.replace.new.disk
+    (g.met.D.Disk.only_now j.active)
+    (subst (λ (t : List ℕ). LeavesOnly (g.D.Disk.state j.idle) (g.D.Disk.state c.replace.new.disk)
+    (IsHalfReplaced j.idle_open (g.D.Disk.state j.idle).seen t)) (c.deref.ensures.value ∙ c.in_ok-text.ensures) c.replace.ensures.any_moment) in
+    pair_swapped g.D.Disk.state j.swapped j.active j.idle c.swap.new.y c.swap.new.x (IsEither (contents_of g.D.Disk.state j) after)
+    (either_comm (contents_of g.D.Disk.state j) after)
     (subst (λ y. EachMoment g.D.Disk.state j.active j.idle y c.swap.new.x (IsEither (contents_of g.D.Disk.state j) after)) (sym c.swap.ensures.y_after)
     (subst (λ x. EachMoment g.D.Disk.state j.active j.idle j.active x (IsEither (contents_of g.D.Disk.state j) after)) (sym c.swap.ensures.x_after) moments))
 
@@ -61,11 +66,13 @@ returns-in-Ok-clause-row g c =
     let state = g.D.Disk.state in
     let left : j.generation + 1 < 2 ^ 32 = search rules in
     let counts = rebased_counts g.D.Disk.state j (c.requires.sound c.if-self.false) c.args.base.now c.requires.small left c.replace.new.disk
-    (c.in-Ok.ensures.puts.0 ∙ ap (λ (t : List ℕ). with_gate (closed_first j.idle_open (g.D.Disk.state j.idle).seen) 0 t 1) (c.deref.ensures.value ∙ c.in_ok-text.ensures)) in (
+    (c.in-Ok.ensures.puts.0 ∙ ap (λ (t : List ℕ). with_gate (closed_first j.idle_open (g.D.Disk.state j.idle).seen) 0 t 1)
+    (c.deref.ensures.value ∙ c.in_ok-text.ensures)) in (
       c.if-self.false,
       c.if-self.false,
       refl,
-      ap (λ x. meaning (g.D.Disk.state x).seen (g.D.Disk.state c.swap.new.y).seen) c.swap.ensures.x_after ∙ ap (λ y. meaning (g.D.Disk.state c.replace.new.disk).seen (g.D.Disk.state y).seen) c.swap.ensures.y_after ∙ counts,
+      ap (λ x. meaning (g.D.Disk.state x).seen (g.D.Disk.state c.swap.new.y).seen) c.swap.ensures.x_after
+          ∙ ap (λ y. meaning (g.D.Disk.state c.replace.new.disk).seen (g.D.Disk.state y).seen) c.swap.ensures.y_after ∙ counts,
     )
 
 pub returns-in-Ok-clause-sound : goal.returns-in-Ok-clause-sound
@@ -74,7 +81,27 @@ returns-in-Ok-clause-sound g c going =
     let state = g.D.Disk.state in
     let left : j.generation + 1 < 2 ^ 32 = search rules in
     let rests = rests_rebased g.D.Disk.state j (c.requires.sound going) c.args.base.now c.requires.small left c.replace.new.disk
-    (c.in-Ok.ensures.puts.0 ∙ ap (λ (t : List ℕ). with_gate (closed_first j.idle_open (g.D.Disk.state j.idle).seen) 0 t 1) (c.deref.ensures.value ∙ c.in_ok-text.ensures))
-    c.len-self.result (not j.swapped) j.spent (c.len-self.ensures ∙ sym c.deref.ensures.len ∙ ap length (c.deref.ensures.value ∙ c.in_ok-text.ensures)) c.in-Ok.ensures.puts.1 in
-    subst (λ x. IsAtRest g.D.Disk.state (record { active = x; idle = c.swap.new.y; swapped = not j.swapped; idle_open = true; generation = j.generation + 1; gate = c.len-self.result; spent = j.spent })) (sym c.swap.ensures.x_after)
-    (subst (λ y. IsAtRest g.D.Disk.state (record { active = c.replace.new.disk; idle = y; swapped = not j.swapped; idle_open = true; generation = j.generation + 1; gate = c.len-self.result; spent = j.spent })) (sym c.swap.ensures.y_after) rests)
+    (c.in-Ok.ensures.puts.0 ∙ ap (λ (t : List ℕ). with_gate (closed_first j.idle_open (g.D.Disk.state j.idle).seen) 0 t 1)
+    (c.deref.ensures.value ∙ c.in_ok-text.ensures))
+    c.len-self.result (not j.swapped) j.spent (c.len-self.ensures ∙ sym c.deref.ensures.len
+    ∙ ap length (c.deref.ensures.value ∙ c.in_ok-text.ensures)) c.in-Ok.ensures.puts.1 in
+    subst (λ x. IsAtRest g.D.Disk.state (record {
+      active = x;
+      idle = c.swap.new.y;
+      swapped = not j.swapped;
+      idle_open = true;
+      generation =
+          j.generation + 1;
+      gate = c.len-self.result;
+      spent = j.spent;
+    })) (sym c.swap.ensures.x_after)
+    (subst (λ y. IsAtRest g.D.Disk.state (record {
+      active = c.replace.new.disk;
+      idle = y;
+      swapped = not j.swapped;
+      idle_open = true;
+      generation =
+          j.generation + 1;
+      gate = c.len-self.result;
+      spent = j.spent;
+    })) (sym c.swap.ensures.y_after) rests)

@@ -7,32 +7,45 @@ use Rattle.disks.proofs.Noted.{torn_holds, torn_none, tears, kept}
 use Rattle.disks.proofs.mem_disk.MemDiskDisk.write_at.Goals as goal
 
 -- what was left before, of the whole value
-before : (now : Memory) (events : List Event) (content image : List ℕ) (at n : ℕ) → events ≡ now.events → content ≡ now.content → ((earlier : List ℕ) × Images events content earlier × Torn at n earlier image) → (earlier : List ℕ) × Images now.events now.content earlier × Torn at n earlier image
-before now events content image at n events_is content_is was = (was.0, subst (λ (es : List Event). Images es now.content was.0) events_is (subst (λ (l : List ℕ). Images events l was.0) content_is was.1), was.2)
+before : (now : Memory) (events : List Event) (content image : List ℕ) (at n : ℕ) → events ≡ now.events → content ≡ now.content
+    → ((earlier : List ℕ) × Images events content earlier × Torn at n earlier image)
+    → (earlier : List ℕ) × Images now.events now.content earlier × Torn at n earlier image
+before now events content image at n events_is content_is was =
+    (was.0, subst (λ (es : List Event). Images es now.content was.0) events_is (subst (λ (l : List ℕ). Images events l was.0) content_is was.1), was.2)
 
 pub returns-then-is_over-clause-tears : goal.returns-then-is_over-clause-tears
 returns-then-is_over-clause-tears c image left =
     let i = c.self.inside in
     let n = length c.args.bytes.now in
-    before c.args.self.now i.history.events i.content.items image c.args.at n (ap (λ (m : Memory). m.events) c.self.view_is) (ap (λ (m : Memory). m.content) c.self.view_is)
-    (tears c.note.new.self.events i.history.events (event_of (1 ∷ c.args.at ∷ n ∷ []) c.deref.result.now) i.content.items i.content.items c.args.at n c.note.ensures refl refl c.deref.ensures.value (torn_none c.args.at n i.content.items) image left)
+    before c.args.self.now i.history.events i.content.items image c.args.at n (ap (λ (m : Memory). m.events) c.self.view_is)
+    (ap (λ (m : Memory). m.content) c.self.view_is)
+    (tears c.note.new.self.events i.history.events
+    (event_of (1 ∷ c.args.at ∷ n ∷ []) c.deref.result.now) i.content.items i.content.items c.args.at n c.note.ensures refl refl
+    c.deref.ensures.value (torn_none c.args.at n i.content.items) image left)
 
 pub returns-clause-tears : goal.returns-clause-tears
 returns-clause-tears c image left =
     let i = c.self.inside in
     let n = length c.args.bytes.now in
-    let inside : c.args.at ≤ length i.content.items = subst (λ (l : List ℕ). c.args.at ≤ length l) (ap (λ (m : Memory). m.content) (sym c.self.view_is)) c.requires.inside in
-    before c.args.self.now i.history.events i.content.items image c.args.at n (ap (λ (m : Memory). m.events) c.self.view_is) (ap (λ (m : Memory). m.content) c.self.view_is)
-    (tears c.note.new.self.events i.history.events (event_of (1 ∷ c.args.at ∷ n ∷ []) c.deref.result.now) i.content.items c.put.new.bytes.items c.args.at n c.note.ensures refl refl c.deref.ensures.value
+    let inside : c.args.at ≤ length i.content.items =
+    subst (λ (l : List ℕ). c.args.at ≤ length l) (ap (λ (m : Memory). m.content) (sym c.self.view_is)) c.requires.inside in
+    before c.args.self.now i.history.events i.content.items image c.args.at n (ap (λ (m : Memory). m.events) c.self.view_is)
+    (ap (λ (m : Memory). m.content) c.self.view_is)
+    (tears c.note.new.self.events i.history.events
+    (event_of (1 ∷ c.args.at ∷ n ∷ []) c.deref.result.now) i.content.items c.put.new.bytes.items c.args.at n c.note.ensures refl refl c.deref.ensures.value
     (torn_holds i.content.items c.args.bytes.now c.put.new.bytes.items c.args.at inside c.put.ensures.holds) image left)
 
 pub invariant_of-self-2 : goal.invariant_of-self-2
 invariant_of-self-2 c =
     let i = c.self.inside in
     let n = length c.args.bytes.now in
-    let inside : c.args.at ≤ length i.content.items = subst (λ (l : List ℕ). c.args.at ≤ length l) (ap (λ (m : Memory). m.content) (sym c.self.view_is)) c.requires.inside in
-    let fits : c.args.at + n ≤ min (vec_capacity i.content) (vec_capacity i.torn) = subst (λ (k : ℕ). c.args.at + n ≤ k) (ap (λ (m : Memory). m.room) (sym c.self.view_is)) c.requires.room in
-    kept c.note.new.self.events i.history.events (event_of (1 ∷ c.args.at ∷ n ∷ []) c.deref.result.now) i.content.items i.torn.items c.put.new.bytes.items c.tear_range.new.image.items c.args.at n i.same c.min-self-inside.result
+    let inside : c.args.at ≤ length i.content.items =
+    subst (λ (l : List ℕ). c.args.at ≤ length l) (ap (λ (m : Memory). m.content) (sym c.self.view_is)) c.requires.inside in
+    let fits : c.args.at + n ≤ min (vec_capacity i.content) (vec_capacity i.torn) =
+    subst (λ (k : ℕ). c.args.at + n ≤ k) (ap (λ (m : Memory). m.room) (sym c.self.view_is)) c.requires.room in
+    kept c.note.new.self.events i.history.events (event_of (1 ∷ c.args.at ∷ n ∷ []) c.deref.result.now) i.content.items i.torn.items
+    c.put.new.bytes.items c.tear_range.new.image.items c.args.at n i.same c.min-self-inside.result
     (vec_capacity i.content) (vec_capacity i.torn) (vec_capacity c.put.new.bytes) (vec_capacity c.tear_range.new.image)
-    c.note.ensures refl refl refl c.deref.ensures.value c.self.invariant c.tear_range.ensures.torn (torn_holds i.content.items c.args.bytes.now c.put.new.bytes.items c.args.at inside c.put.ensures.holds) c.min-self-inside.ensures
+    c.note.ensures refl refl refl c.deref.ensures.value c.self.invariant c.tear_range.ensures.torn
+    (torn_holds i.content.items c.args.bytes.now c.put.new.bytes.items c.args.at inside c.put.ensures.holds) c.min-self-inside.ensures
     (omega (arith, fits)) (omega (arith, fits)) c.put.ensures.capacity c.tear_range.ensures.capacity
