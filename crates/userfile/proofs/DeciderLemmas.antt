@@ -1,24 +1,20 @@
 -- Which claim decides, by its place among all.
 use Rattle.std.proofs.Common.{◌≡◌, ℕ, zero, suc, ◌<◌, ◌≤◌, ◌⊎◌, inl, inr, nat_le, Bool, true, false, cond, ◌&&◌, List, [], ◌∷◌, refl, sym, ap, subst, ◌∙◌}
 use Rattle.std.proofs.Common.{arith, None, Some, slice_get, true≢false}
-use Rattle.std.proofs.lemmas.Bool.{cases_lt}
+use Rattle.std.proofs.lemmas.Bool.{cases_lt, and_parts}
 use Rattle.std.proofs.lemmas.Bool.Decides.{nat_tests}
 use Rattle.userfile.specs.declared.user.User.{User}
 use Rattle.userfile.specs.Persons.{Claim, claims, is_most, decider, handle_of, handle_or_star, IsDecider, IsHandleFor}
-
-and_true : (a b : Bool) → (a && b) ≡ true → (a ≡ true) × (b ≡ true)
-and_true true b e = (refl, e)
-and_true false b e = cc
 
 -- a test of all claims is a fact of each
 is_most-at : (n : ℕ) (cs : List Claim) (j : ℕ) (c : Claim) → is_most n cs ≡ true → slice_get cs j ≡ Some c → c.literals ≤ n
 is_most-at n [] j c most at = cc
 is_most-at n (x ∷ xs) zero c most at =
-    let first : nat_le x.literals n ≡ true = (and_true _ _ most).0 in
+    let first : nat_le x.literals n ≡ true = (and_parts _ _ most).0 in
     let same : x ≡ c = cc in
     let small : x.literals ≤ n = grind (arith, nat_tests) in
     subst (λ (d : Claim). d.literals ≤ n) same small
-is_most-at n (x ∷ xs) (suc j) c most at = is_most-at n xs j c (and_true _ _ most).1 at
+is_most-at n (x ∷ xs) (suc j) c most at = is_most-at n xs j c (and_parts _ _ most).1 at
 
 -- and the other way round
 is_most-all : (n : ℕ) (cs : List Claim) → ((j : ℕ) (c : Claim) → slice_get cs j ≡ Some c → c.literals ≤ n) → is_most n cs ≡ true

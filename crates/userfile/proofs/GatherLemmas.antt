@@ -13,7 +13,8 @@ use Rattle.userfile.specs.declared.user.User.{User}
 use Rattle.userfile.specs.declared.limits.TheConstants.{MAX_HANDLE}
 use Rattle.userfile.specs.Held.{user_of}
 use Rattle.userfile.specs.Together.{is_user, repeats_handle}
-use Rattle.userfile.proofs.TextLemmas.{is_same-sym, is_handle-length}
+use Rattle.rfccase.proofs.SameLemmas.{is_same-sym}
+use Rattle.userfile.proofs.TextLemmas.{is_handle-length}
 use Rattle.userfile.proofs.EntryLemmas.{Entry, IsKeyed-append, values_of-append, inserted_last}
 use Rattle.userfile.proofs.RepeatLemmas.{or_false, and_true}
 

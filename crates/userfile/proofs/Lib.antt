@@ -6,6 +6,7 @@ pub mod MatchLemmas
 pub mod SearchLemmas
 pub mod GroupLemmas
 pub mod IndexLemmas
+pub mod NameLemmas
 pub mod GatherLemmas
 pub mod DeciderLemmas
 pub mod RepeatLemmas

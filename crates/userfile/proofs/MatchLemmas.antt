@@ -1,11 +1,16 @@
--- The test of a hostmask is the relation of `wildmask`.
-use Rattle.std.proofs.Common.{◌≡◌, ℕ, List, ap, ◌∙◌}
+-- The test of a hostmask is the relation of `wildmask`, and what a mask that matches says of the text.
+use Rattle.std.proofs.Common.{◌≡◌, ◌<◌, ℕ, true, List, length, ap, ◌∙◌, arith}
 use Rattle.std.specs.Bool.{Decides}
 use Rattle.wildmask.specs.declared.items.MaskKind.{MaskKind}
 use Rattle.wildmask.specs.declared.items.MaskKind.TheVariants.{Host}
+use Rattle.wildmask.specs.Items.{items_of}
 use Rattle.wildmask.specs.Masks.{GivenMask, host_mask, IsMatch}
+use Rattle.wildmask.specs.Signatures.{is_within, text_signature}
+use Rattle.wildmask.specs.Tails.{end_key}
+use Rattle.wildmask.proofs.SignatureLemmas.{is_within-from, signature_within}
+use Rattle.wildmask.proofs.TailLemmas.{tail_ends, length-tail_of}
 use Rattle.wildmask.proofs.TestLemmas.{is_match-Decides as mask-Decides}
-use Rattle.userfile.specs.Hostmasks.{is_match}
+use Rattle.userfile.specs.Hostmasks.{is_match, mask_tail, mask_pairs}
 
 pub is_match-Decides : (mask who : List ℕ) → Decides (is_match mask who) (IsMatch (host_mask mask) who)
 unfolding is_match
@@ -16,3 +21,18 @@ pub host_mask-same : (mask : GivenMask) (text : List ℕ) → mask.kind ≡ Host
 host_mask-same mask text kind given =
     ap (λ (k : MaskKind). let m : GivenMask = record { kind = k; text = mask.text } in m) kind
     ∙ ap (λ (t : List ℕ). let m : GivenMask = record { kind = Host; text = t } in m) given
+
+-- whoever a mask matches ends with its tail
+pub match_ends : (mask who : List ℕ) → is_match mask who ≡ true → mask_tail mask ≡ end_key (length (mask_tail mask)) who
+unfolding mask_tail
+match_ends mask who hit = (tail_ends (items_of Host mask) who ((is_match-Decides mask who).0 hit)).0
+
+-- a tail is short enough to be asked for
+pub tail_short : (mask : List ℕ) → length (mask_tail mask) < 17
+unfolding mask_tail
+tail_short mask = omega (arith, length-tail_of (items_of Host mask))
+
+-- and has the pairs that it needs
+pub match_pairs : (mask who : List ℕ) → is_match mask who ≡ true → is_within (mask_pairs mask) (text_signature who) ≡ true
+unfolding mask_pairs
+match_pairs mask who hit = is_within-from _ _ (signature_within (items_of Host mask) who ((is_match-Decides mask who).0 hit))

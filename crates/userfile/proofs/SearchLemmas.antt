@@ -1,23 +1,25 @@
--- What a search through some users' masks leaves as the best claim, and that it decides.
+-- What a search through some listings leaves as the best claim, and that it decides.
 use Rattle.std.proofs.Common.{◌≡◌, ℕ, zero, suc, ◌+◌, ◌<◌, ◌≤◌, ◌==◌, nat_lt, nat_le, ◌⊎◌, inl, inr, Bool, true, false, cond, ◌&&◌, ◌||◌, List, [], ◌∷◌}
 use Rattle.std.proofs.Common.{◌++◌, map, filter, refl, sym, ap, subst, ◌∙◌, arith, Option, None, Some, slice_get, ltb-false, ltb-true, true≢false}
 use Rattle.std.specs.List.{list_any}
-use Rattle.std.proofs.lemmas.Bool.{cases_lt, eqb-true}
+use Rattle.std.proofs.lemmas.Bool.{cases_lt, eqb-true, or_right}
 use Rattle.std.proofs.lemmas.Bool.Decides.{Decides-eqb, nat_tests}
 use Rattle.userfile.specs.declared.user.User.{User}
 use Rattle.userfile.specs.declared.persons.Winner.{Winner}
-use Rattle.userfile.specs.Hostmasks.{is_match, literals}
+use Rattle.userfile.specs.declared.index.Listing.{Listing}
+use Rattle.userfile.specs.Hostmasks.{is_match, literals, mask_pairs}
 use Rattle.userfile.specs.Persons.{Claim, claim, claims_of, claims, is_most, decider, user_for}
-use Rattle.userfile.specs.Search.{is_better, after_mask, after_masks, after_user, after_places, user_at}
-use Rattle.userfile.specs.Index.{IsIn}
-use Rattle.userfile.proofs.RepeatLemmas.{and_true}
+use Rattle.userfile.specs.Search.{is_better, may_win, has_match, after_listing, after_listings, user_at}
+use Rattle.userfile.specs.Index.{IsIn, is_of, listing_of}
+use Rattle.userfile.proofs.MatchLemmas.{match_pairs}
+use Rattle.userfile.proofs.RepeatLemmas.{and_true, and_both}
 
--- ---- of several lists of places, one after the other
+-- ---- of several groups, one after the other
 
-pub after_places-append : (who : List ℕ) (users : List User) (xs ys : List ℕ) (best : Option Winner)
-    → after_places who users (xs ++ ys) best ≡ after_places who users ys (after_places who users xs best)
-after_places-append who users [] ys best = refl
-after_places-append who users (x ∷ xs) ys best = after_places-append who users xs ys (after_user who x (slice_get users x) best)
+pub after_listings-append : (who : List ℕ) (users : List User) (xs ys : List Listing) (best : Option Winner)
+    → after_listings who users (xs ++ ys) best ≡ after_listings who users ys (after_listings who users xs best)
+after_listings-append who users [] ys best = refl
+after_listings-append who users (x ∷ xs) ys best = after_listings-append who users xs ys (after_listing who users x best)
 
 -- ---- claims that don't win
 
@@ -51,75 +53,76 @@ better_false l p (Some b) e = by (nat_lt b.literals l) refl (l == b.literals) re
             true≢false (sym ((Decides-eqb l b.literals).1 at) ∙ f)
 
 -- a claim that is beaten stays so
-beaten-after_mask : (who : List ℕ) (n : ℕ) (m : List ℕ) (l p : ℕ) (best : Option Winner) → IsBeaten l p best → IsBeaten l p (after_mask who n m best)
-beaten-after_mask who n m l p None h = absurd h
-beaten-after_mask who n m l p (Some b) h = by (is_match m who && is_better (literals m) n (Some b)) refl
+beaten-after_listing : (who : List ℕ) (users : List User) (x : Listing) (l p : ℕ) (best : Option Winner) → IsBeaten l p best
+    → IsBeaten l p (after_listing who users x best)
+beaten-after_listing who users x l p None h = absurd h
+beaten-after_listing who users x l p (Some b) h = by (may_win who x (Some b) && has_match who x (slice_get users x.place)) refl
   where
-    by : (c : Bool) → (is_match m who && is_better (literals m) n (Some b)) ≡ c
-        → IsBeaten l p (cond c (Some (record { literals = literals m; place = n })) (Some b))
+    by : (c : Bool) → (may_win who x (Some b) && has_match who x (slice_get users x.place)) ≡ c
+        → IsBeaten l p (cond c (Some (record { literals = x.literals; place = x.place })) (Some b))
     by false e = h
-    by true e = elim (better_true (literals m) n b (and_true e).1) [ inl more ↦ inl (most more h) | inr tie ↦ late tie h ]
+    by true e = elim (better_true x.literals x.place b (and_true (and_true e).0).1) [ inl more ↦ inl (most more h) | inr tie ↦ late tie h ]
       where
-        most : b.literals < literals m → ((l < b.literals) ⊎ ((l ≡ b.literals) × (b.place ≤ p))) → l < literals m
+        most : b.literals < x.literals → ((l < b.literals) ⊎ ((l ≡ b.literals) × (b.place ≤ p))) → l < x.literals
         most more (inl lt) = omega (arith, more, lt)
         most more (inr eq) = omega (arith, more, eq.0)
 
-        late : ((literals m ≡ b.literals) × (n < b.place)) → ((l < b.literals) ⊎ ((l ≡ b.literals) × (b.place ≤ p)))
-            → (l < literals m) ⊎ ((l ≡ literals m) × (n ≤ p))
+        late : ((x.literals ≡ b.literals) × (x.place < b.place)) → ((l < b.literals) ⊎ ((l ≡ b.literals) × (b.place ≤ p)))
+            → (l < x.literals) ⊎ ((l ≡ x.literals) × (x.place ≤ p))
         late tie (inl lt) = inl (omega (arith, tie.0, lt))
         late tie (inr eq) = inr (omega (arith, tie.0, eq.0), omega (arith, tie.1, eq.1))
 
-beaten-after_masks : (who : List ℕ) (n : ℕ) (ms : List (List ℕ)) (l p : ℕ) (best : Option Winner) → IsBeaten l p best
-    → IsBeaten l p (after_masks who n ms best)
-beaten-after_masks who n [] l p best h = h
-beaten-after_masks who n (m ∷ ms) l p best h = beaten-after_masks who n ms l p (after_mask who n m best) (beaten-after_mask who n m l p best h)
+beaten-after_listings : (who : List ℕ) (users : List User) (xs : List Listing) (l p : ℕ) (best : Option Winner) → IsBeaten l p best
+    → IsBeaten l p (after_listings who users xs best)
+beaten-after_listings who users [] l p best h = h
+beaten-after_listings who users (x ∷ xs) l p best h =
+    beaten-after_listings who users xs l p (after_listing who users x best) (beaten-after_listing who users x l p best h)
 
--- a mask that matches is beaten once it was looked at
-beaten_at : (who : List ℕ) (n : ℕ) (m : List ℕ) (best : Option Winner) → is_match m who ≡ true → IsBeaten (literals m) n (after_mask who n m best)
-beaten_at who n m best hit = by (is_better (literals m) n best) refl
+-- a mask is one of its listing's
+of_listing : (n : ℕ) (m : List ℕ) → is_of (listing_of n m) m ≡ true
+of_listing n m = and_both ((Decides-eqb (literals m) (literals m)).1 refl) ((Decides-eqb (mask_pairs m) (mask_pairs m)).1 refl)
+
+-- the listings of those that match stand among these
+abbrev pub AreListed : List ℕ → ℕ → List Listing → List (List ℕ) → Type 0
+AreListed who n xs [] = Unit {0}
+AreListed who n xs (m ∷ ms) = (is_match m who ≡ true → IsIn (listing_of n m) xs) × AreListed who n xs ms
+
+-- a mask that matches is beaten once its listing was looked at
+beaten_at : (who : List ℕ) (users : List User) (n : ℕ) (m : List ℕ) (best : Option Winner) → is_match m who ≡ true
+    → has_match who (listing_of n m) (slice_get users n) ≡ true → IsBeaten (literals m) n (after_listing who users (listing_of n m) best)
+beaten_at who users n m best hit found = by (is_better (literals m) n best) refl
   where
     by : (c : Bool) → is_better (literals m) n best ≡ c
-        → IsBeaten (literals m) n (cond (is_match m who && is_better (literals m) n best) (Some (record { literals = literals m; place = n })) best)
-    by true e = rw (hit, e) (inr (refl, omega arith))
-    by false e = rw (hit, e) (better_false (literals m) n best e)
+        → IsBeaten (literals m) n (cond (may_win who (listing_of n m) best && has_match who (listing_of n m) (slice_get users n))
+        (Some (record { literals = literals m; place = n })) best)
+    by true e = rw (match_pairs m who hit, e, found) (inr (refl, omega arith))
+    by false e = rw (match_pairs m who hit, e) (better_false (literals m) n best e)
 
 -- each mask that matches is beaten
 abbrev pub AreBeaten : List ℕ → ℕ → List (List ℕ) → Option Winner → Type 0
 AreBeaten who n [] best = Unit {0}
 AreBeaten who n (m ∷ ms) best = (is_match m who ≡ true → IsBeaten (literals m) n best) × AreBeaten who n ms best
 
-all_beaten : (who : List ℕ) (n : ℕ) (ms : List (List ℕ)) (best : Option Winner) → AreBeaten who n ms (after_masks who n ms best)
-all_beaten who n [] best = tt
-all_beaten who n (m ∷ ms) best = (
-  λ hit. beaten-after_masks who n ms (literals m) n (after_mask who n m best) (beaten_at who n m best hit),
-  all_beaten who n ms
-      (after_mask who n m best),
+-- and so it is wherever its listing stands
+listing_beaten : (who : List ℕ) (users : List User) (xs : List Listing) (n : ℕ) (m : List ℕ) (best : Option Winner) → IsIn (listing_of n m) xs
+    → is_match m who ≡ true → has_match who (listing_of n m) (slice_get users n) ≡ true
+    → IsBeaten (literals m) n (after_listings who users xs best)
+listing_beaten who users [] n m best among hit found = absurd among
+listing_beaten who users (x ∷ xs) n m best (inr later) hit found = listing_beaten who users xs n m (after_listing who users x best) later hit found
+listing_beaten who users (x ∷ xs) n m best (inl same) hit found =
+    beaten-after_listings who users xs (literals m) n (after_listing who users x best)
+    (subst (λ y. IsBeaten (literals m) n (after_listing who users y best)) (sym same) (beaten_at who users n m best hit found))
+
+-- the masks of a user are beaten whose listings stand among those that are looked at, where their masks match
+pub user_beaten : (who : List ℕ) (users : List User) (xs : List Listing) (n : ℕ) (u : User) (best : Option Winner) → slice_get users n ≡ Some u
+    → (ms : List (List ℕ)) → AreListed who n xs ms → ((x : Listing) → list_any (λ k. is_of x k && is_match k who) ms ≡ true → has_match who x (Some u) ≡ true)
+    → AreBeaten who n ms (after_listings who users xs best)
+user_beaten who users xs n u best at [] among f = tt
+user_beaten who users xs n u best at (m ∷ ms) among f = (
+  λ hit. listing_beaten who users xs n m best (among.0 hit) hit
+      (ap (has_match who (listing_of n m)) at ∙ f (listing_of n m) (rw (of_listing n m, hit) refl)),
+  user_beaten who users xs n u best at ms among.1 (λ x some. f x (or_right (is_of x m && is_match m who) _ some)),
 )
-
-still_beaten : (who : List ℕ) (n : ℕ) (ms : List (List ℕ)) (old new : Option Winner) → ((l p : ℕ) → IsBeaten l p old → IsBeaten l p new)
-    → AreBeaten who n ms old → AreBeaten who n ms new
-still_beaten who n [] old new f h = tt
-still_beaten who n (m ∷ ms) old new f h = (λ hit. f (literals m) n (h.0 hit), still_beaten who n ms old new f h.1)
-
-beaten-after_user : (who : List ℕ) (n : ℕ) (o : Option User) (l p : ℕ) (best : Option Winner) → IsBeaten l p best → IsBeaten l p (after_user who n o best)
-beaten-after_user who n None l p best h = h
-beaten-after_user who n (Some u) l p best h = beaten-after_masks who n u.masks l p best h
-
-beaten-after_places : (who : List ℕ) (users : List User) (ps : List ℕ) (l p : ℕ) (best : Option Winner) → IsBeaten l p best
-    → IsBeaten l p (after_places who users ps best)
-beaten-after_places who users [] l p best h = h
-beaten-after_places who users (n ∷ ps) l p best h = beaten-after_places who users ps l p (after_user who n (slice_get users n) best)
-    (beaten-after_user who n (slice_get users n) l p best h)
-
--- the masks of a user whose place is asked for are beaten
-pub place_beaten : (who : List ℕ) (users : List User) (ps : List ℕ) (n : ℕ) (u : User) (best : Option Winner) → IsIn n ps → slice_get users n ≡ Some u
-    → AreBeaten who n u.masks (after_places who users ps best)
-place_beaten who users [] n u best among at = absurd among
-place_beaten who users (x ∷ ps) n u best (inr later) at = place_beaten who users ps n u (after_user who x (slice_get users x) best) later at
-place_beaten who users (x ∷ ps) n u best (inl same) at =
-    let here : AreBeaten who n u.masks (after_user who x (slice_get users x) best) = subst
-    (λ k. AreBeaten who n u.masks (after_user who k (slice_get users k) best)) (sym same) (rw at (all_beaten who n u.masks best)) in
-    still_beaten who n u.masks _ _ (λ l p h. beaten-after_places who users ps l p (after_user who x (slice_get users x) best) h) here
 
 -- ---- where the best claim is from
 
@@ -132,50 +135,39 @@ abbrev pub IsClaim : List ℕ → List User → Option Winner → Type 0
 IsClaim who users None = Unit {0}
 IsClaim who users (Some best) = (u : User) × ((slice_get users best.place ≡ Some u) × (has_claim who best.literals u.masks ≡ true))
 
-or_right : (a b : Bool) → b ≡ true → (a || b) ≡ true
-or_right true b e = refl
-or_right false b e = e
-
-head_claim : (who m : List ℕ) (ms : List (List ℕ)) → is_match m who ≡ true → has_claim who (literals m) (m ∷ ms) ≡ true
-head_claim who m ms hit = rw (hit, (Decides-eqb (literals m) (literals m)).1 refl) refl
-
--- after a user's masks it is the one before, or that of one of these
-from_masks : (who : List ℕ) (n : ℕ) (ms : List (List ℕ)) (best : Option Winner)
-    → (after_masks who n ms best ≡ best)
-    ⊎ ((l : ℕ) × ((after_masks who n ms best ≡ Some (record { literals = l; place = n })) × (has_claim who l ms ≡ true)))
-from_masks who n [] best = inl refl
-from_masks who n (m ∷ ms) best = by (is_match m who && is_better (literals m) n best) refl (λ b. from_masks who n ms b)
+-- a match of a listing's mask is such a claim
+match_claims : (who : List ℕ) (x : Listing) (ms : List (List ℕ)) → list_any (λ m. is_of x m && is_match m who) ms ≡ true
+    → has_claim who x.literals ms ≡ true
+match_claims who x [] e = cc
+match_claims who x (m ∷ ms) e = by (is_of x m && is_match m who) refl e (match_claims who x ms)
   where
-    later : (b : Option Winner) → ((l : ℕ) × ((after_masks who n ms b ≡ Some (record { literals = l; place = n })) × (has_claim who l ms ≡ true)))
-        → (l : ℕ) × ((after_masks who n ms b ≡ Some (record { literals = l; place = n })) × (has_claim who l (m ∷ ms) ≡ true))
-    later b r = (r.0, (r.1.0, or_right (is_match m who && (literals m == r.0)) (has_claim who r.0 ms) r.1.1))
+    by : (b : Bool) → (is_of x m && is_match m who) ≡ b → (b || list_any (λ k. is_of x k && is_match k who) ms) ≡ true
+        → (list_any (λ k. is_of x k && is_match k who) ms ≡ true → has_claim who x.literals ms ≡ true)
+        → ((is_match m who && (literals m == x.literals)) || has_claim who x.literals ms) ≡ true
+    by true f e rest =
+        let hit : is_match m who ≡ true = (and_true f).1 in
+        let as_many : (literals m == x.literals) ≡ true = (and_true (and_true f).0).0 in
+        rw (hit, as_many) refl
+    by false f e rest = or_right (is_match m who && (literals m == x.literals)) _ (rest e)
 
-    by : (c : Bool) → (is_match m who && is_better (literals m) n best) ≡ c
-        → ((b : Option Winner)
-        → (after_masks who n ms b ≡ b)
-        ⊎ ((l : ℕ) × ((after_masks who n ms b ≡ Some (record { literals = l; place = n })) × (has_claim who l ms ≡ true))))
-        → (after_masks who n ms (cond c (Some (record { literals = literals m; place = n })) best) ≡ best)
-        ⊎ ((l : ℕ) × ((after_masks who n ms (cond c (Some (record { literals = literals m; place = n })) best)
-        ≡ Some (record { literals = l; place = n })) × (has_claim who l (m ∷ ms) ≡ true)))
-    by true e rest = elim
-        (rest (Some (record { literals = literals m; place = n }))) [
-          | inl same ↦ inr
-              (literals m, (same, head_claim who m ms (and_true e).0))
-          | inr r ↦ inr (later _ r)
-        ]
-    by false e rest = elim (rest best) [ inl same ↦ inl same | inr r ↦ inr (later _ r) ]
+claim-after_listing : (who : List ℕ) (users : List User) (x : Listing) (best : Option Winner) → IsClaim who users best
+    → IsClaim who users (after_listing who users x best)
+claim-after_listing who users x best h = by (may_win who x best && has_match who x (slice_get users x.place)) refl
+  where
+    of : (o : Option User) → slice_get users x.place ≡ o → has_match who x o ≡ true
+        → (u : User) × ((slice_get users x.place ≡ Some u) × (has_claim who x.literals u.masks ≡ true))
+    of None at found = absurd (true≢false (sym found))
+    of (Some u) at found = (u, (at, match_claims who x u.masks found))
 
-claim-after_user : (who : List ℕ) (users : List User) (n : ℕ) (o : Option User) (best : Option Winner) → slice_get users n ≡ o → IsClaim who users best
-    → IsClaim who users (after_user who n o best)
-claim-after_user who users n None best at h = h
-claim-after_user who users n (Some u) best at h = elim
-    (from_masks who n u.masks best) [ inl same ↦ subst (IsClaim who users) (sym same) h | inr r ↦ subst (IsClaim who users) (sym r.1.0) (u, (at, r.1.1)) ]
+    by : (c : Bool) → (may_win who x best && has_match who x (slice_get users x.place)) ≡ c
+        → IsClaim who users (cond c (Some (record { literals = x.literals; place = x.place })) best)
+    by false e = h
+    by true e = of (slice_get users x.place) refl (and_true e).1
 
-pub claim-after_places : (who : List ℕ) (users : List User) (ps : List ℕ) (best : Option Winner) → IsClaim who users best
-    → IsClaim who users (after_places who users ps best)
-claim-after_places who users [] best h = h
-claim-after_places who users (n ∷ ps) best h = claim-after_places who users ps (after_user who n (slice_get users n) best)
-    (claim-after_user who users n (slice_get users n) best refl h)
+pub claim-after_listings : (who : List ℕ) (users : List User) (xs : List Listing) (best : Option Winner) → IsClaim who users best
+    → IsClaim who users (after_listings who users xs best)
+claim-after_listings who users [] best h = h
+claim-after_listings who users (x ∷ xs) best h = claim-after_listings who users xs (after_listing who users x best) (claim-after_listing who users x best h)
 
 -- ---- the best of all claims decides
 

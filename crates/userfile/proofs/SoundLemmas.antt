@@ -20,7 +20,7 @@ use Rattle.userfile.specs.declared.ban.Ban.{Ban}
 use Rattle.userfile.specs.declared.change.Change.{Change}
 use Rattle.userfile.specs.declared.change.Change.TheVariants.{AddUser, DelUser, AddHost, DelHost, SetGlobal, SetChan, SetBot, AddBan, DelBan}
 use Rattle.userfile.specs.declared.error.ChangeFault.{ChangeFault}
-use Rattle.userfile.proofs.TextLemmas.{is_same-sym, is_same-Decides}
+use Rattle.rfccase.proofs.SameLemmas.{is_same-sym, is_same-Decides}
 use Rattle.userfile.proofs.RepeatLemmas.{or_false, or_both, and_true, and_both, list_all-filter, list_all-push, length-filter-le}
 use Rattle.userfile.proofs.RepeatLemmas.{is_some-find, repeats-filter, repeats-push}
 

@@ -1,21 +1,13 @@
 -- Texts compared by casemapping, and hostmasks by their texts.
 use Rattle.std.proofs.Common.{◌≡◌, ℕ, ◌<◌, ◌≤◌, Bool, true, false, List, length, refl, sym, ap, ◌∙◌, arith, Some, true≢false}
-use Rattle.std.specs.Bool.{Decides}
 use Rattle.std.specs.Option.{is_none}
-use Rattle.std.specs.Cmp.Lexicographic.{bytes_decides}
-use Rattle.std.proofs.lemmas.Bool.Decides.{nat_tests, same_from_decides}
-use Rattle.rfccase.specs.Casemapping.{folded, IsSame, is_same}
-use Rattle.rfccase.proofs.SameLemmas.{length-folded}
+use Rattle.std.proofs.lemmas.Bool.Decides.{nat_tests}
+use Rattle.rfccase.specs.Casemapping.{is_same}
+use Rattle.rfccase.proofs.SameLemmas.{length-folded, is_same-Decides}
 use Rattle.wildmask.specs.Masks.{host_fault}
 use Rattle.wildmask.specs.declared.faults.MaskFault.{MaskFault}
 use Rattle.userfile.specs.declared.limits.TheConstants.{MAX_HANDLE}
 use Rattle.userfile.specs.Shapes.{is_hostmask, is_handle}
-
-pub is_same-Decides : (a b : List ℕ) → Decides (is_same a b) (IsSame a b)
-is_same-Decides a b = bytes_decides (folded a) (folded b)
-
-pub is_same-sym : (a b : List ℕ) → is_same a b ≡ is_same b a
-is_same-sym a b = same_from_decides _ _ (is_same-Decides a b) (λ h. sym ((is_same-Decides b a).0 h), λ h. (is_same-Decides b a).1 (sym h))
 
 -- texts of different lengths are not the same
 pub is_same-length : (a b : List ℕ) → length b < length a → is_same a b ≡ false

@@ -21,10 +21,10 @@ edit_grows (SetGlobal flags) = false
 edit_grows (SetChannel channel flags) = not (flags == 0)
 edit_grows (SetBot flags) = false
 
--- whether the edit adds a mask
-abbrev pub adds_mask : Edit → Bool
-adds_mask (AddMask mask) = true
-adds_mask (DelMask mask) = false
-adds_mask (SetGlobal flags) = false
-adds_mask (SetChannel channel flags) = false
-adds_mask (SetBot flags) = false
+-- whether the edit is one of the user's masks
+abbrev pub is_of_masks : Edit → Bool
+is_of_masks (AddMask mask) = true
+is_of_masks (DelMask mask) = true
+is_of_masks (SetGlobal flags) = false
+is_of_masks (SetChannel channel flags) = false
+is_of_masks (SetBot flags) = false

@@ -4,8 +4,10 @@ use Rattle.bytetext.specs.declared.failure.Failure.{Failure}
 use Rattle.bytetext.specs.declared.failure.Failure.TheVariants.{Refused, NoMemory}
 use Rattle.wildmask.specs.declared.items.MaskKind.TheVariants.{Host}
 use Rattle.wildmask.specs.declared.faults.MaskFault.{MaskFault}
-use Rattle.wildmask.specs.Items.{literals_of}
+use Rattle.wildmask.specs.Items.{items_of, literals_of}
 use Rattle.wildmask.specs.Masks.{host_fault, host_mask, is_match as is_mask_match}
+use Rattle.wildmask.specs.Signatures.{items_signature}
+use Rattle.wildmask.specs.Tails.{tail_of}
 
 -- what making a hostmask answers: its text has no fault, or this first one
 abbrev pub MakesHostmask : List ℕ → Result (List ℕ) (Failure MaskFault) → Type 0
@@ -20,3 +22,11 @@ literals mask = literals_of Host mask
 -- whether a hostmask matches a person, as a test that computes
 unfoldable pub is_match : List ℕ → List ℕ → Bool
 is_match mask who = is_mask_match (host_mask mask) who
+
+-- the tail of a hostmask: whoever it matches ends with it
+unfoldable pub mask_tail : List ℕ → List ℕ
+mask_tail mask = tail_of (items_of Host mask)
+
+-- the pairs of adjacent bytes that a hostmask needs
+unfoldable pub mask_pairs : List ℕ → ℕ
+mask_pairs mask = items_signature (items_of Host mask)

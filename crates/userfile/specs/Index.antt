@@ -1,78 +1,142 @@
--- The index of hostmasks: under each tail the places of the users who have a mask of it.
-use Rattle.std.specs.Prelude.{◌≡◌, ◌<◌, ◌≤◌, ◌⊎◌, ℕ, zero, suc, ◌-◌, ◌==◌, nat_eq, nat_lt, true, not, List, [], ◌∷◌, ◌++◌, map, filter, length}
-use Rattle.std.specs.Prelude.{slice_index, if◌then◌else◌, Option, Some, None}
+-- The index of hostmasks: under each tail, where the masks of it stand.
+use Rattle.std.specs.Prelude.{◌≡◌, ◌<◌, ◌≤◌, ◌⊎◌, ℕ, zero, suc, ◌-◌, ◌==◌, nat_eq, nat_lt, not, ◌&&◌, ◌||◌, true, false}
+use Rattle.std.specs.Prelude.{Bool, List, [], ◌∷◌, ◌++◌, map, filter, length, slice_index, slice_get, if◌then◌else◌, Option, Some, None}
+use Rattle.std.specs.List.{list_any}
 use Rattle.std.specs.Cmp.Lexicographic.{pointwise}
 use Rattle.std.specs.declared.vec.Vec.{Vec}
 use Rattle.std.specs.declared.alloc.Global.{Global}
-use Rattle.wildmask.specs.declared.items.MaskKind.TheVariants.{Host}
-use Rattle.wildmask.specs.Items.{items_of}
-use Rattle.wildmask.specs.Tails.{tail_of, end_key}
-use Rattle.userfile.specs.Hostmasks.{is_match}
+use Rattle.wildmask.specs.Tails.{end_key}
+use Rattle.userfile.specs.Hostmasks.{literals, mask_tail, mask_pairs}
 use Rattle.userfile.specs.declared.user.User.{User}
+use Rattle.userfile.specs.declared.index.Listing.{Listing}
 use Rattle.userfile.specs.declared.index.TailIndex.{TailIndex}
 
--- the tail of a hostmask's text
-unfoldable pub mask_tail : List ℕ → List ℕ
-mask_tail mask = tail_of (items_of Host mask)
+-- the user at a place has a mask of so many literals, which needs these pairs
+abbrev pub listed : ℕ → ℕ → ℕ → Listing
+listed place literals pairs = record { place = place; literals = literals; pairs = pairs }
 
-abbrev pub IsIn : ℕ → List ℕ → Type 0
-IsIn n [] = ⊥
-IsIn n (x ∷ xs) = (x ≡ n) ⊎ IsIn n xs
+-- what stands in the index of a mask of the user at a place
+abbrev pub listing_of : ℕ → List ℕ → Listing
+listing_of place mask = listed place (literals mask) (mask_pairs mask)
 
--- the places under a tail
-abbrev pub places_at : List ℕ → List (List ℕ × Vec ℕ Global) → List ℕ
-places_at tail [] = []
-places_at tail (g ∷ gs) = if pointwise nat_eq tail g.0 then g.1.items else places_at tail gs
+-- whether a listing of its user is that of this mask
+abbrev pub is_of : Listing → List ℕ → Bool
+is_of x mask = (literals mask == x.literals) && (mask_pairs mask == x.pairs)
 
--- a place stands under a tail, and tails of its length are asked for
-abbrev pub IsUnder : TailIndex → List ℕ → ℕ → Type 0
-IsUnder index tail place = (slice_index index.lengths (length tail) ≡ 1) × IsIn place (places_at tail index.groups.entries)
+abbrev pub IsIn : Listing → List Listing → Type 0
+IsIn x [] = ⊥
+IsIn x (y ∷ ys) = (y ≡ x) ⊎ IsIn x ys
 
--- whoever a mask matches ends with the mask's tail, which is short enough to be asked for
-pub record EndsWithTail (mask : List ℕ) : Type 0 where
-  pub short : length (mask_tail mask) < 17
-  pub ends : (who : List ℕ) → is_match mask who ≡ true → mask_tail mask ≡ end_key (length (mask_tail mask)) who
+-- what is in one list is in another too
+abbrev pub KeepsAll : List Listing → List Listing → Type 0
+KeepsAll old new = (x : Listing) → IsIn x old → IsIn x new
 
--- the place stands under the tail of each of these masks
+-- what is in the new list is in the old or is this listing
+abbrev pub IsWithOnly : List Listing → List Listing → Listing → Type 0
+IsWithOnly old new x = (y : Listing) → IsIn y new → IsIn y old ⊎ (y ≡ x)
+
+-- whether two listings are the same
+abbrev pub same_listing : Listing → Listing → Bool
+same_listing x y = (x.place == y.place) && (x.literals == y.literals) && (x.pairs == y.pairs)
+
+-- what stands under a tail
+abbrev pub listings_at : List ℕ → List (List ℕ × Vec Listing Global) → List Listing
+listings_at tail [] = []
+listings_at tail (g ∷ gs) = if pointwise nat_eq tail g.0 then g.1.items else listings_at tail gs
+
+-- a listing stands under a tail, and tails of its length are asked for
+abbrev pub IsUnder : TailIndex → List ℕ → Listing → Type 0
+IsUnder index tail x = (slice_index index.lengths (length tail) ≡ 1) × IsIn x (listings_at tail index.groups.entries)
+
+-- each of these masks, of the user at a place, stands under its tail
 abbrev pub AreUnder : TailIndex → ℕ → List (List ℕ) → Type 0
 AreUnder index place [] = Unit {0}
-AreUnder index place (mask ∷ masks) = (IsUnder index (mask_tail mask) place × EndsWithTail mask) × AreUnder index place masks
+AreUnder index place (mask ∷ masks) = IsUnder index (mask_tail mask) (listing_of place mask) × AreUnder index place masks
 
--- each of these users stands, from this place on, under the tails of all masks
+-- each mask of each of these users, from this place on, stands under its tail
 abbrev pub Covers : TailIndex → ℕ → List User → Type 0
 Covers index place [] = Unit {0}
 Covers index place (user ∷ users) = AreUnder index place user.masks × Covers index (suc place) users
 
--- the place of a user after the one at a place is gone
-abbrev pub moved_up : ℕ → ℕ → ℕ
-moved_up place n = if nat_lt place n then n - 1 else n
+-- whether one of these masks, of a listing's user, has this tail and the listing
+abbrev pub is_listed : List ℕ → Listing → List (List ℕ) → Bool
+is_listed tail x masks = list_any (λ mask. pointwise nat_eq tail (mask_tail mask) && is_of x mask) masks
 
--- the places without one, those after it one place before
-abbrev pub places_without : ℕ → List ℕ → List ℕ
-places_without place places = map (moved_up place) (filter (λ n. not (n == place)) places)
+-- the masks of a user, if there is one
+abbrev pub masks_of : Option User → List (List ℕ)
+masks_of None = []
+masks_of (Some user) = user.masks
 
--- the places that a look-up of a text finds under its end of so many bytes
-abbrev pub asked_at : TailIndex → List ℕ → ℕ → List ℕ
-asked_at index who len = if slice_index index.lengths len == 0 then [] else places_at (end_key len who) index.groups.entries
+-- the masks of the user at a place
+abbrev pub masks_at : List User → ℕ → List (List ℕ)
+masks_at users place = masks_of (slice_get users place)
 
--- and under its ends of fewer bytes than that
-abbrev pub asked : TailIndex → List ℕ → ℕ → List ℕ
-asked index who zero = []
-asked index who (suc len) = asked index who len ++ asked_at index who len
+-- each listing is that of a mask of its user
+abbrev pub Names : TailIndex → List User → Type 0
+Names index users = (tail : List ℕ) (x : Listing) → IsIn x (listings_at tail index.groups.entries) → is_listed tail x (masks_at users x.place) ≡ true
 
--- those after a user's place move up by one
-abbrev pub MovesUp : TailIndex → TailIndex → ℕ → Type 0
-MovesUp old new place = (tail : List ℕ) (n : ℕ) → place ≤ n → IsUnder old tail (suc n) → IsUnder new tail n
+-- the index has just the masks of these users
+pub record IsIndexOf (index : TailIndex) (users : List User) : Type 0 where
+  pub covers : Covers index 0 users
+  pub names : Names index users
 
--- those before it stay
-abbrev pub Stays : TailIndex → TailIndex → ℕ → Type 0
-Stays old new place = (tail : List ℕ) (n : ℕ) → n < place → IsUnder old tail n → IsUnder new tail n
+-- ---- what changes of an index
+
+abbrev pub Groups : Type 0
+Groups = List (List ℕ × Vec Listing Global)
 
 -- what stands in one index under a tail stands there in another too
 abbrev pub Keeps : TailIndex → TailIndex → Type 0
-Keeps old new = (tail : List ℕ) (place : ℕ) → IsUnder old tail place → IsUnder new tail place
+Keeps old new = (tail : List ℕ) (x : Listing) → IsUnder old tail x → IsUnder new tail x
 
--- a user who is gone is forgotten
-abbrev pub Forgets : TailIndex → TailIndex → Option ℕ → Type 0
-Forgets old new None = Keeps old new
-Forgets old new (Some place) = MovesUp old new place × Stays old new place
+-- nothing stands in the new groups that didn't in the old
+abbrev pub AddsNothing : Groups → Groups → Type 0
+AddsNothing old new = (tail : List ℕ) → KeepsAll (listings_at tail new) (listings_at tail old)
+
+-- nothing but this listing under this tail
+abbrev pub AddsOnly : Groups → Groups → List ℕ → Listing → Type 0
+AddsOnly old new tail x = (t : List ℕ) (y : Listing) → IsIn y (listings_at t new) → IsIn y (listings_at t old) ⊎ ((t ≡ tail) × (y ≡ x))
+
+-- whether a listing stays where the user at a place has these masks
+abbrev pub stays : ℕ → List (List ℕ) → List ℕ → Listing → Bool
+stays place masks tail x = not (x.place == place) || is_listed tail x masks
+
+-- just the listings that stay are left
+abbrev pub LeavesListed : Groups → Groups → ℕ → List (List ℕ) → Type 0
+LeavesListed old new place masks = (tail : List ℕ) (x : Listing)
+    → (IsIn x (listings_at tail old) → stays place masks tail x ≡ true → IsIn x (listings_at tail new))
+    × (IsIn x (listings_at tail new) → IsIn x (listings_at tail old) × (stays place masks tail x ≡ true))
+
+-- each listing is that of a mask of its user, but for those of one place
+abbrev pub NamesBut : ℕ → TailIndex → List User → Type 0
+NamesBut place index users = (tail : List ℕ) (x : Listing) → IsIn x (listings_at tail index.groups.entries) → (x.place == place) ≡ false
+    → is_listed tail x (masks_at users x.place) ≡ true
+
+-- ---- a user who is gone
+
+-- a listing after the user at a place is gone
+abbrev pub moved_up : ℕ → Listing → Listing
+moved_up place x = listed (if nat_lt place x.place then x.place - 1 else x.place) x.literals x.pairs
+
+-- the listings without those of one place, and those after it one place before
+abbrev pub listings_without : ℕ → List Listing → List Listing
+listings_without place xs = map (moved_up place) (filter (λ x. not (x.place == place)) xs)
+
+-- just the listings of other places are left, and those of places after it are moved up
+abbrev pub LeavesOut : Groups → Groups → ℕ → Type 0
+LeavesOut old new place = (tail : List ℕ)
+    → ((n l s : ℕ) → n < place → IsIn (listed n l s) (listings_at tail old) → IsIn (listed n l s) (listings_at tail new))
+    × ((n l s : ℕ) → place ≤ n → IsIn (listed (suc n) l s) (listings_at tail old) → IsIn (listed n l s) (listings_at tail new))
+    × ((x : Listing) → IsIn x (listings_at tail new)
+    → (y : Listing) × (IsIn y (listings_at tail old) × (((y.place == place) ≡ false) × (moved_up place y ≡ x))))
+
+-- ---- a look-up
+
+-- what a look-up of a text finds under its end of so many bytes
+abbrev pub asked_at : TailIndex → List ℕ → ℕ → List Listing
+asked_at index who len = if slice_index index.lengths len == 0 then [] else listings_at (end_key len who) index.groups.entries
+
+-- and under its ends of fewer bytes than that
+abbrev pub asked : TailIndex → List ℕ → ℕ → List Listing
+asked index who zero = []
+asked index who (suc len) = asked index who len ++ asked_at index who len

@@ -1,7 +1,11 @@
--- How the masks of some users are looked through for the best claim to be a person.
-use Rattle.std.specs.Prelude.{ℕ, Bool, true, ◌==◌, ◌&&◌, ◌||◌, nat_lt, if◌then◌else◌, List, [], ◌∷◌, Option, Some, None, slice_get}
-use Rattle.userfile.specs.Hostmasks.{is_match, literals}
+-- How what stands in the index is looked through for the best claim to be a person.
+use Rattle.std.specs.Prelude.{◌≡◌, ℕ, Bool, true, false, ◌==◌, ◌&&◌, ◌||◌, nat_lt, if◌then◌else◌, List, [], ◌∷◌, Option, Some, None, slice_get}
+use Rattle.std.specs.List.{list_any}
+use Rattle.wildmask.specs.Signatures.{text_signature, is_within}
+use Rattle.userfile.specs.Hostmasks.{is_match}
+use Rattle.userfile.specs.Index.{is_of}
 use Rattle.userfile.specs.declared.user.User.{User}
+use Rattle.userfile.specs.declared.index.Listing.{Listing}
 use Rattle.userfile.specs.declared.persons.Winner.{Winner}
 
 -- whether a mask of so many literals, of the user at a place, is better than the best so far
@@ -9,23 +13,29 @@ abbrev pub is_better : ℕ → ℕ → Option Winner → Bool
 is_better literals place None = true
 is_better literals place (Some best) = nat_lt best.literals literals || (literals == best.literals && nat_lt place best.place)
 
--- the best after one more mask, of the user at a place
-abbrev pub after_mask : List ℕ → ℕ → List ℕ → Option Winner → Option Winner
-after_mask who place mask best =
-    if is_match mask who && is_better (literals mask) place best then Some (record { literals = literals mask; place = place }) else best
+-- whether a mask of a listing is worth a match: it needs no pair that the text hasn't, and would be better
+abbrev pub may_win : List ℕ → Listing → Option Winner → Bool
+may_win who x best = is_within x.pairs (text_signature who) && is_better x.literals x.place best
 
-abbrev pub after_masks : List ℕ → ℕ → List (List ℕ) → Option Winner → Option Winner
-after_masks who place [] best = best
-after_masks who place (mask ∷ masks) best = after_masks who place masks (after_mask who place mask best)
+-- whether one of the masks of a listing, of this user, matches
+abbrev pub has_match : List ℕ → Listing → Option User → Bool
+has_match who x None = false
+has_match who x (Some user) = list_any (λ mask. is_of x mask && is_match mask who) user.masks
 
-abbrev pub after_user : List ℕ → ℕ → Option User → Option Winner → Option Winner
-after_user who place None best = best
-after_user who place (Some user) best = after_masks who place user.masks best
+-- the best after one more listing
+abbrev pub after_listing : List ℕ → List User → Listing → Option Winner → Option Winner
+after_listing who users x best =
+    if may_win who x best && has_match who x (slice_get users x.place) then Some (record { literals = x.literals; place = x.place }) else best
 
--- the best after the users at these places
-abbrev pub after_places : List ℕ → List User → List ℕ → Option Winner → Option Winner
-after_places who users [] best = best
-after_places who users (place ∷ places) best = after_places who users places (after_user who place (slice_get users place) best)
+-- the best after several
+abbrev pub after_listings : List ℕ → List User → List Listing → Option Winner → Option Winner
+after_listings who users [] best = best
+after_listings who users (x ∷ xs) best = after_listings who users xs (after_listing who users x best)
+
+-- these listings make of the best what others do, for a text of these pairs
+abbrev pub SameBest : ℕ → List Listing → List Listing → Type 0
+SameBest pairs xs ys = (who : List ℕ) (users : List User) (best : Option Winner) → pairs ≡ text_signature who
+    → after_listings who users xs best ≡ after_listings who users ys best
 
 -- the user of the best
 abbrev pub user_at : List User → Option Winner → Option User

@@ -3,8 +3,8 @@ ghost use Rattle.std.specs.Prelude.{◌≡◌, [], ◌∷◌, ◌++◌, not, tru
 ghost use Rattle.std.specs.Option.{option_copied};
 ghost use Rattle.rfccase.specs.Casemapping.{is_same};
 ghost use Rattle.userfile.specs.Apply.{new_user};
-ghost use Rattle.userfile.specs.Edits.{edited, edit_grows, adds_mask};
-ghost use Rattle.userfile.specs.Index.{Covers};
+ghost use Rattle.userfile.specs.Edits.{edited, edit_grows, is_of_masks};
+ghost use Rattle.userfile.specs.Index.{IsIndexOf};
 ghost use Rattle.userfile.specs.declared.index.TailIndex.{TailIndex};
 ghost use Rattle.userfile.specs.Held.{user_of, users_without, with_user};
 ghost use Rattle.userfile.specs.Shapes.{is_handle};
@@ -42,7 +42,7 @@ pub(crate) fn add_user(
     requires absent { user_of handle.now (values users.old) ≡ None }
     ensures keyed { IsKeyed users.new.entries }
     ensures ok { OnOk result (values users.new ≡ values users.old ++ new_user handle.now ∷ []) }
-    ensures covers { (index : TailIndex) → Covers index 0 (values users.old) → Covers index 0 (values users.new) }
+    ensures index { (index : TailIndex) → IsIndexOf index (values users.old) → IsIndexOf index (values users.new) }
     ensures err { OnErr result (values users.new ≡ values users.old) }
 {
     let key = fold_text(alloc, handle.as_bytes())?;
@@ -75,7 +75,7 @@ pub(crate) fn edit_user(
     ensures keyed { IsKeyed users.new.entries }
     ensures ok { OnOk result (values users.new ≡ with_user handle.now (edited change.entry) (values users.old)) }
     ensures err { OnErr result (values users.new ≡ values users.old) }
-    ensures covers { (index : TailIndex) → adds_mask change.entry ≡ false → Covers index 0 (values users.old) → Covers index 0 (values users.new) }
+    ensures index { (index : TailIndex) → is_of_masks change.entry ≡ false → IsIndexOf index (values users.old) → IsIndexOf index (values users.new) }
     ensures memory { IfErr result (λ _. edit_grows change.entry ≡ true) }
 {
     let Some(lower) = ShortFold::<MAX_HANDLE>::new(handle) else {

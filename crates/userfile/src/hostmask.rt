@@ -26,12 +26,10 @@ impl Model for Hostmask {
 }
 
 impl Hostmask {
-    ghost use Rattle.std.specs.Prelude.{◌≡◌, ◌↔◌, ℕ, List, IsTrue, true};
+    ghost use Rattle.std.specs.Prelude.{◌≡◌, ◌↔◌, ◌≤◌, IsTrue, true, length};
     ghost use Rattle.wildmask.specs.Masks.{host_mask, IsMatch};
     ghost use Rattle.userfile.specs.Shapes.{is_hostmask};
-    ghost use Rattle.userfile.specs.Hostmasks.{MakesHostmask, is_match, literals};
-    ghost use Rattle.userfile.specs.Index.{mask_tail, EndsWithTail};
-    ghost use Rattle.wildmask.specs.Signatures.{text_signature};
+    ghost use Rattle.userfile.specs.Hostmasks.{MakesHostmask, is_match, literals, mask_tail, mask_pairs};
 
     /// The hostmask of this text.
     ///
@@ -60,19 +58,19 @@ impl Hostmask {
         self.mask.matches(who)
     }
 
-    // The mask's tail: whoever the mask matches ends with it.
+    // The mask's tail.
     pub(crate) fn tail(&self) -> Tail
         ensures value { result ≡ mask_tail self.now }
-        ensures ends { EndsWithTail self.now }
+        ensures short { length result ≤ 16 }
     {
         self.mask.tail()
     }
 
-    // Whether the mask may match a person with these pairs of bytes.
-    pub(crate) fn may_match(&self, pairs: Signature) -> bool
-        ensures { (who : List ℕ) → pairs ≡ text_signature who → is_match self.now who ≡ true → result ≡ true }
+    // The pairs of adjacent bytes that the mask needs.
+    pub(crate) fn pairs(&self) -> Signature
+        ensures { result ≡ mask_pairs self.now }
     {
-        self.mask.signature().is_within(pairs)
+        self.mask.signature()
     }
 
     /// How many items of the mask are literals.

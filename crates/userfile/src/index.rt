@@ -1,167 +1,239 @@
-// Where hostmasks stand: under each tail the places of the users who have a mask of it. A look-up asks only for the
+// Where hostmasks stand: under each tail the masks of it, by the places of their users. A look-up asks only for the
 // ends of a text, at most one for each length of a tail.
-ghost use Rattle.std.specs.Prelude.{◌≡◌, ◌<◌, ◌≤◌, ◌==◌, not, ℕ, List, suc, OnOk, filter, map, length};
-ghost use Rattle.userfile.specs.Index.{IsIn, IsUnder, Keeps, MovesUp, Stays, Forgets, places_at, places_without, moved_up, asked_at};
+ghost use Rattle.std.specs.Prelude.{◌≡◌, ◌<◌, ◌==◌, not, List, [], ℕ, OnOk, OnErr, filter, map, length};
+ghost use Rattle.std.specs.List.{list_any};
+ghost use Rattle.userfile.specs.Index.{IsIn, IsUnder, Keeps, KeepsAll, IsWithOnly, AddsOnly, AddsNothing, LeavesListed, LeavesOut};
+ghost use Rattle.userfile.specs.Index.{listing_of, listings_at, listings_without, moved_up, same_listing, is_listed, stays, asked_at};
 
+use crate::hostmask::Hostmask;
 use bytetext::NoMemory;
 use indexmap::IndexMap;
 use std::alloc::Global;
-use wildmask::Tail;
+use wildmask::{Signature, Tail};
 
 // How many lengths a tail may have: 0 to 16 bytes.
 pub(crate) const TAIL_LENGTHS: usize = 17;
 
-// How many places are put into an index before it is made anew: twice those of a full userfile.
-const MOST_PLACES: usize = 16_000;
-
-// The index. A mask that is taken from a user leaves the user's place where it was, since a look-up tries the masks
-// themselves; an index into which many places were put is made anew.
-#[derive(Drop)]
-pub(crate) struct TailIndex {
-    pub(crate) groups: IndexMap<Tail, Vec<usize>>,
-    // 1 where there has been a tail of so many bytes, and 0 elsewhere
-    pub(crate) lengths: [u8; TAIL_LENGTHS],
-    // how often a place was put in
-    pub(crate) puts: usize,
+// What stands in the index of a mask: the place of its user, and what decides whether the mask is worth a match. A
+// user's masks of as many literals, which need the same pairs, have one listing where they have one tail.
+#[derive(Clone, Copy)]
+pub(crate) struct Listing {
+    pub(crate) place: usize,
+    pub(crate) literals: u8,
+    pub(crate) pairs: Signature,
 }
 
-// The index without places. Takes no memory.
-pub(crate) fn new_index(alloc: Global) -> TailIndex {
-    TailIndex {
-        groups: IndexMap::new(alloc),
-        lengths: [0; TAIL_LENGTHS],
-        puts: 0,
+// What stands in the index of a mask of the user at a place.
+pub(crate) fn listing_of(mask: &Hostmask, place: usize) -> Listing
+    ensures { result ≡ listing_of place mask.now }
+{
+    Listing {
+        place,
+        literals: mask.literals(),
+        pairs: mask.pairs(),
     }
 }
 
-// Whether so many places were put in that the index is to be made anew.
-pub(crate) fn is_worn(index: &TailIndex) -> bool {
-    index.puts >= MOST_PLACES
+impl Listing {
+    ghost use Rattle.std.specs.Prelude.{◌≡◌};
+    ghost use Rattle.userfile.specs.Index.{is_of};
+
+    // Whether this is the listing of a mask of its user.
+    pub(crate) fn is_of(&self, mask: &Hostmask) -> bool
+        ensures { result ≡ is_of self.now mask.now }
+    {
+        mask.literals() == self.literals && mask.pairs() == self.pairs
+    }
 }
 
-// The places under the end of a text of so many bytes.
-pub(crate) fn places_of<'a>(index: &'a TailIndex, who: &[u8], len: usize) -> &'a [usize]
+// The index: it has just the masks of the users.
+#[derive(Drop)]
+pub(crate) struct TailIndex {
+    pub(crate) groups: IndexMap<Tail, Vec<Listing>>,
+    // 1 where there has been a tail of so many bytes, and 0 elsewhere
+    pub(crate) lengths: [u8; TAIL_LENGTHS],
+}
+
+// The index without listings. Takes no memory.
+pub(crate) fn new_index(alloc: Global) -> TailIndex
+    ensures { result.groups.entries ≡ [] }
+{
+    TailIndex {
+        groups: IndexMap::new(alloc),
+        lengths: [0; TAIL_LENGTHS],
+    }
+}
+
+// What stands under the end of a text of so many bytes.
+pub(crate) fn listings_of<'a>(index: &'a TailIndex, who: &[u8], len: usize) -> &'a [Listing]
     requires { len < TAIL_LENGTHS }
     ensures { result.now ≡ asked_at index.now who.now len }
 {
     if index.lengths[len] == 0 {
         &[]
     } else {
-        places_under(&index.groups, Tail::of_end(who, len))
+        listings_under(&index.groups, Tail::of_end(who, len))
     }
 }
 
-// The places under a tail.
-fn places_under<'a>(groups: &'a IndexMap<Tail, Vec<usize>>, tail: Tail) -> &'a [usize]
-    ensures { result.now ≡ places_at tail groups.now.entries }
+// What stands under a tail.
+fn listings_under<'a>(groups: &'a IndexMap<Tail, Vec<Listing>>, tail: Tail) -> &'a [Listing]
+    ensures { result.now ≡ listings_at tail groups.now.entries }
 {
     match groups.get(&tail) {
-        Some(places) => places.as_slice(),
+        Some(listings) => listings.as_slice(),
         None => &[],
     }
 }
 
-// Puts a place under a tail.
-pub(crate) fn add_place(
+// Puts a listing under a tail.
+pub(crate) fn add_listing(
     index: &mut TailIndex,
     alloc: Global,
     tail: Tail,
-    place: usize,
+    listing: &Listing,
 ) -> Result<(), NoMemory>
     requires { length tail < TAIL_LENGTHS }
     ensures kept { Keeps index.old index.new }
-    ensures ok { OnOk result (IsUnder index.new tail place) }
+    ensures only { AddsOnly index.old.groups.entries index.new.groups.entries tail listing.now }
+    ensures ok { OnOk result (IsUnder index.new tail listing.now) }
+    ensures err { OnErr result (AddsNothing index.old.groups.entries index.new.groups.entries) }
 {
-    index.puts = index.puts.saturating_add(1);
     index.lengths[tail.as_bytes().len()] = 1;
-    put(&mut index.groups, alloc, tail, place)
+    put(&mut index.groups, alloc, tail, listing)
 }
 
-// Puts a place into the group of a tail.
+// Puts a listing into the group of a tail.
 fn put(
-    groups: &mut IndexMap<Tail, Vec<usize>>,
+    groups: &mut IndexMap<Tail, Vec<Listing>>,
     alloc: Global,
     tail: Tail,
-    place: usize,
+    listing: &Listing,
 ) -> Result<(), NoMemory>
-    ensures kept { (t : List ℕ) (n : ℕ) → IsIn n (places_at t groups.old.entries) → IsIn n (places_at t groups.new.entries) }
-    ensures ok { OnOk result (IsIn place (places_at tail groups.new.entries)) }
+    ensures kept { (t : List ℕ) → KeepsAll (listings_at t groups.old.entries) (listings_at t groups.new.entries) }
+    ensures only { AddsOnly groups.old.entries groups.new.entries tail listing.now }
+    ensures ok { OnOk result (IsIn listing.now (listings_at tail groups.new.entries)) }
+    ensures err { OnErr result (AddsNothing groups.old.entries groups.new.entries) }
 {
     if let Some(group) = groups.get_mut(&tail) {
-        return put_once(group, place);
+        return put_once(group, listing);
     }
     let mut group = Vec::new(alloc);
-    group.push(place)?;
+    group.push(*listing)?;
     groups.insert(tail, group)?;
     Ok(())
 }
 
-// Puts a place after the others, where it is not among them.
-fn put_once(group: &mut Vec<usize>, place: usize) -> Result<(), NoMemory>
-    ensures kept { (n : ℕ) → IsIn n group.old.items → IsIn n group.new.items }
-    ensures ok { OnOk result (IsIn place group.new.items) }
+// Puts a listing after the others, where it is not among them.
+fn put_once(group: &mut Vec<Listing>, listing: &Listing) -> Result<(), NoMemory>
+    ensures kept { KeepsAll group.old.items group.new.items }
+    ensures only { IsWithOnly group.old.items group.new.items listing.now }
+    ensures ok { OnOk result (IsIn listing.now group.new.items) }
+    ensures err { OnErr result (KeepsAll group.new.items group.old.items) }
 {
-    if !group.as_slice().contains(&place) {
-        group.push(place)?;
+    if !has_listing(group.as_slice(), listing) {
+        group.push(*listing)?;
     }
     Ok(())
 }
 
-// Takes out the place of a user who is gone, where there was one: those after it move up by one.
-pub(crate) fn forget(index: &mut TailIndex, place: Option<usize>)
-    ensures { Forgets index.old index.new place }
+// Whether a listing is among these.
+fn has_listing(group: &[Listing], listing: &Listing) -> bool
+    ensures { result ≡ list_any (same_listing listing.now) group.now }
 {
-    match place {
-        Some(place) => remove_user(index, place),
-        None => {}
+    group.iter().any(|held| is_same(listing, held))
+}
+
+fn is_same(a: &Listing, b: &Listing) -> bool
+    ensures { result ≡ same_listing a.now b.now }
+{
+    a.place == b.place && a.literals == b.literals && a.pairs == b.pairs
+}
+
+// Keeps of the listings of a place those of these masks.
+pub(crate) fn keep_masks(
+    groups: &mut IndexMap<Tail, Vec<Listing>>,
+    place: usize,
+    masks: &[Hostmask],
+)
+    ensures { LeavesListed groups.old.entries groups.new.entries place masks.now }
+{
+    // No two groups have one tail: `len` says so.
+    if groups.len() > 0 {
+        groups.retain(
+            |tail: &Tail, group: &mut Vec<Listing>| -> bool
+                ensures { (result ≡ not (length group.new.items == 0)) × (group.new.items ≡ filter (stays place masks.entry.now tail.now) group.old.items) }
+            {
+                keep_listed(group, tail, place, masks);
+                !group.is_empty()
+            },
+        );
     }
 }
 
-fn remove_user(index: &mut TailIndex, place: usize)
-    ensures after { MovesUp index.old index.new place }
-    ensures before { Stays index.old index.new place }
+fn keep_listed(group: &mut Vec<Listing>, tail: &Tail, place: usize, masks: &[Hostmask])
+    ensures { group.new.items ≡ filter (stays place masks.now tail.now) group.old.items }
 {
-    remove_from_groups(&mut index.groups, place);
+    group.retain(|held| held.place != place || is_listed(tail, held, masks));
 }
 
-fn remove_from_groups(groups: &mut IndexMap<Tail, Vec<usize>>, place: usize)
-    ensures before { (t : List ℕ) (n : ℕ) → n < place → IsIn n (places_at t groups.old.entries) → IsIn n (places_at t groups.new.entries) }
-    ensures after { (t : List ℕ) (n : ℕ) → place ≤ n → IsIn (suc n) (places_at t groups.old.entries) → IsIn n (places_at t groups.new.entries) }
+// Whether one of these masks, of a listing's user, has this tail and the listing.
+fn is_listed(tail: &Tail, listing: &Listing, masks: &[Hostmask]) -> bool
+    ensures { result ≡ is_listed tail.now listing.now masks.now }
 {
-    groups.retain(
-        |_tail: &Tail, group: &mut Vec<usize>| -> bool
-            ensures { (result ≡ not (length group.new.items == 0)) × (group.new.items ≡ places_without place group.old.items) }
-        {
-            leave_out(group, place);
-            !group.is_empty()
-        },
-    );
+    masks
+        .iter()
+        .any(|mask| *tail == mask.tail() && listing.is_of(mask))
 }
 
-// Takes out a place, and moves those after it up by one.
-fn leave_out(group: &mut Vec<usize>, place: usize)
-    ensures { group.new.items ≡ places_without place group.old.items }
+// Takes out the listings of a user who is gone: the places after it move up by one.
+pub(crate) fn remove_user(groups: &mut IndexMap<Tail, Vec<Listing>>, place: usize)
+    ensures { LeavesOut groups.old.entries groups.new.entries place }
+{
+    if groups.len() > 0 {
+        groups.retain(
+            |_tail: &Tail, group: &mut Vec<Listing>| -> bool
+                ensures { (result ≡ not (length group.new.items == 0)) × (group.new.items ≡ listings_without place group.old.items) }
+            {
+                leave_out(group, place);
+                !group.is_empty()
+            },
+        );
+    }
+}
+
+// Takes out the listings of a place, and moves the places after it up by one.
+fn leave_out(group: &mut Vec<Listing>, place: usize)
+    ensures { group.new.items ≡ listings_without place group.old.items }
 {
     drop_place(group, place);
     move_up(group, place);
 }
 
-fn drop_place(group: &mut Vec<usize>, place: usize)
-    ensures { group.new.items ≡ filter (λ n. not (n == place)) group.old.items }
+fn drop_place(group: &mut Vec<Listing>, place: usize)
+    ensures { group.new.items ≡ filter (λ x. not (x.place == place)) group.old.items }
 {
-    group.retain(|held| *held != place);
+    group.retain(|held| held.place != place);
 }
 
-fn move_up(places: &mut [usize], place: usize)
-    ensures { places.new ≡ map (moved_up place) places.old }
+fn move_up(group: &mut [Listing], place: usize)
+    ensures { group.new ≡ map (moved_up place) group.old }
 {
-    for held in places.iter_mut() {
+    for held in group.iter_mut() {
         *held = moved_up(*held, place);
     }
 }
 
-fn moved_up(held: usize, place: usize) -> usize
+fn moved_up(held: Listing, place: usize) -> Listing
     ensures { result ≡ moved_up place held }
 {
-    if held > place { held - 1 } else { held }
+    Listing {
+        place: if held.place > place {
+            held.place - 1
+        } else {
+            held.place
+        },
+        literals: held.literals,
+        pairs: held.pairs,
+    }
 }

@@ -1,18 +1,20 @@
 // The map of the users and the index of their hostmasks, changed together.
-ghost use Rattle.std.specs.Prelude.{◌≡◌, false, IfOk, OnOk, OnErr, ◌+◌, ℕ, Some, take};
+ghost use Rattle.std.specs.Prelude.{◌≡◌, false, IfOk, OnOk, OnErr, List, Some};
 ghost use Rattle.std.specs.List.{position_from};
 ghost use Rattle.rfccase.specs.Casemapping.{is_same};
 ghost use Rattle.indexmap.specs.IndexMap.{values};
-ghost use Rattle.userfile.specs.Apply.{with_mask};
+ghost use Rattle.userfile.specs.Apply.{with_mask, without_mask};
 ghost use Rattle.userfile.specs.Held.{users_without, with_user};
-ghost use Rattle.userfile.specs.Index.{mask_tail, IsUnder, EndsWithTail, AreUnder, Covers, Keeps};
+ghost use Rattle.userfile.specs.Hostmasks.{mask_tail};
+ghost use Rattle.userfile.specs.Index.{listing_of, masks_at, IsUnder, AreUnder, Covers, Keeps, Names, NamesBut, IsIndexOf, AddsOnly, AddsNothing};
+ghost use Rattle.userfile.specs.declared.user.User.{User as user};
 ghost use Rattle.userfile.specs.Keys.{IsKeyed};
 ghost use Rattle.userfile.specs.Together.{repeats_handle};
 
 use crate::edits::Edit;
 use crate::entries::{edit_user, keep_other_users};
 use crate::hostmask::Hostmask;
-use crate::index::{TailIndex, add_place, forget, is_worn, new_index};
+use crate::index::{TailIndex, add_listing, keep_masks, listing_of, new_index, remove_user};
 use crate::limits::MAX_HANDLE;
 use crate::user::User;
 use bytetext::NoMemory;
@@ -40,65 +42,101 @@ pub(crate) fn add_host(
     mask: Hostmask,
 ) -> Result<(), NoMemory>
     requires keyed { IsKeyed users.old.entries }
-    requires covers { Covers index.old 0 (values users.old) }
+    requires index { IsIndexOf index.old (values users.old) }
     ensures keyed { IsKeyed users.new.entries }
-    ensures covers { Covers index.new 0 (values users.new) }
+    ensures index { IsIndexOf index.new (values users.new) }
     ensures ok { OnOk result (values users.new ≡ with_user handle.now (with_mask mask) (values users.old)) }
     ensures err { OnErr result (values users.new ≡ values users.old) }
 {
-    renew(index, alloc, users)?;
-    add_tail(index, alloc, users, handle, &mask)?;
-    edit_user(users, alloc, handle, Edit::AddMask(mask))
-}
-
-// Puts the place of the user with the handle under the tail of a mask.
-fn add_tail(
-    index: &mut TailIndex,
-    alloc: Global,
-    users: &IndexMap<Vec<u8>, User>,
-    handle: &[u8],
-    mask: &Hostmask,
-) -> Result<(), NoMemory>
-    requires { IsKeyed users.now.entries }
-    ensures kept { Keeps index.old index.new }
-    ensures ends { EndsWithTail mask.now }
-    ensures ok { OnOk result ((p : ℕ) → position_from (λ u. is_same handle.now u.handle) 0 (values users.now) ≡ Some p
-        → IsUnder index.new (mask_tail mask.now) p) }
-{
-    let tail = mask.tail();
     match place_of(users, handle) {
-        Some(place) => add_place(index, alloc, tail, place),
+        Some(place) => add_host_at(users, index, alloc, place, handle, mask),
         None => Ok(()),
     }
 }
 
-// Makes the index anew where many places were put into it.
-fn renew(
+// Puts a hostmask after those of the user with the handle, who stands at this place. Where the user's list can't grow,
+// the index is put right again, which takes no memory.
+fn add_host_at(
+    users: &mut IndexMap<Vec<u8>, User>,
     index: &mut TailIndex,
     alloc: Global,
-    users: &IndexMap<Vec<u8>, User>,
+    place: usize,
+    handle: &[u8],
+    mask: Hostmask,
 ) -> Result<(), NoMemory>
-    requires { Covers index.old 0 (values users.now) }
-    ensures { Covers index.new 0 (values users.now) }
+    requires keyed { IsKeyed users.old.entries }
+    requires place { position_from (λ u. is_same handle.now u.handle) 0 (values users.old) ≡ Some place }
+    requires index { IsIndexOf index.old (values users.old) }
+    ensures keyed { IsKeyed users.new.entries }
+    ensures index { IsIndexOf index.new (values users.new) }
+    ensures ok { OnOk result (values users.new ≡ with_user handle.now (with_mask mask) (values users.old)) }
+    ensures err { OnErr result (values users.new ≡ values users.old) }
 {
-    if is_worn(index) {
-        *index = index_of(alloc, users)?;
+    add_mask(index, alloc, &mask, place)?;
+    match edit_user(users, alloc, handle, Edit::AddMask(mask)) {
+        Ok(()) => Ok(()),
+        Err(NoMemory) => {
+            tidy(users, index, place);
+            Err(NoMemory)
+        }
+    }
+}
+
+// Takes a hostmask from the user with the handle.
+pub(crate) fn del_host(
+    users: &mut IndexMap<Vec<u8>, User>,
+    index: &mut TailIndex,
+    alloc: Global,
+    handle: &[u8],
+    mask: &[u8],
+) -> Result<(), NoMemory>
+    requires keyed { IsKeyed users.old.entries }
+    requires index { IsIndexOf index.old (values users.old) }
+    ensures keyed { IsKeyed users.new.entries }
+    ensures index { IsIndexOf index.new (values users.new) }
+    ensures ok { OnOk result (values users.new ≡ with_user handle.now (without_mask mask.now) (values users.old)) }
+    ensures never { OnErr result ⊥ }
+{
+    let place = place_of(users, handle);
+    edit_user(users, alloc, handle, Edit::DelMask(mask))?;
+    if let Some(place) = place {
+        tidy(users, index, place);
     }
     Ok(())
+}
+
+// Keeps of the listings of the user at a place those of the user's masks.
+fn tidy(users: &IndexMap<Vec<u8>, User>, index: &mut TailIndex, place: usize)
+    requires covers { Covers index.old 0 (values users.now) }
+    requires others { NamesBut place index.old (values users.now) }
+    ensures { IsIndexOf index.new (values users.now) }
+{
+    keep_masks(&mut index.groups, place, masks_at(users, place));
+}
+
+// The masks of the user at a place.
+fn masks_at(users: &IndexMap<Vec<u8>, User>, place: usize) -> &[Hostmask]
+    ensures { result.now ≡ masks_at (values users.now) place }
+{
+    match users.get_index(place) {
+        Some((_, user)) => user.masks.as_slice(),
+        None => &[],
+    }
 }
 
 // Takes out the user with the handle.
 pub(crate) fn del_user(users: &mut IndexMap<Vec<u8>, User>, index: &mut TailIndex, handle: &[u8])
     requires keyed { IsKeyed users.old.entries }
     requires apart { repeats_handle (values users.old) ≡ false }
-    requires covers { Covers index.old 0 (values users.old) }
+    requires index { IsIndexOf index.old (values users.old) }
     ensures keyed { IsKeyed users.new.entries }
-    ensures covers { Covers index.new 0 (values users.new) }
+    ensures index { IsIndexOf index.new (values users.new) }
     ensures kept { values users.new ≡ users_without handle.now (values users.old) }
 {
-    let place = place_of(users, handle);
-    keep_other_users(users, handle);
-    forget(index, place);
+    if let Some(place) = place_of(users, handle) {
+        keep_other_users(users, handle);
+        remove_user(&mut index.groups, place);
+    }
 }
 
 // The index of all hostmasks of these users.
@@ -106,32 +144,16 @@ pub(crate) fn index_of(
     alloc: Global,
     users: &IndexMap<Vec<u8>, User>,
 ) -> Result<TailIndex, NoMemory>
-    ensures { IfOk result (λ index. Covers index 0 (values users.now)) }
+    ensures { IfOk result (λ index. IsIndexOf index (values users.now)) }
 {
     let mut index = new_index(alloc);
     for place in 0..users.len() {
-        add_user_at(&mut index, alloc, users, place)?;
+        add_masks(&mut index, alloc, masks_at(users, place), place)?;
     }
     Ok(index)
 }
 
-// Puts the place of a user under the tails of all masks of the user.
-fn add_user_at(
-    index: &mut TailIndex,
-    alloc: Global,
-    users: &IndexMap<Vec<u8>, User>,
-    place: usize,
-) -> Result<(), NoMemory>
-    requires { Covers index.old 0 (take place (values users.now)) }
-    ensures ok { OnOk result (Covers index.new 0 (take (place + 1) (values users.now))) }
-{
-    match users.get_index(place) {
-        Some((_, user)) => add_masks(index, alloc, user.masks.as_slice(), place),
-        None => Ok(()),
-    }
-}
-
-// Puts a place under the tails of these masks.
+// Puts these masks, of the user at a place, under their tails.
 fn add_masks(
     index: &mut TailIndex,
     alloc: Global,
@@ -139,10 +161,26 @@ fn add_masks(
     place: usize,
 ) -> Result<(), NoMemory>
     ensures kept { Keeps index.old index.new }
+    ensures names { (users : List user) → masks_at users place ≡ masks.now → Names index.old users → Names index.new users }
     ensures ok { OnOk result (AreUnder index.new place masks.now) }
 {
     for mask in masks {
-        add_place(index, alloc, mask.tail(), place)?;
+        add_mask(index, alloc, mask, place)?;
     }
     Ok(())
+}
+
+// Puts a mask, of the user at a place, under its tail.
+fn add_mask(
+    index: &mut TailIndex,
+    alloc: Global,
+    mask: &Hostmask,
+    place: usize,
+) -> Result<(), NoMemory>
+    ensures kept { Keeps index.old index.new }
+    ensures only { AddsOnly index.old.groups.entries index.new.groups.entries (mask_tail mask.now) (listing_of place mask.now) }
+    ensures ok { OnOk result (IsUnder index.new (mask_tail mask.now) (listing_of place mask.now)) }
+    ensures err { OnErr result (AddsNothing index.old.groups.entries index.new.groups.entries) }
+{
+    add_listing(index, alloc, mask.tail(), &listing_of(mask, place))
 }

@@ -1,14 +1,16 @@
 // Who a person is: the best claim of the hostmasks that match, looked for under the ends of the person's text.
-ghost use Rattle.std.specs.Prelude.{◌≡◌, None, slice_get};
+ghost use Rattle.std.specs.Prelude.{◌≡◌, ◌≤◌, ◌&&◌, ℕ, List, None, length, slice_get};
+ghost use Rattle.std.specs.List.{list_any};
 ghost use Rattle.std.specs.Option.{option_copied};
 ghost use Rattle.indexmap.specs.IndexMap.{values};
 ghost use Rattle.wildmask.specs.Signatures.{text_signature};
-ghost use Rattle.userfile.specs.Index.{Covers, asked};
+ghost use Rattle.userfile.specs.Hostmasks.{is_match};
+ghost use Rattle.userfile.specs.Index.{IsIndexOf, asked, is_of};
 ghost use Rattle.userfile.specs.Persons.{user_for};
-ghost use Rattle.userfile.specs.Search.{is_better, after_mask, after_masks, after_user, after_places, user_at};
+ghost use Rattle.userfile.specs.Search.{is_better, may_win, has_match, after_listings, user_at, SameBest};
 
 use crate::hostmask::Hostmask;
-use crate::index::{TAIL_LENGTHS, TailIndex, places_of};
+use crate::index::{Listing, TAIL_LENGTHS, TailIndex, listings_of};
 use crate::user::User;
 use indexmap::IndexMap;
 use wildmask::Signature;
@@ -26,7 +28,7 @@ pub(crate) fn user_for<'a>(
     index: &TailIndex,
     who: &[u8],
 ) -> Option<&'a User>
-    requires { Covers index.now 0 (values users.now) }
+    requires { IsIndexOf index.now (values users.now) }
     ensures { option_copied result ≡ user_for who.now (values users.now) }
 {
     user_at(users, best_claim(users, index, who))
@@ -45,88 +47,83 @@ fn user_at<'a>(users: &'a IndexMap<Vec<u8>, User>, best: Option<Winner>) -> Opti
     }
 }
 
-// The best claim of the users who stand under an end of the person's text.
+// The best claim of the masks that stand under an end of the person's text.
 fn best_claim(users: &IndexMap<Vec<u8>, User>, index: &TailIndex, who: &[u8]) -> Option<Winner>
-    ensures { result ≡ after_places who.now (values users.now) (asked index.now who.now 17) None }
+    ensures { result ≡ after_listings who.now (values users.now) (asked index.now who.now 17) None }
 {
     let pairs = Signature::of(who);
     let mut best = None;
     for len in 0..TAIL_LENGTHS {
-        best = best_of_places(best, users, places_of(index, who, len), who, pairs);
+        best = best_of_group(best, users, listings_of(index, who, len), who, pairs);
     }
     best
 }
 
-// The better of the best claim so far and those of the users at these places.
-fn best_of_places(
+// The better of the best claim so far and those of these listings.
+fn best_of_group(
     best: Option<Winner>,
     users: &IndexMap<Vec<u8>, User>,
-    places: &[usize],
+    group: &[Listing],
     who: &[u8],
     pairs: Signature,
 ) -> Option<Winner>
     requires { pairs ≡ text_signature who.now }
-    ensures { result ≡ after_places who.now (values users.now) places.now best }
+    ensures { result ≡ after_listings who.now (values users.now) group.now best }
 {
     let mut so_far = best;
-    for place in places {
-        so_far = best_of_user(so_far, users, *place, who, pairs);
+    let mut rest = group;
+    while let [listing, others @ ..] = from_first_within(rest, pairs) {
+        if may_win(listing, so_far, pairs) && has_match(users, listing, who) {
+            so_far = Some(Winner {
+                literals: listing.literals,
+                place: listing.place,
+            });
+        }
+        rest = others;
     }
     so_far
 }
 
-// The better of the best claim so far and those of the masks of the user at a place.
-fn best_of_user(
-    best: Option<Winner>,
-    users: &IndexMap<Vec<u8>, User>,
-    place: usize,
-    who: &[u8],
-    pairs: Signature,
-) -> Option<Winner>
-    requires { pairs ≡ text_signature who.now }
-    ensures { result ≡ after_user who.now place (slice_get (values users.now) place) best }
+// The listings from the first on that needs no pair that the person's text hasn't. Most of a large group is left out
+// here, in a loop of its own for speed.
+fn from_first_within(group: &[Listing], pairs: Signature) -> &[Listing]
+    ensures same { SameBest pairs result.now group.now }
+    ensures shorter { length result.now ≤ length group.now }
 {
-    match users.get_index(place) {
-        Some((_, user)) => best_of_masks(best, user.masks.as_slice(), place, who, pairs),
-        None => best,
+    let mut rest = group;
+    while let [first, others @ ..] = rest {
+        if first.pairs.is_within(pairs) {
+            return rest;
+        }
+        rest = others;
+    }
+    rest
+}
+
+// Whether a listing's masks are worth a match: they need no pair that the person's text hasn't, and would be better.
+fn may_win(listing: &Listing, best: Option<Winner>, pairs: Signature) -> bool
+    ensures { (who : List ℕ) → pairs ≡ text_signature who → result ≡ may_win who listing.now best }
+{
+    listing.pairs.is_within(pairs) && is_better(listing.literals, listing.place, best)
+}
+
+// Whether one of the masks of a listing matches the person.
+fn has_match(users: &IndexMap<Vec<u8>, User>, listing: &Listing, who: &[u8]) -> bool
+    ensures { result ≡ has_match who.now listing.now (slice_get (values users.now) listing.now.place) }
+{
+    match users.get_index(listing.place) {
+        Some((_, user)) => one_matches(user.masks.as_slice(), listing, who),
+        None => false,
     }
 }
 
-// The better of the best claim so far and those of these masks, of the user at a place.
-fn best_of_masks(
-    best: Option<Winner>,
-    masks: &[Hostmask],
-    place: usize,
-    who: &[u8],
-    pairs: Signature,
-) -> Option<Winner>
-    requires { pairs ≡ text_signature who.now }
-    ensures { result ≡ after_masks who.now place masks.now best }
+// Whether one of these masks, of the listing's user, is one of the listing and matches the person.
+fn one_matches(masks: &[Hostmask], listing: &Listing, who: &[u8]) -> bool
+    ensures { result ≡ list_any (λ mask. is_of listing.now mask && is_match mask who.now) masks.now }
 {
-    let mut so_far = best;
-    for mask in masks {
-        so_far = better(so_far, mask, place, who, pairs);
-    }
-    so_far
-}
-
-// The better of the best claim so far and that of a mask, if it matches. A mask that can't win isn't tried.
-fn better(
-    best: Option<Winner>,
-    mask: &Hostmask,
-    place: usize,
-    who: &[u8],
-    pairs: Signature,
-) -> Option<Winner>
-    requires { pairs ≡ text_signature who.now }
-    ensures { result ≡ after_mask who.now place mask.now best }
-{
-    let literals = mask.literals();
-    if is_better(literals, place, best) && mask.may_match(pairs) && mask.matches(who) {
-        Some(Winner { literals, place })
-    } else {
-        best
-    }
+    masks
+        .iter()
+        .any(|mask| listing.is_of(mask) && mask.matches(who))
 }
 
 // Whether a mask of so many literals, of the user at a place, is better than the best claim so far.

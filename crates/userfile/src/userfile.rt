@@ -3,7 +3,7 @@ ghost use Rattle.std.specs.Prelude.{◌≡◌, None, true, false, IfErr, OnOk, O
 ghost use Rattle.bytetext.specs.declared.failure.Failure.TheVariants.{NoMemory as no_memory};
 ghost use Rattle.userfile.specs.Apply.{refusal, changed, grows};
 ghost use Rattle.userfile.specs.Keys.{IsKeyed, records_of};
-ghost use Rattle.userfile.specs.Index.{Covers};
+ghost use Rattle.userfile.specs.Index.{IsIndexOf};
 ghost use Rattle.userfile.specs.Together.{repeats_handle};
 ghost use Rattle.std.specs.Map.{values_of};
 
@@ -16,7 +16,7 @@ use crate::error::{ChangeError, ChangeFault};
 use crate::flags::PersonFlags;
 use crate::gather::{map_of, user_copies};
 use crate::index::{TailIndex, new_index};
-use crate::indexing::{add_host, del_user, index_of};
+use crate::indexing::{add_host, del_host, del_user, index_of};
 use crate::limits::{MAX_BANS, MAX_USERS};
 use crate::persons::user_for;
 use crate::refusals::{fault_if, fault_unless, first_of_two, shape};
@@ -40,14 +40,14 @@ impl Model for Userfile {
     ghost use Rattle.userfile.specs.Records.{Records};
     ghost use Rattle.userfile.specs.Keys.{IsKeyed, records_of};
     ghost use Rattle.userfile.specs.Together.{AreSound};
-    ghost use Rattle.userfile.specs.Index.{Covers};
+    ghost use Rattle.userfile.specs.Index.{IsIndexOf};
     ghost use Rattle.std.specs.Map.{values_of};
 
     ghost Value = { Records };
 
     ghost view = { λ u. records_of u.users.entries u.bans.items };
 
-    ghost invariant = { λ u. IsKeyed u.users.entries × Covers u.index 0 (values_of u.users.entries)
+    ghost invariant = { λ u. IsKeyed u.users.entries × IsIndexOf u.index (values_of u.users.entries)
         × AreSound (records_of u.users.entries u.bans.items) };
 }
 
@@ -269,10 +269,10 @@ fn make(
 ) -> Result<(), ChangeError>
     requires keyed { IsKeyed users.old.entries }
     requires apart { repeats_handle (values_of users.old.entries) ≡ false }
-    requires covers { Covers index.old 0 (values_of users.old.entries) }
+    requires index { IsIndexOf index.old (values_of users.old.entries) }
     requires taken { refusal (records_of users.old.entries bans.old.items) change.now ≡ None }
     ensures keyed { IsKeyed users.new.entries }
-    ensures covers { Covers index.new 0 (values_of users.new.entries) }
+    ensures index { IsIndexOf index.new (values_of users.new.entries) }
     ensures ok { OnOk result (records_of users.new.entries bans.new.items ≡ changed (records_of users.old.entries bans.old.items) change.now) }
     ensures err { OnErr result (records_of users.new.entries bans.new.items ≡ records_of users.old.entries bans.old.items) }
     ensures memory { IfErr result (λ e. (e ≡ no_memory) × (grows change.now ≡ true)) }
@@ -285,12 +285,7 @@ fn make(
             add_host(users, index, alloc, handle.as_bytes(), mask)?;
         }
         Change::DelHost { handle, mask } => {
-            edit_user(
-                users,
-                alloc,
-                handle.as_bytes(),
-                Edit::DelMask(mask.as_bytes()),
-            )?;
+            del_host(users, index, alloc, handle.as_bytes(), mask.as_bytes())?;
         }
         Change::SetGlobal { handle, flags } => {
             edit_user(users, alloc, handle.as_bytes(), Edit::SetGlobal(*flags))?;

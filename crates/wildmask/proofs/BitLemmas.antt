@@ -32,7 +32,8 @@ abbrev pub IsFirst : ℕ → ℕ → ℕ → Type 0
 IsFirst n from at = (from ≤ at) × (bit_at n at ≡ 1) × ((q : ℕ) → from ≤ q → q < at → bit_at n q ≡ 0)
 
 first_of_rest : (n from : ℕ) → n < 2 ^ 128 → 0 < n / 2 ^ from
-    → (trailing_zeros w128 (n / 2 ^ from) < 128) × (bit_at (n / 2 ^ from) (trailing_zeros w128 (n / 2 ^ from)) ≡ 1) × ((i : ℕ) → i < trailing_zeros w128 (n / 2 ^ from) → bit_at (n / 2 ^ from) i ≡ 0)
+    → (trailing_zeros w128 (n / 2 ^ from) < 128) × (bit_at (n / 2 ^ from) (trailing_zeros w128 (n / 2 ^ from)) ≡ 1)
+    × ((i : ℕ) → i < trailing_zeros w128 (n / 2 ^ from) → bit_at (n / 2 ^ from) i ≡ 0)
 first_of_rest n from fits some =
     let small : n / 2 ^ from < 2 ^ 128 = omega (arith, shr_le n from) in
     bit_at-trailing_zeros w128 (n / 2 ^ from) some small
@@ -48,4 +49,7 @@ bit_at-first n from fits some =
 
 -- no number below 2 ^ 128 has a bit from 128 on
 pub bit_at-first-below : (n from : ℕ) → n < 2 ^ 128 → 0 < n / 2 ^ from → from + trailing_zeros w128 (n / 2 ^ from) < 128
-bit_at-first-below n from fits some = elim (cases_lt (from + trailing_zeros w128 (n / 2 ^ from)) 128) [ inl below ↦ below | inr above ↦ absurd (omega (arith, bit_at_above n 128 _ fits above, (bit_at-first n from fits some).1)) ]
+bit_at-first-below n from fits some = elim (cases_lt (from + trailing_zeros w128 (n / 2 ^ from)) 128) [
+  | inl below ↦ below
+  | inr above ↦ absurd (omega (arith, bit_at_above n 128 _ fits above, (bit_at-first n from fits some).1))
+]

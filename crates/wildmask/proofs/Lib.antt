@@ -1,6 +1,7 @@
 pub mod BitLemmas
 pub mod MatchLemmas
 pub mod WalkLemmas
+pub mod IdleLemmas
 pub mod RunLemmas
 pub mod SignatureLemmas
 pub mod TailLemmas

@@ -49,7 +49,8 @@ Matches-lower (item ∷ items) text = (
 pub literal_code : (code : ℕ) → is_literal (decoded code) ≡ true → decoded code ≡ Literal code
 literal_code code = by (eqb code 65) (eqb code 66) (eqb code 67) (eqb code 68)
   where
-    by : (a b c d : Bool) → is_literal (cond a AnyByte (cond b AnyText (cond c NoSpace (cond d Spaces (Literal code))))) ≡ true → cond a AnyByte (cond b AnyText (cond c NoSpace (cond d Spaces (Literal code)))) ≡ Literal code
+    by : (a b c d : Bool) → is_literal (cond a AnyByte (cond b AnyText (cond c NoSpace (cond d Spaces (Literal code))))) ≡ true
+        → cond a AnyByte (cond b AnyText (cond c NoSpace (cond d Spaces (Literal code)))) ≡ Literal code
     by true b c d h = cc
     by false true c d h = cc
     by false false true d h = cc
@@ -68,7 +69,8 @@ Matches-byte (Literal c) others b text is_lower = (λ h. there h.0 text h.1.0 h.
     same : low c ≡ c
     same = cc
 
-    there : (cut : ℕ) (text : List ℕ) → cut ≤ length (b ∷ text) → Takes (Literal c) (take cut (b ∷ text)) → Matches others (drop cut (b ∷ text)) → Byte (Literal c) others b text
+    there : (cut : ℕ) (text : List ℕ) → cut ≤ length (b ∷ text) → Takes (Literal c) (take cut (b ∷ text)) → Matches others (drop cut (b ∷ text))
+        → Byte (Literal c) others b text
     there zero text within taken rest = cc
     there (suc zero) text within taken rest = inr (eq-eqb c (low b) (let e : low b ≡ low c = cc in sym (e ∙ same)), rest)
     there (suc (suc k)) [] within taken rest = absurd (omega arith)
@@ -81,7 +83,8 @@ Matches-byte (Literal c) others b text is_lower = (λ h. there h.0 text h.1.0 h.
         here e = ap (λ n. n ∷ []) (sym (eqb-true c (low b) e) ∙ sym same)
 Matches-byte AnyByte others b text is_lower = (λ h. there h.0 text h.1.0 h.1.1 h.1.2, back)
   where
-    there : (cut : ℕ) (text : List ℕ) → cut ≤ length (b ∷ text) → Takes AnyByte (take cut (b ∷ text)) → Matches others (drop cut (b ∷ text)) → Byte AnyByte others b text
+    there : (cut : ℕ) (text : List ℕ) → cut ≤ length (b ∷ text) → Takes AnyByte (take cut (b ∷ text)) → Matches others (drop cut (b ∷ text))
+        → Byte AnyByte others b text
     there zero text within taken rest = absurd (omega arith)
     there (suc zero) text within taken rest = inr (refl, rest)
     there (suc (suc k)) [] within taken rest = absurd (omega arith)
@@ -121,7 +124,8 @@ Matches-byte NoSpace others b text is_lower = (λ h. there h.0 h.1.0 h.1.1 h.1.2
         longer other w = (suc w.0, (omega (arith, w.1.0), front w.0 other w.1.1, w.1.2))
 Matches-byte Spaces others b text is_lower = (λ h. there h.0 text h.1.0 h.1.1 h.1.2, back)
   where
-    there : (cut : ℕ) (text : List ℕ) → cut ≤ length (b ∷ text) → Takes Spaces (take cut (b ∷ text)) → Matches others (drop cut (b ∷ text)) → Byte Spaces others b text
+    there : (cut : ℕ) (text : List ℕ) → cut ≤ length (b ∷ text) → Takes Spaces (take cut (b ∷ text)) → Matches others (drop cut (b ∷ text))
+        → Byte Spaces others b text
     there zero text within taken rest = absurd (omega (arith, taken.0))
     there (suc zero) text within taken rest = inr (space (taken.1 0 0 (omega arith)), inr rest)
       where
@@ -200,13 +204,15 @@ Matches-drop (suc n) (item ∷ items) text m =
     (m.0 + others.0, (omega (arith, others.1.0, m.1.0), subst (Matches (drop n items)) (drop-drop others.0 m.0 text) others.1.1))
 
 -- a star takes what stands before a text that it matches with others
-pub star_takes_more : (others : List Item) (text : List ℕ) (c : ℕ) → c ≤ length text → Matches (AnyText ∷ others) (drop c text) → Matches (AnyText ∷ others) text
+pub star_takes_more : (others : List Item) (text : List ℕ) (c : ℕ) → c ≤ length text → Matches (AnyText ∷ others) (drop c text)
+    → Matches (AnyText ∷ others) text
 star_takes_more others text c within m =
     let long : length (drop c text) ≡ length text - c = length-drop c text in
     (c + m.0, (omega (arith, m.1.0), tt, subst (Matches others) (drop-drop m.0 c text) m.1.2))
 
 -- so whatever matches from a place before a star matches from the star
-pub star_is_enough : (items others : List Item) (q p : ℕ) (text : List ℕ) → q ≤ p → drop p items ≡ AnyText ∷ others → Matches (drop q items) text → Matches (drop p items) text
+pub star_is_enough : (items others : List Item) (q p : ℕ) (text : List ℕ) → q ≤ p → drop p items ≡ AnyText ∷ others → Matches (drop q items) text
+    → Matches (drop p items) text
 star_is_enough items others q p text before star m =
     let later = Matches-drop (p - q) (drop q items) text m in
     let at : q + (p - q) ≡ p = omega arith in
@@ -225,7 +231,10 @@ Matches-append [] ys text = (λ m. (0, (omega arith, refl, m)), λ w. back w.0 w
     back : (c : ℕ) → c ≤ length text → take c text ≡ [] → Matches ys (drop c text) → Matches ys text
     back zero within none m = m
     back (suc c) within none m = absurd (omega (arith, length-take-le (suc c) text within, ap length none))
-Matches-append (x ∷ xs) ys text = (λ m. there m.0 m.1.0 m.1.1 ((Matches-append xs ys (drop m.0 text)).0 m.1.2), λ w. back (λ k. (Matches-append xs ys (drop k text)).1) w.0 w.1.0 w.1.1.0 w.1.1.1.0 w.1.1.1.1 w.1.1.1.2 w.1.2)
+Matches-append (x ∷ xs) ys text = (
+  λ m. there m.0 m.1.0 m.1.1 ((Matches-append xs ys (drop m.0 text)).0 m.1.2),
+  λ w. back (λ k. (Matches-append xs ys (drop k text)).1) w.0 w.1.0 w.1.1.0 w.1.1.1.0 w.1.1.1.1 w.1.1.1.2 w.1.2,
+)
   where
     there : (k : ℕ) → k ≤ length text → Takes x (take k text) → Cut xs ys (drop k text) → Cut (x ∷ xs) ys text
     there k within taken w =
@@ -240,7 +249,8 @@ Matches-append (x ∷ xs) ys text = (λ m. there m.0 m.1.0 m.1.1 ((Matches-appen
           ),
         )
 
-    back : ((k : ℕ) → Cut xs ys (drop k text) → Matches (xs ++ ys) (drop k text)) → (c : ℕ) → c ≤ length text → (k : ℕ) → k ≤ length (take c text) → Takes x (take k (take c text)) → Matches xs (drop k (take c text)) → Matches ys (drop c text) → Matches ((x ∷ xs) ++ ys) text
+    back : ((k : ℕ) → Cut xs ys (drop k text) → Matches (xs ++ ys) (drop k text)) → (c : ℕ) → c ≤ length text → (k : ℕ) → k ≤ length (take c text)
+        → Takes x (take k (take c text)) → Matches xs (drop k (take c text)) → Matches ys (drop c text) → Matches ((x ∷ xs) ++ ys) text
     back joined c within k early taken m rest =
         let short : length (take c text) ≡ c = length-take-le c text within in
         let long : length (drop k text) ≡ length text - k = length-drop k text in
@@ -274,7 +284,8 @@ AllOne-length (item ∷ items) text one m =
     omega (arith, length-take-le m.0 text m.1.0, length-drop m.0 text, m.1.0)
 
 -- a run of them and others match where the run matches the front
-pub run_first : (run others : List Item) (text : List ℕ) → AllOne run → Matches (run ++ others) text ↔ ((length run ≤ length text) × Matches run (take (length run) text) × Matches others (drop (length run) text))
+pub run_first : (run others : List Item) (text : List ℕ) → AllOne run
+    → Matches (run ++ others) text ↔ ((length run ≤ length text) × Matches run (take (length run) text) × Matches others (drop (length run) text))
 run_first run others text one = (λ m. there ((Matches-append run others text).0 m), λ h. (Matches-append run others text).1 (length run, (h.0, h.1, h.2)))
   where
     there : Cut run others text → (length run ≤ length text) × Matches run (take (length run) text) × Matches others (drop (length run) text)
@@ -283,10 +294,16 @@ run_first run others text one = (λ m. there ((Matches-append run others text).0
         (omega (arith, w.1.0), subst (λ i. Matches run (take i text)) at w.1.1, subst (λ i. Matches others (drop i text)) at w.1.2)
 
 -- and others and a run where the run matches the end
-pub run_last : (others run : List Item) (text : List ℕ) → AllOne run → Matches (others ++ run) text ↔ ((length run ≤ length text) × Matches others (take (length text - length run) text) × Matches run (drop (length text - length run) text))
-run_last others run text one = (λ m. there ((Matches-append others run text).0 m), λ h. (Matches-append others run text).1 (length text - length run, (omega (arith, h.0), h.1, h.2)))
+pub run_last : (others run : List Item) (text : List ℕ) → AllOne run
+    → Matches (others ++ run) text ↔ ((length run ≤ length text) × Matches others (take (length text - length run) text)
+    × Matches run (drop (length text - length run) text))
+run_last others run text one = (
+  λ m. there ((Matches-append others run text).0 m),
+  λ h. (Matches-append others run text).1 (length text - length run, (omega (arith, h.0), h.1, h.2)),
+)
   where
-    there : Cut others run text → (length run ≤ length text) × Matches others (take (length text - length run) text) × Matches run (drop (length text - length run) text)
+    there : Cut others run text → (length run ≤ length text) × Matches others (take (length text - length run) text)
+        × Matches run (drop (length text - length run) text)
     there w =
         let left : length text - w.0 ≡ length run = sym (length-drop w.0 text) ∙ AllOne-length run (drop w.0 text) one w.1.2 in
         let at : w.0 ≡ length text - length run = omega (arith, w.1.0) in
@@ -301,8 +318,16 @@ run_too_long run others text one short m =
     absurd (omega (arith, at.0, length-drop m.0 text))
 
 -- where the run does not match the front, the star takes a byte
-pub run_misses : (run others : List Item) (b : ℕ) (text : List ℕ) → AllOne run → (Matches run (take (length run) (b ∷ text)) → ⊥) → Matches (AnyText ∷ run ++ others) (b ∷ text) ↔ Matches (AnyText ∷ run ++ others) text
-run_misses run others b text one miss = (λ m. elim ((Matches-byte AnyText (run ++ others) b text refl).0 m) [ inl here ↦ absurd (miss ((run_first run others (b ∷ text) one).0 here.1).1) | inr later ↦ later.1 ], λ m. star_takes_more (run ++ others) (b ∷ text) 1 (omega arith) m)
+pub run_misses : (run others : List Item) (b : ℕ) (text : List ℕ) → AllOne run → (Matches run (take (length run) (b ∷ text)) → ⊥)
+    → Matches (AnyText ∷ run ++ others) (b ∷ text) ↔ Matches (AnyText ∷ run ++ others) text
+run_misses run others b text one miss = (
+  λ m. elim
+      ((Matches-byte AnyText (run ++ others) b text refl).0 m) [
+        | inl here ↦ absurd (miss ((run_first run others (b ∷ text) one).0 here.1).1)
+        | inr later ↦ later.1
+      ],
+  λ m. star_takes_more (run ++ others) (b ∷ text) 1 (omega arith) m,
+)
 
 -- where it does, the next star takes what the first one would
 pub run_hits : (run others : List Item) (text : List ℕ) → AllOne run → length run ≤ length text → Matches run (take (length run) text)
@@ -313,5 +338,7 @@ run_hits run others text one within here = (there, λ m. (0, (omega arith, tt, (
     there m =
         let at = (run_first run (AnyText ∷ others) (drop m.0 text) one).0 m.1.2 in
         let order : m.0 + length run ≡ length run + m.0 = omega arith in
-        let same : drop (length run) (drop m.0 text) ≡ drop m.0 (drop (length run) text) = drop-drop (length run) m.0 text ∙ ap (λ i. drop i text) order ∙ sym (drop-drop m.0 (length run) text) in
-        star_takes_more others (drop (length run) text) m.0 (omega (arith, at.0, m.1.0, length-drop m.0 text, length-drop (length run) text)) (subst (Matches (AnyText ∷ others)) same at.2)
+        let same : drop (length run) (drop m.0 text) ≡ drop m.0 (drop (length run) text) = drop-drop (length run) m.0 text
+        ∙ ap (λ i. drop i text) order ∙ sym (drop-drop m.0 (length run) text) in
+        star_takes_more others (drop (length run) text) m.0 (omega (arith, at.0, m.1.0, length-drop m.0 text, length-drop (length run) text))
+        (subst (Matches (AnyText ∷ others)) same at.2)

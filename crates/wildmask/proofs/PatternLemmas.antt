@@ -11,7 +11,8 @@ use Rattle.wildmask.specs.Walks.{AllLower, AllOne}
 use Rattle.wildmask.proofs.RunLemmas.{AllLower-left, AllLower-right, items_in-split}
 use Rattle.wildmask.proofs.TailLemmas.{is_literal-lower, AllLiteral, AllOne-literal, last_literals, bytes_of-literals}
 
-pub one_code_more : (codes : List ℕ) (len code : ℕ) (item : Item) (rest others all : List Item) → len < length codes → decoded code ≡ lower item → rest ≡ item ∷ others → items_in (take len codes) ++ map lower rest ≡ all
+pub one_code_more : (codes : List ℕ) (len code : ℕ) (item : Item) (rest others all : List Item) → len < length codes → decoded code ≡ lower item
+    → rest ≡ item ∷ others → items_in (take len codes) ++ map lower rest ≡ all
     → items_in (take (len + 1) (set codes len code)) ++ map lower others ≡ all
 one_code_more codes len code item rest others all within is first so_far =
     ap (λ xs. items_in xs ++ map lower others) (take_more_set codes len code within)
@@ -21,42 +22,56 @@ one_code_more codes len code item rest others all within is first so_far =
     ∙ ap (λ xs. items_in (take len codes) ++ map lower xs) (sym first)
     ∙ so_far
 
-pub no_code_more : (codes : List ℕ) (len : ℕ) (rest all : List Item) → rest ≡ [] → items_in (take len codes) ++ map lower rest ≡ all → items_in (take len codes) ≡ all
-no_code_more codes len rest all none so_far = sym (append-nil (items_in (take len codes))) ∙ ap (λ xs. items_in (take len codes) ++ map lower xs) (sym none) ∙ so_far
+pub no_code_more : (codes : List ℕ) (len : ℕ) (rest all : List Item) → rest ≡ [] → items_in (take len codes) ++ map lower rest ≡ all
+    → items_in (take len codes) ≡ all
+no_code_more codes len rest all none so_far = sym (append-nil (items_in (take len codes)))
+    ∙ ap (λ xs. items_in (take len codes) ++ map lower xs) (sym none) ∙ so_far
 
 -- the codes after the last special item
 pub end_is_literal : (codes end : List ℕ) (front : ℕ) → front ≡ front_len (items_in codes) → end ≡ drop front codes → AllLiteral (items_in end)
 end_is_literal codes end front is after =
-    let whole : items_in end ≡ drop (front_len (items_in codes)) (items_in codes) = ap items_in (after ∙ ap (λ n. drop n codes) is) ∙ sym (drop-map decoded (front_len (items_in codes)) codes) in
+    let whole : items_in end ≡ drop (front_len (items_in codes)) (items_in codes) = ap items_in (after ∙ ap (λ n. drop n codes) is)
+    ∙ sym (drop-map decoded (front_len (items_in codes)) codes) in
     subst AllLiteral (sym whole) (last_literals (items_in codes))
 
 pub end_is_one : (codes end : List ℕ) (front : ℕ) → front ≡ front_len (items_in codes) → end ≡ drop front codes → AllOne (items_in end)
 end_is_one codes end front is after = AllOne-literal (items_in end) (end_is_literal codes end front is after)
 
 pub parts_are : (codes first end : List ℕ) (front : ℕ) → first ≡ take front codes → end ≡ drop front codes → items_in codes ≡ items_in first ++ items_in end
-parts_are codes first end front before after = items_in-split codes front ∙ ap (λ xs. items_in xs ++ items_in (drop front codes)) (sym before) ∙ ap (λ xs. items_in first ++ items_in xs) (sym after)
+parts_are codes first end front before after = items_in-split codes front ∙ ap (λ xs. items_in xs ++ items_in (drop front codes)) (sym before)
+    ∙ ap (λ xs. items_in first ++ items_in xs) (sym after)
 
-pub first_is_lower : (codes first end : List ℕ) (front : ℕ) → first ≡ take front codes → end ≡ drop front codes → AllLower (items_in codes) → AllLower (items_in first)
-first_is_lower codes first end front before after all = AllLower-left (items_in first) (items_in end) (subst AllLower (parts_are codes first end front before after) all)
+pub first_is_lower : (codes first end : List ℕ) (front : ℕ) → first ≡ take front codes → end ≡ drop front codes → AllLower (items_in codes)
+    → AllLower (items_in first)
+first_is_lower codes first end front before after all =
+    AllLower-left (items_in first) (items_in end) (subst AllLower (parts_are codes first end front before after) all)
 
-pub end_is_lower : (codes first end : List ℕ) (front : ℕ) → first ≡ take front codes → end ≡ drop front codes → AllLower (items_in codes) → AllLower (items_in end)
-end_is_lower codes first end front before after all = AllLower-right (items_in first) (items_in end) (subst AllLower (parts_are codes first end front before after) all)
+pub end_is_lower : (codes first end : List ℕ) (front : ℕ) → first ≡ take front codes → end ≡ drop front codes → AllLower (items_in codes)
+    → AllLower (items_in end)
+end_is_lower codes first end front before after all =
+    AllLower-right (items_in first) (items_in end) (subst AllLower (parts_are codes first end front before after) all)
 
 -- the key of the last codes is the tail
-pub tail_is : (codes : List ℕ) (len front : ℕ) → front ≤ len → front ≡ front_len (items_in (take len codes)) → end_key 120 (take (len - front) (drop front codes)) ≡ tail_of (items_in (take len codes))
+pub tail_is : (codes : List ℕ) (len front : ℕ) → front ≤ len → front ≡ front_len (items_in (take len codes))
+    → end_key 120 (take (len - front) (drop front codes)) ≡ tail_of (items_in (take len codes))
 tail_is codes len front within is =
     let at : front + (len - front) ≡ len = omega arith in
-    let end : drop front (take len codes) ≡ take (len - front) (drop front codes) = ap (λ n. drop front (take n codes)) (sym at) ∙ drop-take front (len - front) codes in
-    let items : drop (front_len (items_in (take len codes))) (items_in (take len codes)) ≡ items_in (drop front (take len codes)) = ap (λ n. drop n (items_in (take len codes))) (sym is) ∙ drop-map decoded front (take len codes) in
+    let end : drop front (take len codes) ≡ take (len - front) (drop front codes) = ap (λ n. drop front (take n codes)) (sym at)
+    ∙ drop-take front (len - front) codes in
+    let items : drop (front_len (items_in (take len codes))) (items_in (take len codes)) ≡ items_in (drop front (take len codes)) =
+    ap (λ n. drop n (items_in (take len codes))) (sym is) ∙ drop-map decoded front (take len codes) in
     let literals : AllLiteral (items_in (drop front (take len codes))) = end_is_literal (take len codes) (drop front (take len codes)) front is refl in
-    let bytes : bytes_of (drop (front_len (items_in (take len codes))) (items_in (take len codes))) ≡ take (len - front) (drop front codes) = ap bytes_of items ∙ bytes_of-literals (drop front (take len codes)) literals ∙ end in
+    let bytes : bytes_of (drop (front_len (items_in (take len codes))) (items_in (take len codes))) ≡ take (len - front) (drop front codes) =
+    ap bytes_of items ∙ bytes_of-literals (drop front (take len codes)) literals ∙ end in
     ap (λ xs. end_key 16 xs) (sym bytes)
 
 -- ---- lower cases
 
-count_from-lower : (a : ℕ) (items : List Item) → fold (λ n item. n + cond (is_literal item) 1 0) a (map lower items) ≡ fold (λ n item. n + cond (is_literal item) 1 0) a items
+count_from-lower : (a : ℕ) (items : List Item) → fold (λ n item. n + cond (is_literal item) 1 0) a (map lower items)
+    ≡ fold (λ n item. n + cond (is_literal item) 1 0) a items
 count_from-lower a [] = refl
-count_from-lower a (item ∷ items) = ap (λ b. fold (λ n i. n + cond (is_literal i) 1 0) (a + cond b 1 0) (map lower items)) (is_literal-lower item) ∙ count_from-lower (a + cond (is_literal item) 1 0) items
+count_from-lower a (item ∷ items) = ap (λ b. fold (λ n i. n + cond (is_literal i) 1 0) (a + cond b 1 0) (map lower items)) (is_literal-lower item)
+    ∙ count_from-lower (a + cond (is_literal item) 1 0) items
 
 pub count-lower : (items : List Item) → count_by is_literal (map lower items) ≡ count_by is_literal items
 count-lower items = count_from-lower 0 items

@@ -23,10 +23,12 @@ AllLower-right (x ∷ xs) ys all = AllLower-right xs ys all.1
 pub items_in-split : (codes : List ℕ) (len : ℕ) → items_in codes ≡ items_in (take len codes) ++ items_in (drop len codes)
 items_in-split codes len = ap items_in (sym (take-append-drop len codes)) ∙ map-append decoded (take len codes) (drop len codes)
 
-pub AllOne-more : (codes : List ℕ) (len : ℕ) → len < length codes → AllOne (items_in (take len codes)) → takes_one (decoded (get_or codes len 0)) ≡ true → AllOne (items_in (take (len + 1) codes))
+pub AllOne-more : (codes : List ℕ) (len : ℕ) → len < length codes → AllOne (items_in (take len codes))
+    → takes_one (decoded (get_or codes len 0)) ≡ true → AllOne (items_in (take (len + 1) codes))
 AllOne-more codes len within all one = subst (λ n. AllOne (items_in (take n codes))) (sym (add-one len)) (by codes len within all one)
   where
-    by : (codes : List ℕ) (len : ℕ) → len < length codes → AllOne (items_in (take len codes)) → takes_one (decoded (get_or codes len 0)) ≡ true → AllOne (items_in (take (suc len) codes))
+    by : (codes : List ℕ) (len : ℕ) → len < length codes → AllOne (items_in (take len codes)) → takes_one (decoded (get_or codes len 0)) ≡ true
+        → AllOne (items_in (take (suc len) codes))
     by [] len within all one = absurd (omega arith)
     by (c ∷ codes) zero within all one = (one, tt)
     by (c ∷ codes) (suc len) within all one = (all.0, by codes len (omega arith) all.1 one)
@@ -38,25 +40,39 @@ AllOne-at (item ∷ items) (suc i) all within = AllOne-at items i all.1 (omega a
 
 -- ---- one item against one byte
 
-pub one_byte : (item : Item) (others : List Item) (b : ℕ) (text : List ℕ) → takes_one item ≡ true → lower item ≡ item → Matches (item ∷ others) (b ∷ text) ↔ ((takes_byte item (low b) ≡ true) × Matches others text)
-one_byte (Literal c) others b text one is_lower = (λ m. elim ((Matches-byte (Literal c) others b text is_lower).0 m) [ inl e ↦ cc (e.0) | inr h ↦ h ], λ h. (Matches-byte (Literal c) others b text is_lower).1 (inr h))
-one_byte AnyByte others b text one is_lower = (λ m. elim ((Matches-byte AnyByte others b text is_lower).0 m) [ inl e ↦ cc (e.0) | inr h ↦ h ], λ h. (Matches-byte AnyByte others b text is_lower).1 (inr h))
+pub one_byte : (item : Item) (others : List Item) (b : ℕ) (text : List ℕ) → takes_one item ≡ true → lower item ≡ item
+    → Matches (item ∷ others) (b ∷ text) ↔ ((takes_byte item (low b) ≡ true) × Matches others text)
+one_byte (Literal c) others b text one is_lower = (
+  λ m. elim ((Matches-byte (Literal c) others b text is_lower).0 m) [ inl e ↦ cc (e.0) | inr h ↦ h ],
+  λ h. (Matches-byte (Literal c) others b text is_lower).1 (inr h),
+)
+one_byte AnyByte others b text one is_lower = (
+  λ m. elim ((Matches-byte AnyByte others b text is_lower).0 m) [ inl e ↦ cc (e.0) | inr h ↦ h ],
+  λ h. (Matches-byte AnyByte others b text is_lower).1 (inr h),
+)
 one_byte AnyText others b text one is_lower = cc
 one_byte NoSpace others b text one is_lower = cc
 one_byte Spaces others b text one is_lower = cc
 
 -- each item of a run that matches takes its byte
-pub run_takes : (items : List Item) (text : List ℕ) (i : ℕ) → AllOne items → AllLower items → Matches items text → i < length items → takes_byte (get_or items i AnyByte) (low (get_or text i 0)) ≡ true
+pub run_takes : (items : List Item) (text : List ℕ) (i : ℕ) → AllOne items → AllLower items → Matches items text → i < length items
+    → takes_byte (get_or items i AnyByte) (low (get_or text i 0)) ≡ true
 run_takes [] text i one all m within = absurd (omega arith)
 run_takes (item ∷ items) [] i one all m within = absurd (omega (arith, AllOne-length (item ∷ items) [] one m))
 run_takes (item ∷ items) (b ∷ text) zero one all m within = ((one_byte item items b text one.0 all.0).0 m).0
 run_takes (item ∷ items) (b ∷ text) (suc i) one all m within = run_takes items text i one.1 all.1 ((one_byte item items b text one.0 all.0).0 m).1 (omega arith)
 
 -- and items of which each takes its byte, from the last on, match
-pub run_grows : (items : List Item) (text : List ℕ) (i : ℕ) → AllOne items → AllLower items → length items ≡ length text → i < length items → takes_byte (get_or items i AnyByte) (low (get_or text i 0)) ≡ true → Matches (drop (i + 1) items) (drop (i + 1) text) → Matches (drop i items) (drop i text)
-run_grows items text i one all same within taken m = subst (λ n. Matches (drop n items) (drop n text) → Matches (drop i items) (drop i text)) (sym (add-one i)) (λ r. by items text i one all same within taken r) m
+pub run_grows : (items : List Item) (text : List ℕ) (i : ℕ) → AllOne items → AllLower items → length items ≡ length text → i < length items
+    → takes_byte (get_or items i AnyByte) (low (get_or text i 0)) ≡ true → Matches (drop (i + 1) items) (drop (i + 1) text)
+    → Matches (drop i items) (drop i text)
+run_grows items text i one all same within taken m =
+    subst (λ n. Matches (drop n items) (drop n text)
+    → Matches (drop i items) (drop i text)) (sym (add-one i)) (λ r. by items text i one all same within taken r) m
   where
-    by : (items : List Item) (text : List ℕ) (i : ℕ) → AllOne items → AllLower items → length items ≡ length text → i < length items → takes_byte (get_or items i AnyByte) (low (get_or text i 0)) ≡ true → Matches (drop (suc i) items) (drop (suc i) text) → Matches (drop i items) (drop i text)
+    by : (items : List Item) (text : List ℕ) (i : ℕ) → AllOne items → AllLower items → length items ≡ length text → i < length items
+        → takes_byte (get_or items i AnyByte) (low (get_or text i 0)) ≡ true → Matches (drop (suc i) items) (drop (suc i) text)
+        → Matches (drop i items) (drop i text)
     by [] text i one all same within taken m = absurd (omega arith)
     by (item ∷ items) [] i one all same within taken m = absurd (omega arith)
     by (item ∷ items) (b ∷ text) zero one all same within taken m = (one_byte item items b text one.0 all.0).1 (taken, m)
@@ -80,23 +96,29 @@ pub share : (r m d : ℕ) → r ≤ m → r * d ≤ m * d
 share r m d h = mul-le-mul_right d h
 
 -- the cost up to a place, and from there on to a later one
-pub passed_over : (m r all left after old before count : ℕ) → r ≤ m → after ≤ left → left ≤ all → before ≤ old + m * (all - left) → count ≤ before + r * (left - after) → count ≤ old + m * (all - after)
+pub passed_over : (m r all left after old before count : ℕ) → r ≤ m → after ≤ left → left ≤ all → before ≤ old + m * (all - left)
+    → count ≤ before + r * (left - after) → count ≤ old + m * (all - after)
 passed_over m r all left after old before count small later early h k =
-    let whole : m * (all - after) ≡ m * (all - left) + m * (left - after) = ap (λ d. m * d) (let e : all - after ≡ (all - left) + (left - after) = omega arith in e) ∙ mul-add m (all - left) (left - after) in
+    let whole : m * (all - after) ≡ m * (all - left) + m * (left - after) =
+    ap (λ d. m * d) (let e : all - after ≡ (all - left) + (left - after) = omega arith in e) ∙ mul-add m (all - left) (left - after) in
     let part : r * (left - after) ≤ m * (left - after) = share r m (left - after) small in
     omega arith
 
 -- one start more costs the length of the run
-pub next_start : (r all rest left old before count : ℕ) → rest ≤ all → left + 1 ≡ rest → before ≤ old + r * (all - rest) → count ≤ before + r → count ≤ old + r * (all - left)
+pub next_start : (r all rest left old before count : ℕ) → rest ≤ all → left + 1 ≡ rest → before ≤ old + r * (all - rest) → count ≤ before + r
+    → count ≤ old + r * (all - left)
 next_start r all rest left old before count within parts h k =
-    let whole : r * (all - left) ≡ r * (all - rest) + r * 1 = ap (λ d. r * d) (let e : all - left ≡ (all - rest) + 1 = omega arith in e) ∙ mul-add r (all - rest) 1 in
+    let whole : r * (all - left) ≡ r * (all - rest) + r * 1 = ap (λ d. r * d) (let e : all - left ≡ (all - rest) + 1 = omega arith in e)
+    ∙ mul-add r (all - rest) 1 in
     let one : r * 1 ≡ r = mul-one r in
     omega arith
 
 -- one start more, at which the run matches
-pub hit_cost : (r all rest left old before count : ℕ) → rest ≤ all → left + r ≡ rest → before ≤ old + r * (all - rest) → count ≤ before + r → count ≤ old + r * (all - left)
+pub hit_cost : (r all rest left old before count : ℕ) → rest ≤ all → left + r ≡ rest → before ≤ old + r * (all - rest) → count ≤ before + r
+    → count ≤ old + r * (all - left)
 hit_cost r all rest left old before count within parts h k =
-    let whole : r * (all - left) ≡ r * (all - rest) + r * r = ap (λ d. r * d) (let e : all - left ≡ (all - rest) + r = omega arith in e) ∙ mul-add r (all - rest) r in
+    let whole : r * (all - left) ≡ r * (all - rest) + r * r = ap (λ d. r * d) (let e : all - left ≡ (all - rest) + r = omega arith in e)
+    ∙ mul-add r (all - rest) r in
     let square : r ≤ r * r = by r in
     omega arith
   where
@@ -139,58 +161,98 @@ run_ends codes text same =
     let items : drop (length codes) (items_in codes) ≡ [] = drop_all (length codes) (items_in codes) (omega (arith, length-map codes decoded)) in
     subst (λ xs. Matches xs (drop (length codes) text)) (sym items) (drop_all (length codes) text (omega arith))
 
-pub code_run_hits : (run : List ℕ) (others : List Item) (text first left : List ℕ) → AllOne (items_in run) → length run ≤ length text → first ≡ take (length run) text → left ≡ drop (length run) text → Matches (items_in run) first
+pub code_run_hits : (run : List ℕ) (others : List Item) (text first left : List ℕ) → AllOne (items_in run) → length run ≤ length text
+    → first ≡ take (length run) text → left ≡ drop (length run) text → Matches (items_in run) first
     → Matches (AnyText ∷ items_in run ++ AnyText ∷ others) text ↔ Matches (AnyText ∷ others) left
 code_run_hits run others text first left one within is_first is_left m =
     let long : length (items_in run) ≡ length run = length-map run decoded in
     subst (λ xs. Matches (AnyText ∷ items_in run ++ AnyText ∷ others) text ↔ Matches (AnyText ∷ others) xs) (ap (λ n. drop n text) long ∙ sym is_left)
     (run_hits (items_in run) others text one (omega arith) (subst (Matches (items_in run)) (is_first ∙ ap (λ n. take n text) (sym long)) m))
 
-pub code_run_misses : (run : List ℕ) (others : List Item) (text first : List ℕ) → AllOne (items_in run) → 1 ≤ length text → first ≡ take (length run) text → (Matches (items_in run) first → ⊥)
+pub code_run_misses : (run : List ℕ) (others : List Item) (text first : List ℕ) → AllOne (items_in run) → 1 ≤ length text
+    → first ≡ take (length run) text → (Matches (items_in run) first → ⊥)
     → Matches (AnyText ∷ items_in run ++ others) text ↔ Matches (AnyText ∷ items_in run ++ others) (drop 1 text)
 code_run_misses run others [] first one some is_first miss = absurd (omega arith)
 code_run_misses run others (b ∷ text) first one some is_first miss =
-    run_misses (items_in run) others b text one (λ m. miss (subst (Matches (items_in run)) (ap (λ n. take n (b ∷ text)) (length-map run decoded) ∙ sym is_first) m))
+    run_misses (items_in run) others b text one (λ m. miss
+    (subst (Matches (items_in run)) (ap (λ n. take n (b ∷ text)) (length-map run decoded) ∙ sym is_first) m))
 
-pub code_run_misses_nil : (run : List ℕ) (others : List Item) (text first : List ℕ) → AllOne (items_in run) → length text ≡ 0 → first ≡ take (length run) text → (Matches (items_in run) first → ⊥) → Matches (AnyText ∷ items_in run ++ others) text → ⊥
-code_run_misses_nil run others [] first one none is_first miss m = run_misses_nil (items_in run) others one (λ k. miss (subst (Matches (items_in run)) (ap (λ n. take n []) (length-map run decoded) ∙ sym is_first) k)) m
+pub code_run_misses_nil : (run : List ℕ) (others : List Item) (text first : List ℕ) → AllOne (items_in run) → length text ≡ 0
+    → first ≡ take (length run) text → (Matches (items_in run) first → ⊥) → Matches (AnyText ∷ items_in run ++ others) text → ⊥
+code_run_misses_nil run others [] first one none is_first miss m =
+    run_misses_nil (items_in run) others one (λ k. miss (subst (Matches (items_in run)) (ap (λ n. take n []) (length-map run decoded) ∙ sym is_first) k)) m
 code_run_misses_nil run others (b ∷ text) first one none is_first miss m = absurd (omega arith)
 
-pub code_run_too_long : (run : List ℕ) (others : List Item) (text : List ℕ) → AllOne (items_in run) → length text < length run → Matches (AnyText ∷ items_in run ++ others) text → ⊥
+pub code_run_too_long : (run : List ℕ) (others : List Item) (text : List ℕ) → AllOne (items_in run) → length text < length run
+    → Matches (AnyText ∷ items_in run ++ others) text → ⊥
 code_run_too_long run others text one short m = run_too_long (items_in run) others text one (omega (arith, length-map run decoded)) m
 
 -- a run of codes first
-pub code_run_first : (codes run others text first rest : List ℕ) → AllOne (items_in run) → items_in codes ≡ items_in run ++ items_in others → length run ≤ length text → first ≡ take (length run) text → rest ≡ drop (length run) text
+pub code_run_first : (codes run others text first rest : List ℕ) → AllOne (items_in run) → items_in codes ≡ items_in run ++ items_in others
+    → length run ≤ length text → first ≡ take (length run) text → rest ≡ drop (length run) text
     → Matches (items_in codes) text ↔ (Matches (items_in run) first × Matches (items_in others) rest)
-code_run_first codes run others text first rest one whole within is_first is_rest = (λ m. there (by.0 (subst (λ xs. Matches xs text) whole m)), λ h. subst (λ xs. Matches xs text) (sym whole) (by.1 (back h.0 h.1)))
+code_run_first codes run others text first rest one whole within is_first is_rest =
+    (λ m. there (by.0 (subst (λ xs. Matches xs text) whole m)), λ h. subst (λ xs. Matches xs text) (sym whole) (by.1 (back h.0 h.1)))
   where
-    by : Matches (items_in run ++ items_in others) text ↔ ((length (items_in run) ≤ length text) × Matches (items_in run) (take (length (items_in run)) text) × Matches (items_in others) (drop (length (items_in run)) text))
+    by : Matches (items_in run ++ items_in others) text
+        ↔ ((length (items_in run) ≤ length text) × Matches (items_in run) (take (length (items_in run)) text)
+        × Matches (items_in others) (drop (length (items_in run)) text))
     by = run_first (items_in run) (items_in others) text one
 
-    there : (length (items_in run) ≤ length text) × Matches (items_in run) (take (length (items_in run)) text) × Matches (items_in others) (drop (length (items_in run)) text) → Matches (items_in run) first × Matches (items_in others) rest
-    there h = (subst (Matches (items_in run)) (ap (λ n. take n text) (length-map run decoded) ∙ sym is_first) h.1, subst (Matches (items_in others)) (ap (λ n. drop n text) (length-map run decoded) ∙ sym is_rest) h.2)
+    there : (length (items_in run) ≤ length text) × Matches (items_in run) (take (length (items_in run)) text)
+        × Matches (items_in others) (drop (length (items_in run)) text) → Matches (items_in run) first × Matches (items_in others) rest
+    there h = (
+      subst (Matches (items_in run)) (ap (λ n. take n text) (length-map run decoded) ∙ sym is_first) h.1,
+      subst (Matches (items_in others))
+          (ap (λ n. drop n text) (length-map run decoded) ∙ sym is_rest) h.2,
+    )
 
-    back : Matches (items_in run) first → Matches (items_in others) rest → (length (items_in run) ≤ length text) × Matches (items_in run) (take (length (items_in run)) text) × Matches (items_in others) (drop (length (items_in run)) text)
-    back m r = (omega (arith, length-map run decoded), subst (Matches (items_in run)) (is_first ∙ ap (λ n. take n text) (sym (length-map run decoded))) m, subst (Matches (items_in others)) (is_rest ∙ ap (λ n. drop n text) (sym (length-map run decoded))) r)
+    back : Matches (items_in run) first → Matches (items_in others) rest
+        → (length (items_in run) ≤ length text) × Matches (items_in run) (take (length (items_in run)) text)
+        × Matches (items_in others) (drop (length (items_in run)) text)
+    back m r = (
+      omega (arith, length-map run decoded),
+      subst (Matches (items_in run))
+          (is_first ∙ ap (λ n. take n text) (sym (length-map run decoded))) m,
+      subst (Matches (items_in others)) (is_rest
+          ∙ ap (λ n. drop n text) (sym (length-map run decoded))) r,
+    )
 
-pub code_run_first_too_long : (codes run others text : List ℕ) → AllOne (items_in run) → items_in codes ≡ items_in run ++ items_in others → length text < length run → Matches (items_in codes) text → ⊥
+pub code_run_first_too_long : (codes run others text : List ℕ) → AllOne (items_in run) → items_in codes ≡ items_in run ++ items_in others
+    → length text < length run → Matches (items_in codes) text → ⊥
 code_run_first_too_long codes run others text one whole short m =
     let h = (run_first (items_in run) (items_in others) text one).0 (subst (λ xs. Matches xs text) whole m) in
     absurd (omega (arith, h.0, length-map run decoded))
 
 -- and last
-pub code_run_last : (front end text rest last : List ℕ) → AllOne (items_in end) → length end ≤ length text → rest ≡ take (length text - length end) text → last ≡ drop (length text - length end) text
+pub code_run_last : (front end text rest last : List ℕ) → AllOne (items_in end) → length end ≤ length text
+    → rest ≡ take (length text - length end) text → last ≡ drop (length text - length end) text
     → Matches (items_in front ++ items_in end) text ↔ (Matches (items_in end) last × Matches (items_in front) rest)
 code_run_last front end text rest last one within is_rest is_last = (λ m. there (by.0 m), λ h. by.1 (back h.0 h.1))
   where
-    by : Matches (items_in front ++ items_in end) text ↔ ((length (items_in end) ≤ length text) × Matches (items_in front) (take (length text - length (items_in end)) text) × Matches (items_in end) (drop (length text - length (items_in end)) text))
+    by : Matches (items_in front ++ items_in end) text
+        ↔ ((length (items_in end) ≤ length text) × Matches (items_in front) (take (length text - length (items_in end)) text)
+        × Matches (items_in end) (drop (length text - length (items_in end)) text))
     by = run_last (items_in front) (items_in end) text one
 
-    there : (length (items_in end) ≤ length text) × Matches (items_in front) (take (length text - length (items_in end)) text) × Matches (items_in end) (drop (length text - length (items_in end)) text) → Matches (items_in end) last × Matches (items_in front) rest
-    there h = (subst (Matches (items_in end)) (ap (λ n. drop (length text - n) text) (length-map end decoded) ∙ sym is_last) h.2, subst (Matches (items_in front)) (ap (λ n. take (length text - n) text) (length-map end decoded) ∙ sym is_rest) h.1)
+    there : (length (items_in end) ≤ length text) × Matches (items_in front) (take (length text - length (items_in end)) text)
+        × Matches (items_in end) (drop (length text - length (items_in end)) text) → Matches (items_in end) last × Matches (items_in front) rest
+    there h = (
+      subst (Matches (items_in end)) (ap (λ n. drop (length text - n) text) (length-map end decoded) ∙ sym is_last) h.2,
+      subst
+          (Matches (items_in front)) (ap (λ n. take (length text - n) text) (length-map end decoded) ∙ sym is_rest) h.1,
+    )
 
-    back : Matches (items_in end) last → Matches (items_in front) rest → (length (items_in end) ≤ length text) × Matches (items_in front) (take (length text - length (items_in end)) text) × Matches (items_in end) (drop (length text - length (items_in end)) text)
-    back m r = (omega (arith, length-map end decoded), subst (Matches (items_in front)) (is_rest ∙ ap (λ n. take (length text - n) text) (sym (length-map end decoded))) r, subst (Matches (items_in end)) (is_last ∙ ap (λ n. drop (length text - n) text) (sym (length-map end decoded))) m)
+    back : Matches (items_in end) last → Matches (items_in front) rest
+        → (length (items_in end) ≤ length text) × Matches (items_in front) (take (length text - length (items_in end)) text)
+        × Matches (items_in end) (drop (length text - length (items_in end)) text)
+    back m r = (
+      omega (arith, length-map end decoded),
+      subst (Matches (items_in front))
+          (is_rest ∙ ap (λ n. take (length text - n) text) (sym (length-map end decoded))) r,
+      subst (Matches (items_in end)) (is_last
+          ∙ ap (λ n. drop (length text - n) text) (sym (length-map end decoded))) m,
+    )
 
 pub code_run_last_too_long : (front end text : List ℕ) → AllOne (items_in end) → length text < length end → Matches (items_in front ++ items_in end) text → ⊥
 code_run_last_too_long front end text one short m =

@@ -38,7 +38,8 @@ suffix_passes items i late within =
     let inside : length items - 1 - i < length items = omega arith in
     let early : length items - 1 - i < suffix_len is_literal items = omega arith in
     let back : length items - 1 - (length items - 1 - i) ≡ i = omega arith in
-    let at : get_or (reverse items) (length items - 1 - i) AnyByte ≡ get_or items i AnyByte = get_or-reverse items (length items - 1 - i) AnyByte inside ∙ ap (λ n. get_or items n AnyByte) back in
+    let at : get_or (reverse items) (length items - 1 - i) AnyByte ≡ get_or items i AnyByte =
+    get_or-reverse items (length items - 1 - i) AnyByte inside ∙ ap (λ n. get_or items n AnyByte) back in
     ap is_literal (sym at) ∙ prefix_len_passes is_literal (reverse items) (length items - 1 - i) AnyByte early
 
 -- and the last special one is none
@@ -47,19 +48,24 @@ suffix_stops items some =
     let inside : suffix_len is_literal items < length items = omega arith in
     let long : length (reverse items) ≡ length items = length-reverse items in
     let back : length items - 1 - suffix_len is_literal items ≡ front_len items - 1 = omega arith in
-    let at : get_or (reverse items) (suffix_len is_literal items) AnyByte ≡ get_or items (front_len items - 1) AnyByte = get_or-reverse items (suffix_len is_literal items) AnyByte inside ∙ ap (λ n. get_or items n AnyByte) back in
+    let at : get_or (reverse items) (suffix_len is_literal items) AnyByte ≡ get_or items (front_len items - 1) AnyByte =
+    get_or-reverse items (suffix_len is_literal items) AnyByte inside ∙ ap (λ n. get_or items n AnyByte) back in
     ap is_literal (sym at) ∙ prefix_len_stops is_literal (reverse items) AnyByte (omega arith)
 
 -- the items after the last special one are literals
 pub last_literals : (items : List Item) → AllLiteral (drop (front_len items) items)
 last_literals items = AllLiteral-from (drop (front_len items) items)
-    (λ k h. ap is_literal (get_or-drop (front_len items) items k AnyByte) ∙ suffix_passes items (front_len items + k) (omega arith) (omega (arith, length-drop (front_len items) items)))
+    (λ k h. ap is_literal (get_or-drop (front_len items) items k AnyByte)
+    ∙ suffix_passes items (front_len items + k) (omega arith) (omega (arith, length-drop (front_len items) items)))
 
 -- where the last special item is found from the end
-pub front_is : (codes : List ℕ) (front : ℕ) → front ≤ length codes → ((k : ℕ) → front ≤ k → k < length codes → is_literal (decoded (get_or codes k 0)) ≡ true) → (0 < front → is_literal (decoded (get_or codes (front - 1) 0)) ≡ false) → front ≡ front_len (items_in codes)
+pub front_is : (codes : List ℕ) (front : ℕ) → front ≤ length codes
+    → ((k : ℕ) → front ≤ k → k < length codes → is_literal (decoded (get_or codes k 0)) ≡ true)
+    → (0 < front → is_literal (decoded (get_or codes (front - 1) 0)) ≡ false) → front ≡ front_len (items_in codes)
 front_is codes front within literal special =
     let long : length (items_in codes) ≡ length codes = length-map codes decoded in
-    let suffix : suffix_len is_literal (items_in codes) ≡ length (items_in codes) - front = suffix_len_is is_literal (items_in codes) front AnyByte (omega arith)
+    let suffix : suffix_len is_literal (items_in codes) ≡ length (items_in codes) - front =
+    suffix_len_is is_literal (items_in codes) front AnyByte (omega arith)
     (λ k late early. let inside : k < length codes = omega arith in ap is_literal (get_or-map decoded codes k 0 AnyByte inside) ∙ literal k late inside)
     (λ some. let inside : front - 1 < length codes = omega arith in ap is_literal (get_or-map decoded codes (front - 1) 0 AnyByte inside) ∙ special some) in
     omega arith
@@ -83,7 +89,8 @@ pub literals_match : (items : List Item) (text : List ℕ) → AllLiteral items 
 literals_match [] text all m = ap folded m
 literals_match (Literal b ∷ items) text all m = by m.0 text m.1.0 m.1.1 (literals_match items (drop m.0 text) all.1 m.1.2)
   where
-    by : (cut : ℕ) (text : List ℕ) → cut ≤ length text → Takes (Literal b) (take cut text) → folded (drop cut text) ≡ folded (bytes_of items) → folded text ≡ low b ∷ folded (bytes_of items)
+    by : (cut : ℕ) (text : List ℕ) → cut ≤ length text → Takes (Literal b) (take cut text) → folded (drop cut text) ≡ folded (bytes_of items)
+        → folded text ≡ low b ∷ folded (bytes_of items)
     by zero text within taken rest = cc
     by (suc zero) [] within taken rest = absurd (omega arith)
     by (suc zero) (x ∷ text) within taken rest = cc
@@ -103,29 +110,39 @@ folded-drop n text = sym (drop-map low n text)
 pub length-tail_of : (items : List Item) → length (tail_of items) ≡ min (length items - front_len items) 16
 length-tail_of items =
     let literals : AllLiteral (drop (front_len items) items) = last_literals items in
-    let bytes : length (bytes_of (drop (front_len items) items)) ≡ length items - front_len items = length-bytes_of (drop (front_len items) items) literals ∙ length-drop (front_len items) items in
-    let whole : length (tail_of items) ≡ length (last 16 (bytes_of (drop (front_len items) items))) = length-map (last 16 (bytes_of (drop (front_len items) items))) low in
-    let part : length (last 16 (bytes_of (drop (front_len items) items))) ≡ length (bytes_of (drop (front_len items) items)) - (length (bytes_of (drop (front_len items) items)) - 16) = length-drop _ _ in
+    let bytes : length (bytes_of (drop (front_len items) items)) ≡ length items - front_len items =
+    length-bytes_of (drop (front_len items) items) literals ∙ length-drop (front_len items) items in
+    let whole : length (tail_of items) ≡ length (last 16 (bytes_of (drop (front_len items) items))) =
+    length-map (last 16 (bytes_of (drop (front_len items) items))) low in
+    let part : length (last 16 (bytes_of (drop (front_len items) items)))
+    ≡ length (bytes_of (drop (front_len items) items)) - (length (bytes_of (drop (front_len items) items)) - 16) = length-drop _ _ in
     omega arith
 
 -- a text that the items match ends with their tail
-pub tail_ends : (items : List Item) (text : List ℕ) → Matches items text → (tail_of items ≡ end_key (length (tail_of items)) text) × (length (tail_of items) ≤ length text)
+pub tail_ends : (items : List Item) (text : List ℕ) → Matches items text
+    → (tail_of items ≡ end_key (length (tail_of items)) text) × (length (tail_of items) ≤ length text)
 tail_ends items text m = (same, omega (arith, parts.0, length-tail_of items, length-drop (front_len items) items))
   where
     literals : AllLiteral (drop (front_len items) items)
     literals = last_literals items
 
-    parts : (length (drop (front_len items) items) ≤ length text) × Matches (take (front_len items) items) (take (length text - length (drop (front_len items) items)) text) × Matches (drop (front_len items) items) (drop (length text - length (drop (front_len items) items)) text)
-    parts = (run_last (take (front_len items) items) (drop (front_len items) items) text (AllOne-literal _ literals)).0 (subst (λ xs. Matches xs text) (sym (take-append-drop (front_len items) items)) m)
+    parts : (length (drop (front_len items) items) ≤ length text)
+        × Matches (take (front_len items) items) (take (length text - length (drop (front_len items) items)) text)
+        × Matches (drop (front_len items) items) (drop (length text - length (drop (front_len items) items)) text)
+    parts = (run_last (take (front_len items) items) (drop (front_len items) items) text (AllOne-literal _ literals)).0
+        (subst (λ xs. Matches xs text) (sym (take-append-drop (front_len items) items)) m)
 
     same : tail_of items ≡ end_key (length (tail_of items)) text
     same =
         let ks : List ℕ = bytes_of (drop (front_len items) items) in
         let long : length ks ≡ length (drop (front_len items) items) = length-bytes_of (drop (front_len items) items) literals in
         let left : length (drop (front_len items) items) ≡ length items - front_len items = length-drop (front_len items) items in
-        let equal : folded (drop (length text - length (drop (front_len items) items)) text) ≡ folded ks = literals_match (drop (front_len items) items) (drop (length text - length (drop (front_len items) items)) text) literals parts.2 in
-        let index : (length text - length (drop (front_len items) items)) + (length ks - 16) ≡ length text - min (length (tail_of items)) 16 = omega (arith, length-tail_of items, parts.0) in
-        folded-drop (length ks - 16) ks ∙ ap (drop (length ks - 16)) (sym equal) ∙ sym (folded-drop (length ks - 16) (drop (length text - length (drop (front_len items) items)) text))
+        let equal : folded (drop (length text - length (drop (front_len items) items)) text) ≡ folded ks =
+        literals_match (drop (front_len items) items) (drop (length text - length (drop (front_len items) items)) text) literals parts.2 in
+        let index : (length text - length (drop (front_len items) items)) + (length ks - 16) ≡ length text - min (length (tail_of items)) 16 =
+        omega (arith, length-tail_of items, parts.0) in
+        folded-drop (length ks - 16) ks ∙ ap (drop (length ks - 16)) (sym equal)
+        ∙ sym (folded-drop (length ks - 16) (drop (length text - length (drop (front_len items) items)) text))
         ∙ ap folded (drop-drop (length ks - 16) (length text - length (drop (front_len items) items)) text) ∙ ap (λ i. folded (drop i text)) index
 
 -- ---- lower cases
@@ -148,16 +165,23 @@ folded-bytes_of (Spaces ∷ items) = folded-bytes_of items
 front_len-lower : (items : List Item) → front_len (map lower items) ≡ front_len items
 front_len-lower items =
     let long : length (map lower items) ≡ length items = length-map items lower in
-    let suffix : suffix_len is_literal (map lower items) ≡ length (map lower items) - front_len items = suffix_len_is is_literal (map lower items) (front_len items) AnyByte (omega arith)
-    (λ k late early. let inside : k < length items = omega arith in ap is_literal (get_or-map lower items k AnyByte AnyByte inside) ∙ is_literal-lower (get_or items k AnyByte) ∙ suffix_passes items k late inside)
-    (λ some. let inside : front_len items - 1 < length items = omega arith in ap is_literal (get_or-map lower items (front_len items - 1) AnyByte AnyByte inside) ∙ is_literal-lower (get_or items (front_len items - 1) AnyByte) ∙ suffix_stops items some) in
+    let suffix : suffix_len is_literal (map lower items) ≡ length (map lower items) - front_len items =
+    suffix_len_is is_literal (map lower items) (front_len items) AnyByte (omega arith)
+    (λ k late early. let inside : k < length items = omega arith in ap is_literal (get_or-map lower items k AnyByte AnyByte inside)
+    ∙ is_literal-lower (get_or items k AnyByte) ∙ suffix_passes items k late inside)
+    (λ some. let inside : front_len items - 1 < length items =
+    omega arith in ap is_literal (get_or-map lower items (front_len items - 1) AnyByte AnyByte inside)
+    ∙ is_literal-lower (get_or items (front_len items - 1) AnyByte) ∙ suffix_stops items some) in
     omega arith
 
 pub tail_of-lower : (items : List Item) → tail_of (map lower items) ≡ tail_of items
 tail_of-lower items =
-    let ends : drop (front_len (map lower items)) (map lower items) ≡ map lower (drop (front_len items) items) = ap (λ n. drop n (map lower items)) (front_len-lower items) ∙ drop-map lower (front_len items) items in
-    let same : folded (bytes_of (map lower (drop (front_len items) items))) ≡ folded (bytes_of (drop (front_len items) items)) = folded-bytes_of (drop (front_len items) items) in
-    ap (λ xs. end_key 16 (bytes_of xs)) ends ∙ key_of_folded (bytes_of (map lower (drop (front_len items) items))) (bytes_of (drop (front_len items) items)) same
+    let ends : drop (front_len (map lower items)) (map lower items) ≡ map lower (drop (front_len items) items) =
+    ap (λ n. drop n (map lower items)) (front_len-lower items) ∙ drop-map lower (front_len items) items in
+    let same : folded (bytes_of (map lower (drop (front_len items) items))) ≡ folded (bytes_of (drop (front_len items) items)) =
+    folded-bytes_of (drop (front_len items) items) in
+    ap (λ xs. end_key 16 (bytes_of xs)) ends ∙ key_of_folded (bytes_of (map lower (drop (front_len items) items)))
+    (bytes_of (drop (front_len items) items)) same
   where
     key_of_folded : (xs ys : List ℕ) → folded xs ≡ folded ys → end_key 16 xs ≡ end_key 16 ys
     key_of_folded xs ys same =
@@ -166,7 +190,8 @@ tail_of-lower items =
 
 -- ---- the bytes of a key
 
-pub padded_is : (xs : List ℕ) (len : ℕ) → length xs ≡ len → len ≤ 16 → (length (take len (xs ++ drop len (replicate 16 0))) ≡ len) × (padded (take len (xs ++ drop len (replicate 16 0))) ≡ xs ++ drop len (replicate 16 0))
+pub padded_is : (xs : List ℕ) (len : ℕ) → length xs ≡ len → len ≤ 16
+    → (length (take len (xs ++ drop len (replicate 16 0))) ≡ len) × (padded (take len (xs ++ drop len (replicate 16 0))) ≡ xs ++ drop len (replicate 16 0))
 padded_is xs len long small =
     let front : take len (xs ++ drop len (replicate 16 0)) ≡ xs = take_at xs (drop len (replicate 16 0)) len long in
     (ap length front ∙ long, ap padded front ∙ ap (λ n. xs ++ replicate (16 - n) 0) long ∙ ap (λ ys. xs ++ ys) (sym (drop-replicate len 16 0)))

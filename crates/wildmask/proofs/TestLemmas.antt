@@ -30,7 +30,8 @@ Decides-list_all {P} p told (x ∷ xs) = by (p x) (list_all p xs) (told x) (Deci
     by false t here rest = (λ h. cc, λ all. here.1 (all 0 x (omega arith)))
 
 -- a test of each cut decides whether there is one
-Decides-some_upto : (P Q : ℕ → Type 0) (test : ℕ → Bool) → ((k : ℕ) → Decides (test k) (P k × Q k)) → (n : ℕ) → Decides (some_upto test n) ((k : ℕ) × ((k ≤ n) × P k × Q k))
+Decides-some_upto : (P Q : ℕ → Type 0) (test : ℕ → Bool) → ((k : ℕ) → Decides (test k) (P k × Q k)) → (n : ℕ)
+    → Decides (some_upto test n) ((k : ℕ) × ((k ≤ n) × P k × Q k))
 Decides-some_upto P Q test told zero = (λ h. (0, (omega arith, ((told 0).0 h).0, ((told 0).0 h).1)), λ w. at_zero w.0 w.1)
   where
     at_zero : (k : ℕ) → ((k ≤ 0) × P k × Q k) → test 0 ≡ true
@@ -38,7 +39,8 @@ Decides-some_upto P Q test told zero = (λ h. (0, (omega arith, ((told 0).0 h).0
     at_zero (suc k) h = absurd (omega arith)
 Decides-some_upto P Q test told (suc n) = by (test (suc n)) refl (Decides-some_upto P Q test told n)
   where
-    by : (b : Bool) → test (suc n) ≡ b → Decides (some_upto test n) ((k : ℕ) × ((k ≤ n) × P k × Q k)) → Decides (b || some_upto test n) ((k : ℕ) × ((k ≤ suc n) × P k × Q k))
+    by : (b : Bool) → test (suc n) ≡ b → Decides (some_upto test n) ((k : ℕ) × ((k ≤ n) × P k × Q k))
+        → Decides (b || some_upto test n) ((k : ℕ) × ((k ≤ suc n) × P k × Q k))
     by true here rest = (λ h. (suc n, (omega arith, ((told (suc n)).0 here).0, ((told (suc n)).0 here).1)), λ w. refl)
     by false none rest = (
       λ h. let w = rest.0 h in (w.0, (omega (arith, w.1.0), w.1.1, w.1.2)),

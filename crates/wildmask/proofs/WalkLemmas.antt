@@ -22,7 +22,8 @@ pub item_at : (codes : List ℕ) (p : ℕ) → p < length codes → get_or (item
 item_at codes p within = get_or-map decoded codes p 0 AnyByte within
 
 pub code_at_place : (codes : List ℕ) (p : ℕ) → p < length codes → drop p (items_in codes) ≡ decoded (get_or codes p 0) ∷ drop (p + 1) (items_in codes)
-code_at_place codes p within = at_place (items_in codes) p (omega (arith, length-map codes decoded)) ∙ ap (λ i. i ∷ drop (p + 1) (items_in codes)) (item_at codes p within)
+code_at_place codes p within = at_place (items_in codes) p (omega (arith, length-map codes decoded))
+    ∙ ap (λ i. i ∷ drop (p + 1) (items_in codes)) (item_at codes p within)
 
 pub AllLower-at : (items : List Item) (p : ℕ) → AllLower items → p < length items → lower (get_or items p AnyByte) ≡ get_or items p AnyByte
 AllLower-at [] p all within = absurd (omega arith)
@@ -44,42 +45,65 @@ none_closed items p within on empty = absurd (omega (arith, on, bit_at-zero p))
 abbrev pub IsWith : ℕ → ℕ → ℕ → Type 0
 IsWith new old at = (q : ℕ) → (bit_at new q ≡ 1) ↔ ((bit_at old q ≡ 1) ⊎ (q ≡ at))
 
-pub one_more : (items : List Item) (new old at : ℕ) → IsWith new old at → at ≤ length items → (text : List ℕ) → Some items new text ↔ (Some items old text ⊎ Matches (drop at items) text)
-one_more items new old at is within text = (λ m. there m ((is m.0).0 m.1.2), λ h. elim h [ inl m ↦ (m.0, (m.1.0, m.1.1, (is m.0).1 (inl m.1.2), m.1.3)) | inr m ↦ (at, (omega arith, within, (is at).1 (inr refl), m)) ])
+pub one_more : (items : List Item) (new old at : ℕ) → IsWith new old at → at ≤ length items → (text : List ℕ)
+    → Some items new text ↔ (Some items old text ⊎ Matches (drop at items) text)
+one_more items new old at is within text = (
+  λ m. there m ((is m.0).0 m.1.2),
+  λ h. elim h [ inl m ↦ (m.0, (m.1.0, m.1.1, (is m.0).1 (inl m.1.2), m.1.3)) | inr m ↦ (at, (omega arith, within, (is at).1 (inr refl), m)) ],
+)
   where
     there : (m : Some items new text) → ((bit_at old m.0 ≡ 1) ⊎ (m.0 ≡ at)) → Some items old text ⊎ Matches (drop at items) text
     there m h = elim h [ inl on ↦ inl (m.0, (m.1.0, m.1.1, on, m.1.3)) | inr same ↦ inr (subst (λ i. Matches (drop i items) text) same m.1.3) ]
 
 -- closed but at one place
 abbrev pub IsClosedBut : ℕ → List Item → ℕ → Type 0
-IsClosedBut at items places = (p : ℕ) → p < length items → p ≢ at → bit_at places p ≡ 1 → may_be_empty (get_or items p AnyByte) ≡ true → bit_at places (p + 1) ≡ 1
+IsClosedBut at items places = (p : ℕ) → p < length items → p ≢ at → bit_at places p ≡ 1 → may_be_empty (get_or items p AnyByte) ≡ true
+    → bit_at places (p + 1) ≡ 1
 
 pub closed_but : (items : List Item) (new old at : ℕ) → IsWith new old at → IsClosed items old → IsClosedBut at items new
 closed_but items new old at is closed p within other on empty =
     elim ((is p).0 on) [ inl was ↦ (is (p + 1)).1 (inl (closed p within was empty)) | inr same ↦ absurd (other same) ]
 
 pub closed_but_next : (items : List Item) (new old at : ℕ) → IsWith new old (at + 1) → IsClosedBut at items old → IsClosedBut (at + 1) items new
-closed_but_next items new old at is closed p within other on empty = elim (cases_eq p at) [ inl same ↦ (is (p + 1)).1 (inr (ap (λ i. i + 1) same)) | inr apart ↦ later apart ]
+closed_but_next items new old at is closed p within other on empty =
+    elim (cases_eq p at) [ inl same ↦ (is (p + 1)).1 (inr (ap (λ i. i + 1) same)) | inr apart ↦ later apart ]
   where
     later : p ≢ at → bit_at new (p + 1) ≡ 1
     later apart = elim ((is p).0 on) [ inl was ↦ (is (p + 1)).1 (inl (closed p within apart was empty)) | inr same ↦ absurd (other same) ]
 
-pub closed_at_last : (items : List Item) (places at : ℕ) → IsClosedBut at items places → (at < length items → may_be_empty (get_or items at AnyByte) ≡ true → ⊥) → IsClosed items places
-closed_at_last items places at closed fixed p within on empty = elim (cases_eq p at) [ inl same ↦ absurd (fixed (omega (arith, within, same)) (subst (λ i. may_be_empty (get_or items i AnyByte) ≡ true) same empty)) | inr apart ↦ closed p within apart on empty ]
+pub closed_at_last : (items : List Item) (places at : ℕ) → IsClosedBut at items places
+    → (at < length items → may_be_empty (get_or items at AnyByte) ≡ true → ⊥) → IsClosed items places
+closed_at_last items places at closed fixed p within on empty =
+    elim (cases_eq p at) [
+      | inl same ↦ absurd (fixed (omega (arith, within, same))
+          (subst (λ i. may_be_empty (get_or items i AnyByte) ≡ true) same empty))
+      | inr apart ↦ closed p within apart on empty
+    ]
 
 -- where the item at a place of the set may take nothing, the next place adds no text
-pub skipped : (items : List Item) (new old at : ℕ) → IsWith new old (at + 1) → at < length items → bit_at old at ≡ 1 → may_be_empty (get_or items at AnyByte) ≡ true → (text : List ℕ) → Some items new text ↔ Some items old text
+pub skipped : (items : List Item) (new old at : ℕ) → IsWith new old (at + 1) → at < length items → bit_at old at ≡ 1
+    → may_be_empty (get_or items at AnyByte) ≡ true → (text : List ℕ) → Some items new text ↔ Some items old text
 skipped items new old at is within on empty text = (λ m. elim (more.0 m) [ inl old ↦ old | inr next ↦ here next ], λ m. more.1 (inl m))
   where
     more : Some items new text ↔ (Some items old text ⊎ Matches (drop (at + 1) items) text)
     more = one_more items new old (at + 1) is (omega arith) text
 
     here : Matches (drop (at + 1) items) text → Some items old text
-    here next = (at, (omega arith, omega arith, on, subst (λ xs. Matches xs text) (sym (at_place items at within)) (Matches-skip _ (drop (at + 1) items) text empty next)))
+    here next = (
+      at,
+      (
+        omega arith,
+        omega arith,
+        on,
+        subst (λ xs. Matches xs text) (sym (at_place items at within))
+            (Matches-skip _ (drop (at + 1) items) text empty next),
+      ),
+    )
 
 -- ---- the end of the text
 
-pub closed_end : (items : List Item) (places k p : ℕ) → IsClosed items places → p + k ≡ length items → bit_at places p ≡ 1 → Matches (drop p items) [] → bit_at places (length items) ≡ 1
+pub closed_end : (items : List Item) (places k p : ℕ) → IsClosed items places → p + k ≡ length items → bit_at places p ≡ 1 → Matches (drop p items) []
+    → bit_at places (length items) ≡ 1
 closed_end items places zero p closed end on m = let e : p ≡ length items = omega arith in subst (λ i. bit_at places i ≡ 1) e on
 closed_end items places (suc k) p closed end on m =
     let within : p < length items = omega arith in
@@ -108,48 +132,81 @@ NoneBetween places from at = (q : ℕ) → from ≤ q → q < at → bit_at plac
 
 -- each star from a place on matches what the places so far match
 abbrev pub StarsCover : ℕ → List Item → ℕ → Type 0
-StarsCover from items places = (p : ℕ) → from ≤ p → p < length items → get_or items p AnyByte ≡ AnyText → (text : List ℕ) → Some items places text → Matches (drop p items) text
+StarsCover from items places = (p : ℕ) → from ≤ p → p < length items → get_or items p AnyByte ≡ AnyText → (text : List ℕ) → Some items places text
+    → Matches (drop p items) text
 
 -- what the moves of the item at a place add
 abbrev pub Moved : List Item → ℕ → ℕ → ℕ → ℕ → Type 0
-Moved items lower at old new = (text : List ℕ) → Some items new text ↔ (Some items old text ⊎ ((takes_byte (get_or items at AnyByte) lower ≡ true) × MatchesAfter (get_or items at AnyByte) (drop (at + 1) items) text))
+Moved items lower at old new = (text : List ℕ) → Some items new text
+    ↔ (Some items old text ⊎ ((takes_byte (get_or items at AnyByte) lower ≡ true) × MatchesAfter (get_or items at AnyByte) (drop (at + 1) items) text))
 
-pub one_place : (items : List Item) (places from at b : ℕ) (text : List ℕ) → AllLower items → IsClosed items places → from ≤ at → at < length items → bit_at places at ≡ 1 → NoneBetween places from at
-    → MatchesFrom from items places (b ∷ text) ↔ (MatchesFrom (at + 1) items places (b ∷ text) ⊎ ((takes_byte (get_or items at AnyByte) (low b) ≡ true) × MatchesAfter (get_or items at AnyByte) (drop (at + 1) items) text))
-one_place items places from at b text all closed late within on none = (there, λ h. elim h [ inl m ↦ (m.0, (omega (arith, m.1.0), m.1.1, m.1.2, m.1.3)) | inr taken ↦ (at, (late, omega arith, on, subst (λ xs. Matches xs (b ∷ text)) (sym (at_place items at within)) (byte.1 (inr taken)))) ])
+pub one_place : (items : List Item) (places from at b : ℕ) (text : List ℕ) → AllLower items → IsClosed items places → from ≤ at → at < length items
+    → bit_at places at ≡ 1 → NoneBetween places from at
+    → MatchesFrom from items places (b ∷ text) ↔ (MatchesFrom (at + 1) items places (b ∷ text)
+    ⊎ ((takes_byte (get_or items at AnyByte) (low b) ≡ true) × MatchesAfter (get_or items at AnyByte) (drop (at + 1) items) text))
+one_place items places from at b text all closed late within on none = (
+  there,
+  λ h. elim h [
+    | inl m ↦ (m.0, (omega (arith, m.1.0), m.1.1, m.1.2, m.1.3))
+    | inr taken ↦ (at, (late, omega arith, on, subst (λ xs. Matches xs (b ∷ text)) (sym (at_place items at within)) (byte.1 (inr taken))))
+  ],
+)
   where
     byte : Matches (get_or items at AnyByte ∷ drop (at + 1) items) (b ∷ text) ↔ Byte (get_or items at AnyByte) (drop (at + 1) items) b text
     byte = Matches-byte (get_or items at AnyByte) (drop (at + 1) items) b text (AllLower-at items at all within)
 
-    here : Matches (drop at items) (b ∷ text) → MatchesFrom (at + 1) items places (b ∷ text) ⊎ ((takes_byte (get_or items at AnyByte) (low b) ≡ true) × MatchesAfter (get_or items at AnyByte) (drop (at + 1) items) text)
-    here m = elim (byte.0 (subst (λ xs. Matches xs (b ∷ text)) (at_place items at within) m)) [ inl skip ↦ inl (at + 1, (omega arith, omega arith, closed at within on skip.0, skip.1)) | inr taken ↦ inr taken ]
+    here : Matches (drop at items) (b ∷ text) → MatchesFrom (at + 1) items places (b ∷ text)
+        ⊎ ((takes_byte (get_or items at AnyByte) (low b) ≡ true) × MatchesAfter (get_or items at AnyByte) (drop (at + 1) items) text)
+    here m = elim (byte.0 (subst (λ xs. Matches xs (b ∷ text)) (at_place items at within) m))
+        [ inl skip ↦ inl (at + 1, (omega arith, omega arith, closed at within on skip.0, skip.1)) | inr taken ↦ inr taken ]
 
-    there : MatchesFrom from items places (b ∷ text) → MatchesFrom (at + 1) items places (b ∷ text) ⊎ ((takes_byte (get_or items at AnyByte) (low b) ≡ true) × MatchesAfter (get_or items at AnyByte) (drop (at + 1) items) text)
-    there m = elim (cases_order m.0 at) [ inl same ↦ here (subst (λ i. Matches (drop i items) (b ∷ text)) same m.1.3) | inr apart ↦ elim apart [ inl before ↦ absurd (omega (arith, none m.0 m.1.0 before, m.1.2)) | inr after ↦ inl (m.0, (omega (arith, after), m.1.1, m.1.2, m.1.3)) ] ]
+    there : MatchesFrom from items places (b ∷ text)
+        → MatchesFrom (at + 1) items places (b ∷ text)
+        ⊎ ((takes_byte (get_or items at AnyByte) (low b) ≡ true) × MatchesAfter (get_or items at AnyByte) (drop (at + 1) items) text)
+    there m = elim (cases_order m.0 at) [
+      | inl same ↦ here (subst (λ i. Matches (drop i items) (b ∷ text)) same m.1.3)
+      | inr apart ↦ elim apart [
+        | inl before ↦ absurd (omega (arith, none m.0 m.1.0 before, m.1.2))
+        | inr after ↦ inl (m.0, (omega (arith, after), m.1.1, m.1.2, m.1.3))
+      ]
+    ]
 
 -- the moves of the first place that is left
-pub moves_one : (items : List Item) (places from at b old new : ℕ) (text : List ℕ) → AllLower items → IsClosed items places → from ≤ at → at < length items → bit_at places at ≡ 1 → NoneBetween places from at → Moved items (low b) at old new
-    → Some items places (b ∷ text) ↔ (MatchesFrom from items places (b ∷ text) ⊎ Some items old text) → Some items places (b ∷ text) ↔ (MatchesFrom (at + 1) items places (b ∷ text) ⊎ Some items new text)
+pub moves_one : (items : List Item) (places from at b old new : ℕ) (text : List ℕ) → AllLower items → IsClosed items places → from ≤ at
+    → at < length items → bit_at places at ≡ 1 → NoneBetween places from at → Moved items (low b) at old new
+    → Some items places (b ∷ text) ↔ (MatchesFrom from items places (b ∷ text) ⊎ Some items old text)
+    → Some items places (b ∷ text) ↔ (MatchesFrom (at + 1) items places (b ∷ text) ⊎ Some items new text)
 moves_one items places from at b old new text all closed late within on none moved so_far = (λ m. there (so_far.0 m), λ h. so_far.1 (back h))
   where
-    first : MatchesFrom from items places (b ∷ text) ↔ (MatchesFrom (at + 1) items places (b ∷ text) ⊎ ((takes_byte (get_or items at AnyByte) (low b) ≡ true) × MatchesAfter (get_or items at AnyByte) (drop (at + 1) items) text))
+    first : MatchesFrom from items places (b ∷ text)
+        ↔ (MatchesFrom (at + 1) items places (b ∷ text)
+        ⊎ ((takes_byte (get_or items at AnyByte) (low b) ≡ true) × MatchesAfter (get_or items at AnyByte) (drop (at + 1) items) text))
     first = one_place items places from at b text all closed late within on none
 
     there : MatchesFrom from items places (b ∷ text) ⊎ Some items old text → MatchesFrom (at + 1) items places (b ∷ text) ⊎ Some items new text
-    there h = elim h [ inl left ↦ elim (first.0 left) [ inl later ↦ inl later | inr taken ↦ inr ((moved text).1 (inr taken)) ] | inr done ↦ inr ((moved text).1 (inl done)) ]
+    there h = elim h [
+      | inl left ↦ elim (first.0 left) [ inl later ↦ inl later | inr taken ↦ inr ((moved text).1 (inr taken)) ]
+      | inr done ↦ inr ((moved text).1 (inl done))
+    ]
 
     back : MatchesFrom (at + 1) items places (b ∷ text) ⊎ Some items new text → MatchesFrom from items places (b ∷ text) ⊎ Some items old text
-    back h = elim h [ inl later ↦ inl (first.1 (inl later)) | inr done ↦ elim ((moved text).0 done) [ inl before ↦ inr before | inr taken ↦ inl (first.1 (inr taken)) ] ]
+    back h = elim h [
+      | inl later ↦ inl (first.1 (inl later))
+      | inr done ↦ elim ((moved text).0 done) [ inl before ↦ inr before | inr taken ↦ inl (first.1 (inr taken)) ]
+    ]
 
-pub stars_cover : (items : List Item) (from at lower old new : ℕ) → from ≤ at → at < length items → Moved items lower at old new → StarsCover from items old → StarsCover (at + 1) items new
-stars_cover items from at lower old new late within moved cover p after inside star text m = elim ((moved text).0 m) [ inl before ↦ cover p (omega arith) inside star text before | inr taken ↦ reached (after_byte _ _ text taken.1) ]
+pub stars_cover : (items : List Item) (from at lower old new : ℕ) → from ≤ at → at < length items → Moved items lower at old new
+    → StarsCover from items old → StarsCover (at + 1) items new
+stars_cover items from at lower old new late within moved cover p after inside star text m =
+    elim ((moved text).0 m) [ inl before ↦ cover p (omega arith) inside star text before | inr taken ↦ reached (after_byte _ _ text taken.1) ]
   where
     at_star : drop p items ≡ AnyText ∷ drop (p + 1) items
     at_star = at_place items p inside ∙ ap (λ i. i ∷ drop (p + 1) items) star
 
     reached : Matches (get_or items at AnyByte ∷ drop (at + 1) items) text ⊎ Matches (drop (at + 1) items) text → Matches (drop p items) text
     reached h = elim h [
-      | inl here ↦ star_is_enough items (drop (p + 1) items) at p text (omega arith) at_star (subst (λ xs. Matches xs text) (sym (at_place items at within)) here)
+      | inl here ↦ star_is_enough items (drop (p + 1) items) at p text (omega arith) at_star
+          (subst (λ xs. Matches xs text) (sym (at_place items at within)) here)
       | inr next ↦ star_is_enough items (drop (p + 1) items) (at + 1) p text (omega arith) at_star next
     ]
 
@@ -159,7 +216,10 @@ pub moves_all : (items : List Item) (places from b new : ℕ) (text : List ℕ) 
 moves_all items places from b new text none so_far = (λ m. elim (so_far.0 m) [ inl left ↦ absurd (no_item left) | inr done ↦ done ], λ m. so_far.1 (inr m))
   where
     no_item : MatchesFrom from items places (b ∷ text) → ⊥
-    no_item left = elim (cases_lt left.0 (length items)) [ inl inside ↦ absurd (omega (arith, none left.0 left.1.0 inside, left.1.2)) | inr end ↦ past (subst (λ xs. Matches xs (b ∷ text)) (drop_all left.0 items end) left.1.3) ]
+    no_item left = elim (cases_lt left.0 (length items)) [
+      | inl inside ↦ absurd (omega (arith, none left.0 left.1.0 inside, left.1.2))
+      | inr end ↦ past (subst (λ xs. Matches xs (b ∷ text)) (drop_all left.0 items end) left.1.3)
+    ]
       where
         past : b ∷ text ≡ [] → ⊥
         past e = cc
@@ -167,9 +227,11 @@ moves_all items places from b new text none so_far = (λ m. elim (so_far.0 m) [ 
 -- ---- stars
 
 -- the star at the end matches whatever is left
-pub last_star : (items : List Item) (places p : ℕ) → p + 1 ≡ length items → get_or items p AnyByte ≡ AnyText → bit_at places p ≡ 1 → (text : List ℕ) → Some items places text
+pub last_star : (items : List Item) (places p : ℕ) → p + 1 ≡ length items → get_or items p AnyByte ≡ AnyText → bit_at places p ≡ 1 → (text : List ℕ)
+    → Some items places text
 last_star items places p last star on text =
-    let here : drop p items ≡ AnyText ∷ [] = at_place items p (omega arith) ∙ ap (λ i. i ∷ drop (p + 1) items) star ∙ ap (λ xs. AnyText ∷ xs) (drop_all (p + 1) items (omega arith)) in
+    let here : drop p items ≡ AnyText ∷ [] = at_place items p (omega arith) ∙ ap (λ i. i ∷ drop (p + 1) items) star
+    ∙ ap (λ xs. AnyText ∷ xs) (drop_all (p + 1) items (omega arith)) in
     (p, (omega arith, omega arith, on, subst (λ xs. Matches xs text) (sym here) (length text, (omega arith, tt, drop_all (length text) text (omega arith)))))
 
 -- ---- the moves of one item, by its kind
@@ -178,7 +240,8 @@ pub both : {P Q R : Type 0} → P ↔ Q → Q ↔ R → P ↔ R
 both a b = (λ p. b.0 (a.0 p), λ r. a.1 (b.1 r))
 
 abbrev pub Moves : List Item → Item → ℕ → List Item → ℕ → ℕ → Type 0
-Moves items item lower others old new = (text : List ℕ) → Some items new text ↔ (Some items old text ⊎ ((takes_byte item lower ≡ true) × MatchesAfter item others text))
+Moves items item lower others old new = (text : List ℕ)
+    → Some items new text ↔ (Some items old text ⊎ ((takes_byte item lower ≡ true) × MatchesAfter item others text))
 
 pub refused_moves : (items others : List Item) (item : Item) (lower old : ℕ) → takes_byte item lower ≡ false → Moves items item lower others old old
 refused_moves items others item lower old refused text = (λ m. inl m, λ h. elim h [ inl m ↦ m | inr taken ↦ absurd (true≢false (sym taken.0 ∙ refused)) ])
@@ -186,7 +249,8 @@ refused_moves items others item lower old refused text = (λ m. inl m, λ h. eli
 abbrev pub Adds : List Item → Item → List Item → ℕ → ℕ → Type 0
 Adds items item others old new = (text : List ℕ) → Some items new text ↔ (Some items old text ⊎ MatchesAfter item others text)
 
-taken_moves : (items others : List Item) (item : Item) (lower old new : ℕ) → takes_byte item lower ≡ true → Adds items item others old new → Moves items item lower others old new
+taken_moves : (items others : List Item) (item : Item) (lower old new : ℕ) → takes_byte item lower ≡ true → Adds items item others old new
+    → Moves items item lower others old new
 taken_moves items others item lower old new taken adds text = (
   λ m. elim ((adds text).0 m) [ inl before ↦ inl before | inr after ↦ inr (taken, after) ],
   λ h. elim h [ inl before ↦ (adds text).1 (inl before) | inr after ↦ (adds text).1 (inr after.1) ],
@@ -196,14 +260,17 @@ taken_moves items others item lower old new taken adds text = (
 abbrev pub WithPlace : List Item → ℕ → ℕ → ℕ → Type 0
 WithPlace items at old new = (text : List ℕ) → Some items new text ↔ (Some items old text ⊎ Matches (drop at items) text)
 
-pub moves_on : (items : List Item) (item : Item) (at lower old new : ℕ) → takes_one item ≡ true → takes_byte item lower ≡ true → WithPlace items (at + 1) old new → Moves items item lower (drop (at + 1) items) old new
+pub moves_on : (items : List Item) (item : Item) (at lower old new : ℕ) → takes_one item ≡ true → takes_byte item lower ≡ true
+    → WithPlace items (at + 1) old new → Moves items item lower (drop (at + 1) items) old new
 moves_on items (Literal b) at lower old new one taken add = taken_moves items (drop (at + 1) items) (Literal b) lower old new taken add
 moves_on items AnyByte at lower old new one taken add = taken_moves items (drop (at + 1) items) AnyByte lower old new taken add
 moves_on items AnyText at lower old new one taken add = cc
 moves_on items NoSpace at lower old new one taken add = cc
 moves_on items Spaces at lower old new one taken add = cc
 
-pub star_moves : (items : List Item) (at lower old new : ℕ) → drop at items ≡ AnyText ∷ drop (at + 1) items → ((text : List ℕ) → Some items old text → Matches (drop at items) text) → WithPlace items at 0 new → Moves items AnyText lower (drop (at + 1) items) old new
+pub star_moves : (items : List Item) (at lower old new : ℕ) → drop at items ≡ AnyText ∷ drop (at + 1) items
+    → ((text : List ℕ) → Some items old text → Matches (drop at items) text) → WithPlace items at 0 new
+    → Moves items AnyText lower (drop (at + 1) items) old new
 star_moves items at lower old new here cover add = taken_moves items (drop (at + 1) items) AnyText lower old new refl adds
   where
     adds : Adds items AnyText (drop (at + 1) items) old new
@@ -212,16 +279,30 @@ star_moves items at lower old new here cover add = taken_moves items (drop (at +
       λ h. elim h [ inl before ↦ (add text).1 (inr (cover text before)) | inr star ↦ (add text).1 (inr (subst (λ xs. Matches xs text) (sym here) star)) ],
     )
 
-pub no_space_moves : (items : List Item) (at lower old new : ℕ) → drop at items ≡ NoSpace ∷ drop (at + 1) items → takes_byte NoSpace lower ≡ true → WithPlace items at old new → Moves items NoSpace lower (drop (at + 1) items) old new
-no_space_moves items at lower old new here taken add = taken_moves items (drop (at + 1) items) NoSpace lower old new taken (subst (λ xs. (text : List ℕ) → Some items new text ↔ (Some items old text ⊎ Matches xs text)) here add)
+pub no_space_moves : (items : List Item) (at lower old new : ℕ) → drop at items ≡ NoSpace ∷ drop (at + 1) items → takes_byte NoSpace lower ≡ true
+    → WithPlace items at old new → Moves items NoSpace lower (drop (at + 1) items) old new
+no_space_moves items at lower old new here taken add =
+    taken_moves items (drop (at + 1) items) NoSpace lower old new taken
+    (subst (λ xs. (text : List ℕ) → Some items new text ↔ (Some items old text ⊎ Matches xs text)) here add)
 
-pub spaces_moves : (items : List Item) (at lower old middle new : ℕ) → drop at items ≡ Spaces ∷ drop (at + 1) items → takes_byte Spaces lower ≡ true → WithPlace items at old middle → WithPlace items (at + 1) middle new → Moves items Spaces lower (drop (at + 1) items) old new
+pub spaces_moves : (items : List Item) (at lower old middle new : ℕ) → drop at items ≡ Spaces ∷ drop (at + 1) items → takes_byte Spaces lower ≡ true
+    → WithPlace items at old middle → WithPlace items (at + 1) middle new → Moves items Spaces lower (drop (at + 1) items) old new
 spaces_moves items at lower old middle new here taken first second = taken_moves items (drop (at + 1) items) Spaces lower old new taken adds
   where
     adds : Adds items Spaces (drop (at + 1) items) old new
     adds text = (
-      λ m. elim ((second text).0 m) [ inl before ↦ elim ((first text).0 before) [ inl old ↦ inl old | inr stay ↦ inr (inl (subst (λ xs. Matches xs text) here stay)) ] | inr next ↦ inr (inr next) ],
-      λ h. elim h [ inl before ↦ (second text).1 (inl ((first text).1 (inl before))) | inr after ↦ elim after [ inl stay ↦ (second text).1 (inl ((first text).1 (inr (subst (λ xs. Matches xs text) (sym here) stay)))) | inr next ↦ (second text).1 (inr next) ] ],
+      λ m. elim ((second text).0 m) [
+        | inl before ↦ elim
+            ((first text).0 before) [ inl old ↦ inl old | inr stay ↦ inr (inl (subst (λ xs. Matches xs text) here stay)) ]
+        | inr next ↦ inr (inr next)
+      ],
+      λ h. elim h [
+        | inl before ↦ (second text).1 (inl ((first text).1 (inl before)))
+        | inr after ↦ elim after [
+          | inl stay ↦ (second text).1 (inl ((first text).1 (inr (subst (λ xs. Matches xs text) (sym here) stay))))
+          | inr next ↦ (second text).1 (inr next)
+        ]
+      ],
     )
 
 -- ---- counts

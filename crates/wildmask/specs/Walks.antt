@@ -1,5 +1,5 @@
 -- A set of places among the items of a mask, moved over a text one byte at a time.
-use Rattle.std.specs.Prelude.{◌≡◌, ◌⊎◌, ℕ, ◌+◌, ◌≤◌, ◌<◌, Bool, true, false, not, ◌==◌, List, [], ◌∷◌, length, drop, get_or}
+use Rattle.std.specs.Prelude.{◌≡◌, ◌↔◌, ◌⊎◌, ℕ, ◌+◌, ◌≤◌, ◌<◌, Bool, true, false, not, ◌==◌, List, [], ◌∷◌, length, drop, get_or, Option, None, Some}
 use Rattle.std.specs.Int.{bit_at}
 use Rattle.wildmask.specs.declared.items.Item.{Item}
 use Rattle.wildmask.specs.declared.items.Item.TheVariants.{Literal, AnyByte, AnyText, NoSpace, Spaces}
@@ -10,6 +10,11 @@ use Rattle.wildmask.specs.Matching.{Matches}
 abbrev pub MatchesFrom : ℕ → List Item → ℕ → List ℕ → Type 0
 MatchesFrom from items places text =
     (p : ℕ) × ((from ≤ p) × (p ≤ length items) × (bit_at places p ≡ 1) × Matches (drop p items) text)
+
+-- a byte that is known to leave the places as they are, if there is one
+abbrev pub IsIdle : List Item → ℕ → Option ℕ → Type 0
+IsIdle items places None = Unit {0}
+IsIdle items places (Some byte) = (text : List ℕ) → MatchesFrom 0 items places (byte ∷ text) ↔ MatchesFrom 0 items places text
 
 -- whether an item takes nothing too
 abbrev pub may_be_empty : Item → Bool

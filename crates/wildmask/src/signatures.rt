@@ -1,6 +1,5 @@
 // The pairs of adjacent bytes that a text has, and those that a mask needs.
 ghost use Rattle.std.specs.Prelude.{◌≡◌, ◌^◌};
-ghost use Rattle.rfccase.specs.Casemapping.{low};
 ghost use Rattle.wildmask.specs.Codes.{decoded, items_in};
 ghost use Rattle.wildmask.specs.Signatures.{needed, place_of, text_signature, items_signature, is_within};
 
@@ -32,11 +31,15 @@ impl Signature {
     pub fn of(text: &[u8]) -> Signature
         ensures { result ≡ text_signature text.now }
     {
+        let [first, rest @ ..] = text else {
+            return Signature { bits: 0 };
+        };
         let mut bits = 0;
-        let mut rest = text;
-        while let [first, second, ..] = rest {
-            bits |= bit_of(*first, *second);
-            rest = &rest[1..];
+        let mut before = fold(*first);
+        for byte in rest {
+            let lower = fold(*byte);
+            bits |= bit_of(before, lower);
+            before = lower;
         }
         Signature { bits }
     }
@@ -72,13 +75,13 @@ fn needed_bit(first: u8, second: u8) -> u128
     let Item::Literal(b) = item_of(second) else {
         return 0;
     };
-    bit_of(a, b)
+    bit_of(fold(a), fold(b))
 }
 
-// The bit of a pair, by lower case.
+// The bit of a pair of lower cases.
 fn bit_of(first: u8, second: u8) -> u128
-    ensures { result ≡ 2 ^ place_of (low first) (low second) }
+    ensures { result ≡ 2 ^ place_of first second }
 {
-    let place = (u32::from(fold(first)) * 37 + u32::from(fold(second))) % 128;
+    let place = (u32::from(first) * 37 + u32::from(second)) % 128;
     1 << place
 }

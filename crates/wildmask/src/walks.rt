@@ -4,7 +4,7 @@ ghost use Rattle.std.specs.Int.{bit_at};
 ghost use Rattle.wildmask.specs.declared.items.Item.TheVariants.{AnyText};
 ghost use Rattle.wildmask.specs.Codes.{decoded, items_in};
 ghost use Rattle.wildmask.specs.Matching.{Matches};
-ghost use Rattle.wildmask.specs.Walks.{MatchesFrom, MatchesAfter, IsClosed, AllLower, takes_byte, may_be_empty};
+ghost use Rattle.wildmask.specs.Walks.{MatchesFrom, MatchesAfter, IsClosed, IsIdle, AllLower, takes_byte, may_be_empty};
 
 use crate::codes::{is_star, item_of};
 use crate::counts::Count;
@@ -20,13 +20,50 @@ pub fn walk(codes: &[u8], text: &[u8], count: &mut Count) -> bool
     ensures counted { count.new.steps ≤ count.old.steps + length codes.now * length text.now }
 {
     let mut places = with_skipped(codes, Places::none(), 0);
+    let mut idle = None;
     for byte in text {
         if is_at_last_star(codes, places) {
             return true;
         }
-        places = step(codes, places, *byte, count);
+        let after = step_unless_idle(codes, places, idle, *byte, count);
+        idle = idle_byte(places, after, *byte);
+        places = after;
     }
     places.has(codes.len())
+}
+
+// The places after one more byte: those before it, where it is the byte that is known to leave them as they are.
+fn step_unless_idle(
+    codes: &[u8],
+    places: Places,
+    idle: Option<u8>,
+    byte: u8,
+    count: &mut Count,
+) -> Places
+    requires few { length codes.now ≤ 120 }
+    requires lower { AllLower (items_in codes.now) }
+    requires closed { IsClosed (items_in codes.now) places.bits }
+    requires idle { IsIdle (items_in codes.now) places.bits idle }
+    ensures moved { (text : List ℕ) →
+        MatchesFrom 0 (items_in codes.now) places.bits (byte ∷ text) ↔ MatchesFrom 0 (items_in codes.now) result.bits text }
+    ensures closed { IsClosed (items_in codes.now) result.bits }
+    ensures counted { count.new.steps ≤ count.old.steps + length codes.now }
+{
+    match idle {
+        Some(known) if known == byte => places,
+        Some(_) | None => step(codes, places, byte, count),
+    }
+}
+
+// The byte, where it left the places as they were: a text that repeats one byte need not be walked.
+fn idle_byte(before: Places, after: Places, byte: u8) -> Option<u8>
+    ensures { MatchOption result (Unit {0}) (λ known. (known ≡ byte) × (before.bits ≡ after.bits)) }
+{
+    if before.bits == after.bits {
+        Some(byte)
+    } else {
+        None
+    }
 }
 
 // Whether the last item is a star and one of the places: then whatever is left of the text matches.

@@ -1,5 +1,5 @@
 use Rattle.userfile.specs.declared.limits.TheConstants.{MAX_HANDLE}
-use Rattle.std.proofs.Common.{◌≤◌, ◌++◌, [], ◌∷◌, ◌∙◌, ap, subst, sym, length, ℕ, List}
+use Rattle.std.proofs.Common.{◌≤◌, ◌++◌, [], ◌∷◌, ◌∙◌, ap, subst, sym, length, ℕ, List, refl}
 use Rattle.std.specs.Map.{values_of}
 use Rattle.rfccase.specs.Casemapping.{folded}
 use Rattle.userfile.specs.Keys.{IsKeyed}
@@ -7,8 +7,8 @@ use Rattle.userfile.specs.Apply.{new_user}
 use Rattle.userfile.specs.declared.user.User.{User}
 use Rattle.userfile.proofs.EntryLemmas.{IsKeyed-append, values_of-append, inserted_last}
 use Rattle.userfile.proofs.TextLemmas.{is_handle-length}
-use Rattle.userfile.specs.Index.{Covers}
-use Rattle.userfile.proofs.IndexLemmas.{Covers-push}
+use Rattle.userfile.specs.Index.{IsIndexOf}
+use Rattle.userfile.proofs.NameLemmas.{IsIndexOf-push}
 use Rattle.userfile.proofs.entries.add_user.Goals as goal
 
 pub returns-clause-keyed : goal.returns-clause-keyed
@@ -29,6 +29,6 @@ returns-clause-ok c =
     ap values_of last ∙ values_of-append c.args.users.now.entries _ _
     ∙ ap (λ u. values_of c.args.users.now.entries ++ u ∷ []) (c.new-user.ensures ∙ ap new_user c.in_ok-copy.ensures)
 
-pub returns-clause-covers : goal.returns-clause-covers
-returns-clause-covers c = λ index covers. subst (Covers index 0) (sym (returns-clause-ok c))
-    (Covers-push index 0 (values_of c.args.users.now.entries) (new_user c.args.handle.now) covers tt)
+pub returns-clause-index : goal.returns-clause-index
+returns-clause-index c = λ index is. subst (IsIndexOf index) (sym (returns-clause-ok c))
+    (IsIndexOf-push index (values_of c.args.users.now.entries) (new_user c.args.handle.now) refl is)

@@ -7,7 +7,7 @@ use Rattle.userfile.specs.Edits.{edited}
 use Rattle.userfile.specs.Keys.{IsKeyed}
 use Rattle.userfile.proofs.EntryLemmas.{has_key, lookup-user_of, user_of-long, with_user-absent, IsKeyed-set_value, values_of-set_value}
 use Rattle.userfile.proofs.EditLemmas.{handle_kept}
-use Rattle.userfile.proofs.IndexLemmas.{Covers-made}
+use Rattle.userfile.proofs.NameLemmas.{IsIndexOf-made}
 use Rattle.userfile.proofs.entries.edit_user.Goals as goal
 
 pub returns-in-Some-get_mut-clause-keyed : goal.returns-in-Some-get_mut-clause-keyed
@@ -48,7 +48,7 @@ returns-in_default-clause-ok c =
     let nobody = user_of-long c.args.handle.now c.args.users.now.entries c.in_default.ensures c.requires.keyed in
     sym (with_user-absent c.args.handle.now (edited c.args.change) _ nobody)
 
-pub returns-in-Some-get_mut-clause-covers : goal.returns-in-Some-get_mut-clause-covers
-returns-in-Some-get_mut-clause-covers c = λ index no_mask covers.
-    Covers-made c.make_edit.result index c.args.handle.now c.args.change _ _ no_mask (returns-in-Some-get_mut-clause-ok c)
-    (returns-in-Some-get_mut-clause-err c) covers
+pub returns-in-Some-get_mut-clause-index : goal.returns-in-Some-get_mut-clause-index
+returns-in-Some-get_mut-clause-index c = λ index no_mask is.
+    IsIndexOf-made c.make_edit.result index c.args.handle.now c.args.change _ _ no_mask (returns-in-Some-get_mut-clause-ok c)
+    (returns-in-Some-get_mut-clause-err c) is

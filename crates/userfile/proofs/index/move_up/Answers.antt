@@ -7,6 +7,6 @@ use Rattle.userfile.proofs.index.move_up.Goals as goal
 pub loop-held-preserved : goal.loop-held-preserved
 loop-held-preserved c =
     rw c.moved_up.ensures
-    (map_over_more (moved_up c.args.place) c.args.places.now c.loop-held.places c.loop-held.held-index
-    (get_or c.loop-held.places c.loop-held.held-index 0) (omega arith) c.loop-held.invariant
-    (get_or_default c.loop-held.places c.loop-held.held-index 0 _ (omega arith)))
+    (map_over_more (moved_up c.args.place) c.args.group.now c.loop-held.group c.loop-held.held-index
+    (get_or c.loop-held.group c.loop-held.held-index c.held-item.result) (omega arith) c.loop-held.invariant
+    (get_or_default c.loop-held.group c.loop-held.held-index c.held-item.result _ (omega arith)))

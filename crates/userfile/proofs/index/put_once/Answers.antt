@@ -1,16 +1,23 @@
-use Rattle.std.proofs.Common.{◌≡◌, [], ◌∷◌, nat_eq, true, sym, subst, rules}
+use Rattle.std.proofs.Common.{◌≡◌, true, [], ◌∷◌, inl, inr, sym, subst, rules}
 use Rattle.std.specs.List.{list_any}
-use Rattle.userfile.specs.Index.{IsIn}
-use Rattle.userfile.proofs.GroupLemmas.{IsIn-left, IsIn-last, IsIn-found}
+use Rattle.userfile.specs.Index.{IsIn, same_listing}
+use Rattle.userfile.proofs.GroupLemmas.{IsIn-left, IsIn-last, IsIn-split, IsIn-one, IsIn-found}
 use Rattle.userfile.proofs.index.put_once.Goals as goal
 
 pub returns-in_ok-push-clause-kept : goal.returns-in_ok-push-clause-kept
-returns-in_ok-push-clause-kept c = λ n here. subst (IsIn n) (sym c.in_ok-push.ensures.items) (IsIn-left n c.args.group.now.items (c.args.place ∷ []) here)
+returns-in_ok-push-clause-kept c = λ x here. subst (IsIn x) (sym c.in_ok-push.ensures.items) (IsIn-left x c.args.group.now.items (c.args.listing.now ∷ []) here)
+
+pub returns-in_ok-push-clause-only : goal.returns-in_ok-push-clause-only
+returns-in_ok-push-clause-only c = λ x here. elim
+    (IsIn-split x c.args.group.now.items (c.args.listing.now ∷ []) (subst (IsIn x) c.in_ok-push.ensures.items here)) [
+      | inl before ↦ inl before
+      | inr last ↦ inr (IsIn-one x c.args.listing.now last)
+    ]
 
 pub returns-in_ok-push-clause-ok : goal.returns-in_ok-push-clause-ok
-returns-in_ok-push-clause-ok c = subst (IsIn c.args.place) (sym c.in_ok-push.ensures.items) (IsIn-last c.args.place c.args.group.now.items)
+returns-in_ok-push-clause-ok c = subst (IsIn c.args.listing.now) (sym c.in_ok-push.ensures.items) (IsIn-last c.args.listing.now c.args.group.now.items)
 
-pub returns-else-not-contains-clause-ok : goal.returns-else-not-contains-clause-ok
-returns-else-not-contains-clause-ok c =
-    let there : list_any (λ x. nat_eq x c.args.place) c.args.group.now.items ≡ true = search rules in
-    IsIn-found c.args.place c.args.group.now.items there
+pub returns-else-not-has_listing-clause-ok : goal.returns-else-not-has_listing-clause-ok
+returns-else-not-has_listing-clause-ok c =
+    let there : list_any (same_listing c.args.listing.now) c.args.group.now.items ≡ true = search rules in
+    IsIn-found c.args.listing.now c.args.group.now.items there

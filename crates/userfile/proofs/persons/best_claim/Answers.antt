@@ -1,8 +1,8 @@
 use Rattle.std.proofs.Common.{◌∙◌, None, ap, sym, add-one}
 use Rattle.indexmap.specs.IndexMap.{values}
 use Rattle.userfile.specs.Index.{asked, asked_at}
-use Rattle.userfile.specs.Search.{after_places}
-use Rattle.userfile.proofs.SearchLemmas.{after_places-append}
+use Rattle.userfile.specs.Search.{after_listings}
+use Rattle.userfile.proofs.SearchLemmas.{after_listings-append}
 use Rattle.userfile.proofs.persons.best_claim.Goals as goal
 
 pub loop-len-preserved : goal.loop-len-preserved
@@ -12,6 +12,6 @@ loop-len-preserved c =
     let index = c.args.index.now in
     let len = c.loop-len.len in
     rw add-one
-    (c.best_of_places-best.ensures ∙ ap (λ ps. after_places who users ps c.loop-len.best) c.places_of.ensures
-    ∙ ap (after_places who users (asked_at index who len)) c.loop-len.invariant
-    ∙ sym (after_places-append who users (asked index who len) (asked_at index who len) None))
+    (c.best_of_group-best.ensures ∙ ap (λ ps. after_listings who users ps c.loop-len.best) c.listings_of.ensures
+    ∙ ap (after_listings who users (asked_at index who len)) c.loop-len.invariant
+    ∙ sym (after_listings-append who users (asked index who len) (asked_at index who len) None))

@@ -1,5 +1,5 @@
 use Rattle.std.proofs.lemmas.Bool.Decides.{same_from_decides}
-use Rattle.userfile.proofs.TextLemmas.{is_same-Decides}
+use Rattle.rfccase.proofs.SameLemmas.{is_same-Decides}
 use Rattle.userfile.proofs.texts.is_same.Goals as goal
 
 pub returns : goal.returns

@@ -16,23 +16,32 @@ pub returns-then-not-takes-clause-value : goal.returns-then-not-takes-clause-val
 returns-then-not-takes-clause-value c =
     let inside : c.loop-left.left - 1 < length c.args.codes.now = omega (arith, c.loop-left-test.true, c.loop-left.invariant.within) in
     let refused : takes_byte c.item_of.result c.fold.result ≡ false = sym c.takes.ensures.value ∙ c.if-not-takes.true in
-    let at : takes_byte (get_or (items_in c.args.codes.now) (c.loop-left.left - 1) AnyByte) (low (get_or c.args.text.now (c.loop-left.left - 1) 0)) ≡ takes_byte c.item_of.result c.fold.result
-    = ap (λ i. takes_byte i (low (get_or c.args.text.now (c.loop-left.left - 1) 0))) (item_at c.args.codes.now (c.loop-left.left - 1) inside ∙ sym c.item_of.ensures) ∙ ap (λ b. takes_byte c.item_of.result b) (sym c.fold.ensures.lower) in
-    (λ h. cc, λ m. absurd (true≢false (sym (run_takes (items_in c.args.codes.now) c.args.text.now (c.loop-left.left - 1) c.requires.one c.requires.lower m (omega (arith, inside, length-map c.args.codes.now decoded))) ∙ at ∙ refused)))
+    let at : takes_byte (get_or (items_in c.args.codes.now) (c.loop-left.left - 1) AnyByte) (low (get_or c.args.text.now (c.loop-left.left - 1) 0))
+    ≡ takes_byte c.item_of.result c.fold.result
+    = ap (λ i. takes_byte i (low (get_or c.args.text.now (c.loop-left.left - 1) 0))) (item_at c.args.codes.now (c.loop-left.left - 1) inside
+    ∙ sym c.item_of.ensures) ∙ ap (λ b. takes_byte c.item_of.result b) (sym c.fold.ensures.lower) in (
+      λ h. cc,
+      λ m. absurd (true≢false (sym (run_takes (items_in c.args.codes.now) c.args.text.now
+          (c.loop-left.left - 1) c.requires.one c.requires.lower m (omega (arith, inside, length-map c.args.codes.now decoded))) ∙ at ∙ refused)),
+    )
 
 pub loop-left-preserved : goal.loop-left-preserved
 loop-left-preserved c =
     let inside : c.loop-left.left - 1 < length c.args.codes.now = omega (arith, c.loop-left-test.true, c.loop-left.invariant.within) in
     let long : length (items_in c.args.codes.now) ≡ length c.args.codes.now = length-map c.args.codes.now decoded in
     let taken : takes_byte c.item_of.result c.fold.result ≡ true = sym c.takes.ensures.value ∙ c.if-not-takes.false in
-    let at : takes_byte (get_or (items_in c.args.codes.now) (c.loop-left.left - 1) AnyByte) (low (get_or c.args.text.now (c.loop-left.left - 1) 0)) ≡ takes_byte c.item_of.result c.fold.result
-    = ap (λ i. takes_byte i (low (get_or c.args.text.now (c.loop-left.left - 1) 0))) (item_at c.args.codes.now (c.loop-left.left - 1) inside ∙ sym c.item_of.ensures) ∙ ap (λ b. takes_byte c.item_of.result b) (sym c.fold.ensures.lower) in
+    let at : takes_byte (get_or (items_in c.args.codes.now) (c.loop-left.left - 1) AnyByte) (low (get_or c.args.text.now (c.loop-left.left - 1) 0))
+    ≡ takes_byte c.item_of.result c.fold.result
+    = ap (λ i. takes_byte i (low (get_or c.args.text.now (c.loop-left.left - 1) 0))) (item_at c.args.codes.now (c.loop-left.left - 1) inside
+    ∙ sym c.item_of.ensures) ∙ ap (λ b. takes_byte c.item_of.result b) (sym c.fold.ensures.lower) in
     let next : c.loop-left.left ≡ (c.loop-left.left - 1) + 1 = omega (arith, c.loop-left-test.true) in
-    let later : Matches (drop ((c.loop-left.left - 1) + 1) (items_in c.args.codes.now)) (drop ((c.loop-left.left - 1) + 1) c.args.text.now) = subst (λ (n : ℕ). Matches (drop n (items_in c.args.codes.now)) (drop n c.args.text.now)) next c.loop-left.invariant.matched in
+    let later : Matches (drop ((c.loop-left.left - 1) + 1) (items_in c.args.codes.now)) (drop ((c.loop-left.left - 1) + 1) c.args.text.now) =
+    subst (λ (n : ℕ). Matches (drop n (items_in c.args.codes.now)) (drop n c.args.text.now)) next c.loop-left.invariant.matched in
     record {
       within = omega (arith, c.loop-left.invariant.within);
       counted = omega (arith, c.takes.ensures.counted, c.loop-left.invariant.counted, c.loop-left-test.true);
-      matched = run_grows (items_in c.args.codes.now) c.args.text.now (c.loop-left.left - 1) c.requires.one c.requires.lower (long ∙ c.requires.len) (omega arith) (at ∙ taken) later;
+      matched = run_grows (items_in c.args.codes.now) c.args.text.now (c.loop-left.left - 1) c.requires.one c.requires.lower (long
+          ∙ c.requires.len) (omega arith) (at ∙ taken) later;
     }
 
 pub returns-clause-value : goal.returns-clause-value

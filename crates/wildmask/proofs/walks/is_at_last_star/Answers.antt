@@ -9,4 +9,5 @@ pub returns-then-is_star : goal.returns-then-is_star
 returns-then-is_star c has =
     let long : length (items_in c.args.codes.now) ≡ length c.args.codes.now = length-map c.args.codes.now decoded in
     let star : decoded (get_or c.args.codes.now (length c.args.codes.now - 1) 0) ≡ AnyText = c.is_star.ensures.0 c.if-is_star.true in
-    last_star (items_in c.args.codes.now) c.args.places.bits (length c.args.codes.now - 1) (omega arith) (item_at c.args.codes.now (length c.args.codes.now - 1) (omega arith) ∙ star) (c.has.ensures.0 has)
+    last_star (items_in c.args.codes.now) c.args.places.bits (length c.args.codes.now - 1) (omega arith)
+    (item_at c.args.codes.now (length c.args.codes.now - 1) (omega arith) ∙ star) (c.has.ensures.0 has)

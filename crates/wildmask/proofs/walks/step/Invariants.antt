@@ -12,7 +12,8 @@ invariant-loop-at l =
       counted : l.count.steps ≤ l.fn.count.steps + l.from;
       closed : IsClosed (items_in l.codes) l.after.bits;
       cover : StarsCover l.from (items_in l.codes) l.after.bits;
-      same : (text : List ℕ) → MatchesFrom 0 (items_in l.codes) l.places.bits (l.byte ∷ text) ↔ (MatchesFrom l.from (items_in l.codes) l.places.bits (l.byte ∷ text) ⊎ MatchesFrom 0 (items_in l.codes) l.after.bits text);
+      same : (text : List ℕ) → MatchesFrom 0 (items_in l.codes) l.places.bits (l.byte ∷ text)
+          ↔ (MatchesFrom l.from (items_in l.codes) l.places.bits (l.byte ∷ text) ⊎ MatchesFrom 0 (items_in l.codes) l.after.bits text);
     }
 
 abbrev pub decreases-loop-at : goal.decreases-loop-at

@@ -1,7 +1,7 @@
 use Rattle.std.proofs.Common.{◌↔◌, ◌+◌, ◌*◌, ◌≤◌, drop, length}
 use Rattle.wildmask.specs.Codes.{items_in}
 use Rattle.wildmask.specs.Matching.{Matches}
-use Rattle.wildmask.specs.Walks.{MatchesFrom, IsClosed}
+use Rattle.wildmask.specs.Walks.{MatchesFrom, IsClosed, IsIdle}
 use Rattle.wildmask.proofs.walks.walk.Given as goal
 
 -- the items match the text where those from some place on match what is left
@@ -11,4 +11,5 @@ invariant-loop-byte l =
       counted : l.count.steps ≤ l.fn.count.steps + length l.codes * l.byte-index;
       closed : IsClosed (items_in l.codes) l.places.bits;
       same : Matches (items_in l.codes) l.text ↔ MatchesFrom 0 (items_in l.codes) l.places.bits (drop l.byte-index l.text);
+      idle : IsIdle (items_in l.codes) l.places.bits l.idle;
     }

@@ -13,7 +13,8 @@ invariant-loop-last l =
       within : l.last ≤ length l.codes;
       on : bit_at l.places.bits l.last ≡ 1;
       closed : IsClosedBut l.last (items_in l.codes) l.places.bits;
-      same : (text : List ℕ) → MatchesFrom 0 (items_in l.codes) l.places.bits text ↔ (MatchesFrom 0 (items_in l.codes) l.fn.places.bits text ⊎ Matches (drop l.at (items_in l.codes)) text);
+      same : (text : List ℕ) → MatchesFrom 0 (items_in l.codes) l.places.bits text
+          ↔ (MatchesFrom 0 (items_in l.codes) l.fn.places.bits text ⊎ Matches (drop l.at (items_in l.codes)) text);
     }
 
 abbrev pub decreases-loop-last : goal.decreases-loop-last

@@ -16,8 +16,11 @@ not_refused (Some fault) ok = cc
 
 pub invariant_of-result : goal.invariant_of-result
 invariant_of-result c = (
-  subst (λ (text : List ℕ). fault_of c.args.kind text ≡ None) (sym c.in_ok-text.ensures) (sym c.fault_of.ensures ∙ not_refused c.fault_of.result (sym c.refuse.ensures ∙ c.in_ok-refuse.was)),
+  subst (λ (text : List ℕ). fault_of c.args.kind text ≡ None) (sym c.in_ok-text.ensures) (sym c.fault_of.ensures
+      ∙ not_refused c.fault_of.result (sym c.refuse.ensures ∙ c.in_ok-refuse.was)),
   c.of-pattern.ensures ∙ ap (λ (text : List ℕ). map lower (items_of c.args.kind text)) (sym c.in_ok-text.ensures),
-  c.literals-literals.ensures ∙ ap (count_by is_literal) c.of-pattern.ensures ∙ count-lower (items_of c.args.kind c.args.text.now) ∙ ap (λ (text : List ℕ). literals_of c.args.kind text) (sym c.in_ok-text.ensures),
-  c.signature-signature.ensures ∙ ap items_signature c.of-pattern.ensures ∙ items_signature-lower (items_of c.args.kind c.args.text.now) ∙ ap (λ (text : List ℕ). items_signature (items_of c.args.kind text)) (sym c.in_ok-text.ensures),
+  c.literals-literals.ensures ∙ ap (count_by is_literal) c.of-pattern.ensures ∙ count-lower (items_of c.args.kind c.args.text.now)
+      ∙ ap (λ (text : List ℕ). literals_of c.args.kind text) (sym c.in_ok-text.ensures),
+  c.signature-signature.ensures ∙ ap items_signature c.of-pattern.ensures ∙ items_signature-lower (items_of c.args.kind c.args.text.now)
+      ∙ ap (λ (text : List ℕ). items_signature (items_of c.args.kind text)) (sym c.in_ok-text.ensures),
 )

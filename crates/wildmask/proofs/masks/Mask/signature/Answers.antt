@@ -9,4 +9,5 @@ pub returns-clause-value : goal.returns-clause-value
 returns-clause-value c = c.self.invariant.3 ∙ ap (λ (m : GivenMask). items_signature (mask_items m)) c.self.view_is
 
 pub returns-clause-needed : goal.returns-clause-needed
-returns-clause-needed c = λ text m. subst (λ (n : ℕ). is_within n (text_signature text) ≡ true) (sym (returns-clause-value c)) (is_within-from _ _ (signature_within (mask_items c.args.self.now) text m))
+returns-clause-needed c = λ text m. subst (λ (n : ℕ). is_within n (text_signature text)
+    ≡ true) (sym (returns-clause-value c)) (is_within-from _ _ (signature_within (mask_items c.args.self.now) text m))

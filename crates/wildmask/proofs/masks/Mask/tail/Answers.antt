@@ -6,13 +6,16 @@ use Rattle.wildmask.proofs.TailLemmas.{tail_ends, tail_of-lower, length-tail_of}
 use Rattle.wildmask.proofs.masks.Mask.tail.Goals as goal
 
 pub returns-clause-value : goal.returns-clause-value
-returns-clause-value c = c.tail.ensures ∙ ap tail_of (c.self.invariant.1 ∙ ap (λ (m : GivenMask). map lower (mask_items m)) c.self.view_is) ∙ tail_of-lower (mask_items c.args.self.now)
+returns-clause-value c = c.tail.ensures ∙ ap tail_of (c.self.invariant.1 ∙ ap (λ (m : GivenMask). map lower (mask_items m)) c.self.view_is)
+    ∙ tail_of-lower (mask_items c.args.self.now)
 
 pub returns-clause-ends : goal.returns-clause-ends
-returns-clause-ends c = λ text m. subst (λ (xs : List ℕ). xs ≡ end_key (length xs) text) (sym (returns-clause-value c)) (tail_ends (mask_items c.args.self.now) text m).0
+returns-clause-ends c = λ text m. subst (λ (xs : List ℕ). xs
+    ≡ end_key (length xs) text) (sym (returns-clause-value c)) (tail_ends (mask_items c.args.self.now) text m).0
 
 pub returns-clause-within : goal.returns-clause-within
-returns-clause-within c = λ text m. subst (λ (xs : List ℕ). length xs ≤ length text) (sym (returns-clause-value c)) (tail_ends (mask_items c.args.self.now) text m).1
+returns-clause-within c = λ text m. subst (λ (xs : List ℕ). length xs ≤ length text) (sym (returns-clause-value c))
+    (tail_ends (mask_items c.args.self.now) text m).1
 
 pub returns-clause-short : goal.returns-clause-short
 returns-clause-short c = subst (λ (xs : List ℕ). length xs ≤ 16) (sym (returns-clause-value c)) (omega (arith, length-tail_of (mask_items c.args.self.now)))

@@ -1,0 +1,26 @@
+use Rattle.std.proofs.Common.{sym, subst}
+use Rattle.indexmap.specs.IndexMap.{values}
+use Rattle.userfile.specs.Index.{Covers, NamesBut, IsIndexOf}
+use Rattle.userfile.proofs.IndexLemmas.{Covers-keeps}
+use Rattle.userfile.proofs.NameLemmas.{Names-groups, NamesBut-added, IsIndexOf-with_mask}
+use Rattle.userfile.proofs.indexing.add_host_at.Goals as goal
+
+pub returns-in_err-add_mask-clause-index : goal.returns-in_err-add_mask-clause-index
+returns-in_err-add_mask-clause-index c = record {
+  covers = Covers-keeps c.args.index.now c.add_mask.new.index c.add_mask.ensures.kept 0 (values c.args.users.now) c.requires.index.covers;
+  names = Names-groups c.args.index.now c.add_mask.new.index (values c.args.users.now) c.in_err-add_mask.ensures.err c.requires.index.names;
+}
+
+pub tidy-requires-clause-covers : goal.tidy-requires-clause-covers
+tidy-requires-clause-covers c = subst (Covers c.add_mask.new.index 0) (sym c.in-Err.ensures.err)
+    (Covers-keeps c.args.index.now c.add_mask.new.index c.add_mask.ensures.kept 0 (values c.args.users.now) c.requires.index.covers)
+
+pub tidy-requires-clause-others : goal.tidy-requires-clause-others
+tidy-requires-clause-others c = subst (NamesBut c.args.place c.add_mask.new.index) (sym c.in-Err.ensures.err)
+    (NamesBut-added c.args.handle.now c.args.mask (values c.args.users.now) c.args.place c.requires.place c.args.index.now c.add_mask.new.index
+    c.add_mask.ensures.only c.requires.index.names)
+
+pub returns-in-Ok-clause-index : goal.returns-in-Ok-clause-index
+returns-in-Ok-clause-index c = subst (IsIndexOf c.add_mask.new.index) (sym c.in-Ok.ensures.ok)
+    (IsIndexOf-with_mask c.args.handle.now c.args.mask (values c.args.users.now) c.args.place c.requires.place c.args.index.now c.add_mask.new.index
+    c.add_mask.ensures.kept c.add_mask.ensures.only c.in_ok-add_mask.ensures.ok c.requires.index)
