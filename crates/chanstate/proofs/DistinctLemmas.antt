@@ -3,7 +3,8 @@ use Rattle.std.proofs.Common.{◌≡◌, ℕ, Bool, true, false, cond, ◌||◌,
 use Rattle.std.specs.List.{list_any}
 use Rattle.rfccase.specs.Casemapping.{is_same}
 use Rattle.chanstate.specs.Firsts.{first_removed, first_changed}
-use Rattle.chanstate.proofs.FindLemmas.{is_same-left, is_same-sym, or-parts, any-agree, any-removed, any-changed, any-end, AtMostOne, Within}
+use Rattle.chanstate.proofs.BoolLemmas.{or-parts}
+use Rattle.chanstate.proofs.FindLemmas.{is_same-left, is_same-sym, any-agree, any-removed, any-changed, any-end, AtMostOne, Within}
 
 -- the test for a name
 abbrev pub by : {X : Type 0} → (X → List ℕ) → List ℕ → X → Bool

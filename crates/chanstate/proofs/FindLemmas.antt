@@ -5,6 +5,7 @@ use Rattle.std.specs.Option.{option_map}
 use Rattle.std.specs.List.{list_any}
 use Rattle.std.specs.Cmp.Lexicographic.{pointwise}
 use Rattle.std.proofs.lemmas.Bool.{cond-true, cond-false, eqb-true, eq-eqb}
+use Rattle.chanstate.proofs.BoolLemmas.{or-parts}
 use Rattle.rfccase.specs.Casemapping.{folded}
 use Rattle.rfccase.specs.Casemapping.{is_same}
 use Rattle.chanstate.specs.Firsts.{first_removed, first_changed}
@@ -74,10 +75,6 @@ none-by (Some x) is = cc
 
 pub find-none : {X : Type 0} (p : X → Bool) (xs : List X) → list_any p xs ≡ false → find p xs ≡ None
 find-none p xs none = none-by (find p xs) (sym (list_any-find p xs) ∙ none)
-
-pub or-parts : (a b : Bool) → (a || b) ≡ false → (a ≡ false) × (b ≡ false)
-or-parts true b is = cc
-or-parts false b is = (refl, is)
 
 -- tests that agree find the same
 pub find-agree : {X : Type 0} (p q : X → Bool) → ((x : X) → p x ≡ q x) → (xs : List X) → find p xs ≡ find q xs

@@ -2,23 +2,16 @@
 use Rattle.std.proofs.Common.{◌≡◌, ℕ, zero, suc, ◌<◌, ◌≤◌, Bool, true, false, cond, Option, Some, None, List, [], ◌∷◌, ◌++◌, length, get_or, set, refl, sym}
 use Rattle.std.proofs.Common.{ap, ◌∙◌, arith}
 use Rattle.std.specs.List.{position, position_or_len, list_any, remove}
-use Rattle.std.proofs.Common.{◌||◌, ltb}
+use Rattle.std.proofs.Common.{ltb}
+use Rattle.std.specs.Prelude.{find}
 use Rattle.std.proofs.lemmas.List.Quantifiers.{position-Some}
 use Rattle.std.proofs.lemmas.List.Folds.{list_any_none}
 use Rattle.std.proofs.lemmas.List.Edits.{remove-append_left}
 use Rattle.std.proofs.lemmas.List.Sums.{fails_before_first}
+use Rattle.std.proofs.lemmas.Bool.{cond-true, cond-false}
 use Rattle.std.proofs.lemmas.Bool.Decides.{nat_tests}
+use Rattle.chanstate.proofs.BoolLemmas.{or-parts}
 use Rattle.chanstate.specs.Firsts.{first_removed, first_changed}
-
-cond-true : {X : Type 0} (b : Bool) (x y : X) → b ≡ true → cond b x y ≡ x
-cond-true b x y is = rw is refl
-
-cond-false : {X : Type 0} (b : Bool) (x y : X) → b ≡ false → cond b x y ≡ y
-cond-false b x y is = rw is refl
-
-or-false : (a b : Bool) → (a || b) ≡ false → (a ≡ false) × (b ≡ false)
-or-false true b is = cc
-or-false false b is = (refl, is)
 
 -- p holds at i, and nowhere before
 pub record IsFirst {X : Type 0} (p : X → Bool) (xs : List X) (i : ℕ) (d : X) : Type 0 where
@@ -71,13 +64,13 @@ list_any-no_position p xs none =
 pub first_changed-nowhere : {X : Type 0} (p : X → Bool) (f : X → X) (xs : List X) → list_any p xs ≡ false → first_changed p f xs ≡ xs
 first_changed-nowhere p f [] none = refl
 first_changed-nowhere p f (x ∷ xs) none =
-    let parts = or-false (p x) (list_any p xs) none in
+    let parts = or-parts (p x) (list_any p xs) none in
     cond-false (p x) _ _ parts.0 ∙ ap (λ rest. x ∷ rest) (first_changed-nowhere p f xs parts.1)
 
 pub first_removed-nowhere : {X : Type 0} (p : X → Bool) (xs : List X) → list_any p xs ≡ false → first_removed p xs ≡ xs
 first_removed-nowhere p [] none = refl
 first_removed-nowhere p (x ∷ xs) none =
-    let parts = or-false (p x) (list_any p xs) none in
+    let parts = or-parts (p x) (list_any p xs) none in
     cond-false (p x) _ _ parts.0 ∙ ap (λ rest. x ∷ rest) (first_removed-nowhere p xs parts.1)
 
 -- the same, as the code writes them: ys is the list before as the caller sees it, and o the answer of the search
@@ -103,6 +96,16 @@ changed_nowhere p f ys o is none = sym (first_changed-nowhere p f ys (nowhere p 
 
 pub removed_nowhere : {X : Type 0} (p : X → Bool) (ys : List X) (o : Option ℕ) → o ≡ position p ys → o ≡ None → ys ≡ first_removed p ys
 removed_nowhere p ys o is none = sym (first_removed-nowhere p ys (nowhere p ys o is none))
+
+-- what is at that place is the first that passes
+found_first : {X : Type 0} (p : X → Bool) (xs : List X) (i : ℕ) (d : X) → IsFirst p xs i d → find p xs ≡ Some (get_or xs i d)
+found_first p [] i d first = absurd (let within : i < 0 = first.within in omega arith)
+found_first p (x ∷ xs) zero d first = cond-true (p x) _ _ first.passes
+found_first p (x ∷ xs) (suc i) d first = cond-false (p x) _ _ (first.before 0 (omega arith)) ∙ found_first p xs i d (tail-first p x xs i d first)
+
+pub found_at : {X : Type 0} (p : X → Bool) (xs ys : List X) (i : ℕ) (x : X) → xs ≡ ys → Some i ≡ position p ys → x ≡ get_or xs i x → find p ys ≡ Some x
+found_at p xs ys i x same is read =
+    found_first p ys i x (first-from_position p ys i x (sym is)) ∙ ap Some (sym (read ∙ ap (λ zs. get_or zs i x) same))
 
 -- one more at the end, and then the first that passes is taken out
 pub removed_behind : {X : Type 0} (p : X → Bool) (xs ys : List X) (i : ℕ) (one : X) → xs ≡ ys → Some i ≡ position p ys

@@ -355,7 +355,16 @@ stands-connected first = record {
   nicks = λ c. tt;
   places = λ c. (tt, tt);
   joined = (tt, tt);
-  agrees = record { own_nick = refl; channels = λ c. refl; names = λ c. tt; topics = λ c. tt; members = λ c x. refl; details = λ c x. tt; member_order = λ c. tt; channel_order = tt };
+  agrees = record {
+    own_nick = refl;
+    channels = λ c. refl;
+    names = λ c. tt;
+    topics = λ c. tt;
+    members = λ c x. refl;
+    details = λ c x. tt;
+    member_order = λ c. tt;
+    channel_order = tt;
+  };
 }
 
 pub history-stands : (first : List ℕ) (messages : List Message) → Stands first (history messages) (after_all messages (connected first))

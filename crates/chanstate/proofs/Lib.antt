@@ -1,5 +1,8 @@
+pub mod BoolLemmas
 pub mod FirstsLemmas
 pub mod MapLemmas
+pub mod KeptLemmas
+pub mod WordLemmas
 pub mod StepLemmas
 pub mod FindLemmas
 pub mod DistinctLemmas

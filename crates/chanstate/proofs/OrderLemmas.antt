@@ -16,7 +16,8 @@ use Rattle.chanstate.specs.Items.{Item, Welcomed, Joined, Left, Departed, Rename
 use Rattle.chanstate.specs.Steps.{step}
 use Rattle.chanstate.specs.Views.{members_of}
 use Rattle.chanstate.specs.History.{Behind, Rising, member_said, own, on, arrival, joins}
-use Rattle.chanstate.proofs.FindLemmas.{is_same-left, is_same-sym, is_same-refl, list_any-find, or-parts, find-removed_same, Within}
+use Rattle.chanstate.proofs.BoolLemmas.{or-parts, or-right}
+use Rattle.chanstate.proofs.FindLemmas.{is_same-left, is_same-sym, is_same-refl, list_any-find, find-removed_same, Within}
 use Rattle.chanstate.proofs.DistinctLemmas.{Distinct, at_most_one, distinct-removed, within-all, within-none}
 use Rattle.chanstate.proofs.ItemLemmas.{nick_of_member, name_of, channel_after, mark_keeps}
 
@@ -102,10 +103,6 @@ map-map g f keeps (x ∷ xs) = let head = keeps x in let tail = map-map g f keep
 map-end : {X : Type 0} (g : X → ℕ) (xs : List X) (y : X) → map g (xs ++ y ∷ []) ≡ map g xs ++ g y ∷ []
 map-end g [] y = refl
 map-end g (x ∷ xs) y = ap (λ ks. g x ∷ ks) (map-end g xs y)
-
-or-right : (a b : Bool) → b ≡ true → (a || b) ≡ true
-or-right true b is = refl
-or-right false b is = is
 
 -- each of a list is in it
 each-in : (ms : List Member) → Each (λ m. has_member m.nick ms ≡ true) ms
@@ -193,7 +190,8 @@ pub arrival-is_same : (first c x y : List ℕ) (past : List Item) → is_same x 
 arrival-is_same first c x y [] is = refl
 arrival-is_same first c x y (Welcomed nick ∷ past) is = arrival-is_same first c x y past is
 arrival-is_same first c x y
-    (Joined nick user host d ∷ past) is = let here = is_same-left x y nick is in let was = on-is_same first c x y past is in let before = arrival-is_same first c x y past is in cc
+    (Joined nick user host d ∷ past) is = let here = is_same-left x y nick is in let was = on-is_same first c x y past is in let before =
+    arrival-is_same first c x y past is in cc
 arrival-is_same first c x y (Left nick d ∷ past) is = arrival-is_same first c x y past is
 arrival-is_same first c x y (Departed nick ∷ past) is = arrival-is_same first c x y past is
 arrival-is_same first c x y (Renamed old new ∷ past) is = let two = is_same-left x y new is in let before = arrival-is_same first c x y past is in cc
@@ -201,7 +199,8 @@ arrival-is_same first c x y
     (Marked d mark set nick ∷ past) is = let here = is_same-left x y nick is in let before = arrival-is_same first c x y past is in cc
 arrival-is_same first c x y (Titled d topic ∷ past) is = arrival-is_same first c x y past is
 arrival-is_same first c x y
-    (Listed d one ∷ past) is = let here = is_same-left x y one.nick is in let was = on-is_same first c x y past is in let before = arrival-is_same first c x y past is in cc
+    (Listed d one ∷ past) is = let here = is_same-left x y one.nick is in let was = on-is_same first c x y past is in let before =
+    arrival-is_same first c x y past is in cc
 arrival-is_same first c x y
     (Addressed d nick user host ∷ past) is = let here = is_same-left x y nick is in let before = arrival-is_same first c x y past is in cc
 

@@ -1,16 +1,19 @@
 -- The state after several items, one after the other.
 use Rattle.std.proofs.Common.{◌≡◌, ℕ, ◌<◌, ◌+◌, Bool, true, false, cond, Option, List, [], ◌∷◌, ◌++◌, length, get_or, take, drop, map, refl, sym, ap, ◌∙◌}
 use Rattle.std.specs.List.{filter_map, cons_option}
+use Rattle.std.specs.Option.{option_to_list}
+use Rattle.std.proofs.Common.{None, Some, filter, append_assoc, append-nil, arith}
 use Rattle.std.proofs.lemmas.List.{take_more, map-append, at_drop_more}
+use Rattle.std.proofs.lemmas.List.Elements.{filter-append}
+use Rattle.std.proofs.lemmas.Bool.Decides.{nat_tests}
 use Rattle.std.proofs.lemmas.Bool.{cond-true, cond-false}
 use Rattle.chanstate.specs.declared.member.Member.{Member}
 use Rattle.chanstate.specs.declared.state.ChanState.{ChanState}
 use Rattle.chanstate.specs.Firsts.{first_changed}
 use Rattle.chanstate.specs.Members.{listed, listed_each}
 use Rattle.chanstate.specs.Channels.{is_named, with_members, on_channel}
-use Rattle.chanstate.specs.Items.{Item, Listed, marking, markings, mark_of}
-use Rattle.chanstate.specs.declared.modes.Mode.{Mode}
-use Rattle.chanstate.specs.Seen.{single_seen}
+use Rattle.chanstate.specs.declared.member.Mark.{Mark}
+use Rattle.chanstate.specs.Items.{Item, Listed, Single, marking, markings, mark_of, is_letter, single_at, singles, sign_after, argument_of, arguments_after}
 use Rattle.chanstate.specs.Steps.{step, steps}
 
 pub steps-append : (xs ys : List Item) (s : ChanState) → steps (xs ++ ys) s ≡ steps ys (steps xs s)
@@ -64,13 +67,47 @@ steps-listed channel (one ∷ more) s =
     ∙ ap (λ cs. record s { channels = cs })
     (first_changed-twice (is_named channel) (with_members (listed one)) (with_members (listed_each more)) (λ c. refl) s.channels)
 
--- one more of the modes
-pub markings_more : (channel : List ℕ) (modes : List Mode) (i : ℕ) (d : Mode) (s next : ChanState) → i < length modes →
-    next ≡ steps (marking channel (get_or modes i d).on (get_or modes i d).argument.now (mark_of (get_or modes i d).letter)) s →
-    steps (markings channel (map single_seen (drop (i + 1) modes))) next ≡ steps (markings channel (map single_seen (drop i modes))) s
-markings_more channel modes i d s next less is =
-    let one = get_or modes i d in
-    let rest = markings channel (map single_seen (drop (i + 1) modes)) in
-    ap (λ t. steps rest t) is
-    ∙ (sym (steps-append (marking channel one.on one.argument.now (mark_of one.letter)) rest s)
-    ∙ sym (at_drop_more (λ ms. steps (markings channel (map single_seen ms)) s) modes i d less))
+-- one more piece of a list that is cut into pieces, of which some name what an item is about
+pub pieces_more : (f : List ℕ → Item) (p : List ℕ → Bool) (xs : List (List ℕ)) (x : List ℕ) (s : ChanState)
+    → steps (map f (filter p (x ∷ []))) (steps (map f (filter p xs)) s) ≡ steps (map f (filter p (xs ++ x ∷ []))) s
+pieces_more f p xs x s =
+    sym (ap (λ ns. steps (map f ns) s) (filter-append p xs (x ∷ [])) ∙ ap (λ items. steps items s) (map-append f (filter p xs) (filter p (x ∷ [])))
+    ∙ steps-append (map f (filter p xs)) (map f (filter p (x ∷ []))) s)
+
+-- ---- marks
+
+pub markings-append : (channel : List ℕ) (xs ys : List Single) → markings channel (xs ++ ys) ≡ markings channel xs ++ markings channel ys
+markings-append channel [] ys = refl
+markings-append channel (x ∷ xs) ys =
+    let one = marking channel x.on x.argument (mark_of x.letter) in
+    ap (λ rest. one ++ rest) (markings-append channel xs ys) ∙ sym (append_assoc one (markings channel xs) (markings channel ys))
+
+-- one more byte of a mode string
+pub markings_more : (channel : List ℕ) (on : Bool) (string : List ℕ) (i d : ℕ) (arguments : List (List ℕ)) (s next : ChanState) → i < length string
+    → let b = get_or string i d in
+    next ≡ steps (markings channel (option_to_list (single_at on b arguments))) s →
+    steps (markings channel (singles (sign_after on b) (drop (i + 1) string) (arguments_after on b arguments))) next
+    ≡ steps (markings channel (singles on (drop i string) arguments)) s
+markings_more channel on string i d arguments s next less is =
+    let b = get_or string i d in
+    let one = option_to_list (single_at on b arguments) in
+    let rest = singles (sign_after on b) (drop (i + 1) string) (arguments_after on b arguments) in
+    ap (steps (markings channel rest)) is
+    ∙ (sym (ap (λ items. steps items s) (markings-append channel one rest) ∙ steps-append (markings channel one) (markings channel rest) s)
+    ∙ sym (at_drop_more (λ bs. steps (markings channel (singles on bs arguments)) s) string i d less))
+
+-- the single mode of a byte that stands for a mark
+marked_by : (channel : List ℕ) (on : Bool) (b : ℕ) (arguments : List (List ℕ)) (letter : Bool) (o : Option Mark) → mark_of b ≡ o
+    → (letter ≡ false → o ≡ None)
+    → markings channel (option_to_list (cond letter (Some (record { on = on; letter = b; argument = argument_of on b arguments })) None))
+    ≡ marking channel on (argument_of on b arguments) o
+marked_by channel on b arguments true o is sign = ap (λ w. marking channel on (argument_of on b arguments) w ++ []) is
+    ∙ append-nil (marking channel on (argument_of on b arguments) o)
+marked_by channel on b arguments false o is sign = ap (marking channel on (argument_of on b arguments)) (sym (sign refl))
+
+sign_marks_none : (b : ℕ) → is_letter b ≡ false → mark_of b ≡ None
+sign_marks_none b sign = grind (arith, nat_tests)
+
+pub marked : (channel : List ℕ) (on : Bool) (b : ℕ) (arguments : List (List ℕ)) (o : Option Mark) → mark_of b ≡ o
+    → markings channel (option_to_list (single_at on b arguments)) ≡ marking channel on (argument_of on b arguments) o
+marked channel on b arguments o is = marked_by channel on b arguments (is_letter b) o is (λ sign. sym is ∙ sign_marks_none b sign)

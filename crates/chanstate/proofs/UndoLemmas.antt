@@ -14,20 +14,10 @@ use Rattle.chanstate.specs.Channels.{is_named, with_members, on_channel, opened,
 use Rattle.chanstate.specs.Items.{Joined}
 use Rattle.chanstate.specs.Steps.{joined, steps}
 use Rattle.chanstate.specs.Undos.{before_of, before_by, before_in, undone_by, undone, put_each_last}
-use Rattle.chanstate.proofs.FindLemmas.{is_same-refl, list_any-find, or-parts}
+use Rattle.chanstate.proofs.BoolLemmas.{or-parts}
+use Rattle.chanstate.proofs.FindLemmas.{is_same-refl, list_any-find}
+use Rattle.chanstate.proofs.KeptLemmas.{first_changed-kept}
 use Rattle.chanstate.proofs.StepLemmas.{first_changed-twice}
-
--- a change that leaves the first that passes as it is
-same_step : {X : Type 0} (b : Bool) (x y : X) (xs ys : List X) → (b ≡ true → y ≡ x) → (b ≡ false → ys ≡ xs) → cond b (y ∷ xs) (x ∷ ys) ≡ x ∷ xs
-same_step true x y xs ys here there = ap (λ z. z ∷ xs) (here refl)
-same_step false x y xs ys here there = ap (λ zs. x ∷ zs) (there refl)
-
-pub first_changed-kept : {X : Type 0} (p : X → Bool) (f : X → X) (xs : List X) → ((x : X) → find p xs ≡ Some x → f x ≡ x) → first_changed p f xs ≡ xs
-first_changed-kept p f [] kept = refl
-first_changed-kept p f (x ∷ xs) kept =
-    same_step (p x) x (f x) xs (first_changed p f xs)
-    (λ is. kept x (cond-true (p x) _ _ is))
-    (λ is. first_changed-kept p f xs (λ y found. kept y (cond-false (p x) _ _ is ∙ found)))
 
 -- one who came last goes
 removed_last : {X : Type 0} (p : X → Bool) (xs : List X) (x : X) → list_any p xs ≡ false → p x ≡ true → first_removed p (xs ++ x ∷ []) ≡ xs
@@ -130,6 +120,11 @@ joined-nick nick user host channel s = by (is_same nick s.nick)
         (record s { channels = on_channel channel (arrived (unmarked nick user host)) s.channels })).nick ≡ s.nick
     by true = refl
     by false = refl
+
+-- so do several
+pub joins-nick : (nick user host : List ℕ) (names : List (List ℕ)) (s : ChanState) → (steps (map (Joined nick user host) names) s).nick ≡ s.nick
+joins-nick nick user host [] s = refl
+joins-nick nick user host (n ∷ ns) s = joins-nick nick user host ns (joined nick user host n s) ∙ joined-nick nick user host n s
 
 -- the bot's joins put each of its channels last
 pub steps-own : (nick user host : List ℕ) (names : List (List ℕ)) (s : ChanState) → is_same nick s.nick ≡ true

@@ -52,17 +52,18 @@ abbrev pub signs_len : List ℕ → ℕ
 signs_len word = position_or_len (λ b. not (is_sign b)) word
 
 -- a word of such a list: @ is op, % is half-op, + is voice
+abbrev pub shown_by : List ℕ → List ℕ → Member
+shown_by signs nick = record {
+  nick = nick;
+  user = [];
+  host = [];
+  op = list_any (λ s. s == 64) signs;
+  voice = list_any (λ s. s == 43) signs;
+  half_op = list_any (λ s. s == 37) signs;
+}
+
 abbrev pub named_by : List ℕ → List ℕ → Option Member
-named_by signs nick =
-    if length nick == 0 then None
-    else Some (record {
-      nick = nick;
-      user = [];
-      host = [];
-      op = list_any (λ s. s == 64) signs;
-      voice = list_any (λ s. s == 43) signs;
-      half_op = list_any (λ s. s == 37) signs;
-    })
+named_by signs nick = if length nick == 0 then None else Some (shown_by signs nick)
 
 abbrev pub named : List ℕ → Option Member
 named word = named_by (take (signs_len word) word) (drop (signs_len word) word)
@@ -134,16 +135,6 @@ verb_of c =
     else (if is_command c (codes "353") then verb.RplNamReply
     else (if is_command c (codes "352") then verb.RplWhoReply
     else verb.Other)))))))))))
-
--- a KICK, a QUIT and a command that says nothing of channels need no memory
-abbrev pub verb_takes_memory : Verb → Bool
-verb_takes_memory verb.Kick = false
-verb_takes_memory verb.Quit = false
-verb_takes_memory verb.Other = false
-verb_takes_memory v = true
-
-abbrev pub takes_memory : Message → Bool
-takes_memory m = verb_takes_memory (verb_of m.command)
 
 -- 001: the first parameter is the bot's nick
 abbrev pub rpl_welcome_items : List (List ℕ) → List Item

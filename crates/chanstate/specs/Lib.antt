@@ -11,3 +11,4 @@ pub mod History
 pub mod Seats
 pub mod Renamings
 pub mod Undos
+pub mod Memory

@@ -64,6 +64,11 @@ abbrev pub listed_each : List Member → List Member → List Member
 listed_each [] members = members
 listed_each (one ∷ more) members = listed_each more (listed one members)
 
+-- several, of whom only members get their marks
+abbrev pub shown_each : List Member → List Member → List Member
+shown_each [] members = members
+shown_each (one ∷ more) members = shown_each more (first_changed (is_called one.nick) (with_marks_of one) members)
+
 -- the members without another of the new nick
 abbrev pub without_namesake : List ℕ → List ℕ → List Member → List Member
 without_namesake old new members = if is_same old new then members else first_removed (is_called new) members

@@ -1,9 +1,9 @@
 // What a message says of the bot's channels.
-ghost use Rattle.std.specs.Prelude.{◌≡◌, true, false};
-ghost use Rattle.chanstate.specs.Items.{takes_memory, items_of, items_by, rpl_welcome_items, join_items, part_items, kick_items, quit_items};
+ghost use Rattle.std.specs.Prelude.{◌≡◌};
+ghost use Rattle.chanstate.specs.Items.{items_of, items_by, rpl_welcome_items, join_items, part_items, kick_items, quit_items};
 ghost use Rattle.chanstate.specs.Items.{nick_items, mode_items, topic_items, rpl_topic_items, rpl_no_topic_items, rpl_nam_reply_items, rpl_who_reply_items, last_of};
 ghost use Rattle.std.specs.Option.{option_copied};
-ghost use Rattle.chanstate.specs.Seen.{items_seen, change_takes_memory};
+ghost use Rattle.chanstate.specs.Seen.{items_seen};
 ghost use Rattle.ircline.specs.Sources.{source_of};
 ghost use Rattle.ircline.specs.View.{seen};
 
@@ -78,8 +78,7 @@ fn join<'a>(from: Source<'a>, params: &'a [Text]) -> Change<'a>
 }
 
 fn kick(params: &[Text]) -> Change<'_>
-    ensures items { items_seen result ≡ kick_items params.now }
-    ensures memory { change_takes_memory result ≡ false }
+    ensures { items_seen result ≡ kick_items params.now }
 {
     let Some(channel) = param(params, 0) else {
         return Change::Nothing;
@@ -103,8 +102,7 @@ fn part<'a>(from: Source<'a>, params: &'a [Text]) -> Change<'a>
 }
 
 fn quit<'a>(from: Source<'a>) -> Change<'a>
-    ensures items { items_seen result ≡ quit_items (seen from.entry) }
-    ensures memory { change_takes_memory result ≡ false }
+    ensures { items_seen result ≡ quit_items (seen from.entry) }
 {
     match from {
         Source::Person(Person { nick, .. }) => Change::Quit(nick),
@@ -229,8 +227,7 @@ fn rpl_who_reply(params: &[Text]) -> Change<'_>
 
 /// What a message says.
 pub fn change_of(message: &Message) -> Change<'_>
-    ensures items { items_seen result ≡ items_of message.now }
-    ensures memory { change_takes_memory result ≡ true → takes_memory message.now ≡ true }
+    ensures { items_seen result ≡ items_of message.now }
 {
     let from = source(message.prefix.as_bytes());
     let params = message.params.as_slice();

@@ -1,8 +1,9 @@
 // The channels that the bot is on.
-ghost use Rattle.std.specs.Prelude.{◌≡◌, ◌+◌, ◌<◌, ◌≤◌, [], IfOk, MatchResult, position, length, map, filter, find};
+ghost use Rattle.std.specs.Prelude.{◌≡◌, ◌+◌, ◌<◌, ◌≤◌, [], true, IfOk, OnErr, MatchResult, position, length, map, filter, find};
 ghost use Rattle.std.specs.Option.{option_copied};
-ghost use Rattle.std.specs.List.{filter_map};
-ghost use Rattle.chanstate.specs.Items.{named};
+ghost use Rattle.std.specs.List.{list_any};
+ghost use Rattle.chanstate.specs.Items.{names_in};
+ghost use Rattle.chanstate.specs.Memory.{lacks};
 ghost use Rattle.std.specs.Vec.{vec_len, vec_capacity};
 ghost use Rattle.chanstate.specs.Undos.{put_each_last};
 ghost use Rattle.chanstate.specs.Firsts.{first_removed, first_changed};
@@ -81,19 +82,21 @@ impl Channels {
         names_with(alloc, self.items.as_slice(), nick)
     }
 
+    // Whether a channel has a member of this nick.
+    pub(crate) fn have(&self, nick: &[u8]) -> bool
+        ensures { result ≡ list_any (λ channel. has_member nick.now channel.members) self.now }
+    {
+        self.items.iter().any(|channel| channel.members.holds(nick))
+    }
+
     // The members of a channel are listed, in words with marks before the nicks.
-    pub(crate) fn list(
-        &mut self,
-        alloc: Global,
-        name: &[u8],
-        words: &[&[u8]],
-    ) -> Result<(), NoMemory>
-        ensures { MatchResult result (λ _. self.new ≡ on_channel name.now (listed_each (filter_map (λ word. named word.now) words.now)) self.old)
-            (λ _. self.new ≡ self.old) }
+    pub(crate) fn list(&mut self, alloc: Global, name: &[u8], names: &[u8]) -> Result<(), NoMemory>
+        ensures memory { OnErr result (list_any (λ one. lacks one.nick (find (is_named name.now) self.old)) (names_in names.now) ≡ true) }
+        ensures listed { MatchResult result (λ _. self.new ≡ on_channel name.now (listed_each (names_in names.now)) self.old) (λ _. self.new ≡ self.old) }
     {
         if let Some(at) = self.place(name) {
             let channel = &mut self.items[at];
-            channel.members.list_all(alloc, words)?;
+            channel.members.list_all(alloc, names)?;
         }
         Ok(())
     }
@@ -109,7 +112,8 @@ impl Channels {
 
     // Puts each of these channels last, anew where it is held, in their order.
     pub(crate) fn put_each_last(&mut self, channels: Vec<Channel>) -> Result<(), NoMemory>
-        ensures { MatchResult result (λ _. self.new ≡ put_each_last channels.items self.old) (λ _. self.new ≡ self.old) }
+        ensures memory { OnErr result (0 < length channels.items) }
+        ensures put { MatchResult result (λ _. self.new ≡ put_each_last channels.items self.old) (λ _. self.new ≡ self.old) }
     {
         self.items.reserve(channels.len())?;
         put_each(&mut self.items, channels);

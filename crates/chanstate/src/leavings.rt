@@ -1,13 +1,14 @@
 // The bot is welcomed, and people leave (RFC 2812 sections 3.1.7, 3.2.2 and 3.2.8).
-ghost use Rattle.std.specs.Prelude.{◌≡◌, MatchResult, map};
+ghost use Rattle.std.specs.Prelude.{◌≡◌, MatchResult, map, filter, [], ◌∷◌};
 ghost use Rattle.chanstate.specs.Items.{Left, Welcomed, channels_in};
 ghost use Rattle.chanstate.specs.Steps.{left, departed, step, steps};
+ghost use Rattle.rfccase.specs.Channels.{is_channel_name};
 
 use crate::channels::Channels;
 use crate::names::is_same;
 use crate::state::ChanState;
-use crate::words::channel_names;
 use bytetext::{NoMemory, Text};
+use rfccase::is_channel_name;
 use std::alloc::Global;
 
 impl ChanState {
@@ -32,27 +33,22 @@ impl ChanState {
         }
     }
 
-    // A nick leaves each of these channels, in their order.
-    fn leave_each(&mut self, nick: &[u8], names: &[&[u8]])
-        ensures { self.new ≡ steps (map (λ name. Left nick.now name.now) names.now) self.old }
+    // A nick leaves the channel that a piece of a list names, if it names one.
+    fn leave_piece(&mut self, nick: &[u8], piece: &[u8])
+        ensures { self.new ≡ steps (map (Left nick.now) (filter is_channel_name (piece.now ∷ []))) self.old }
     {
-        for name in names {
-            self.leave(nick, name);
+        if is_channel_name(piece) {
+            self.leave(nick, piece);
         }
     }
 
-    // A nick leaves the channels of a list.
-    pub(crate) fn leave_all(
-        &mut self,
-        alloc: Global,
-        nick: &[u8],
-        list: &[u8],
-    ) -> Result<(), NoMemory>
-        ensures { MatchResult result (λ _. self.new ≡ steps (map (Left nick.now) (channels_in list.now)) self.old) (λ _. self.new ≡ self.old) }
+    // A nick leaves the channels of a list, in their order.
+    pub(crate) fn leave_all(&mut self, nick: &[u8], list: &[u8])
+        ensures { self.new ≡ steps (map (Left nick.now) (channels_in list.now)) self.old }
     {
-        let names = channel_names(alloc, list)?;
-        self.leave_each(nick, names.as_slice());
-        Ok(())
+        for piece in list.split(|byte| *byte == b',') {
+            self.leave_piece(nick, piece);
+        }
     }
 
     // A nick leaves the network.

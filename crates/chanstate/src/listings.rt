@@ -1,10 +1,10 @@
 // The names of a channel are listed (RFC 2812 section 3.2.5, reply 353).
-ghost use Rattle.std.specs.Prelude.{◌≡◌, MatchResult, map};
+ghost use Rattle.std.specs.Prelude.{◌≡◌, true, OnErr, MatchResult, map};
 ghost use Rattle.chanstate.specs.Items.{Listed, names_in};
+ghost use Rattle.chanstate.specs.Memory.{any_adds};
 ghost use Rattle.chanstate.specs.Steps.{steps};
 
 use crate::state::ChanState;
-use crate::words::pieces;
 use bytetext::NoMemory;
 use std::alloc::Global;
 
@@ -16,10 +16,10 @@ impl ChanState {
         channel: &[u8],
         names: &[u8],
     ) -> Result<(), NoMemory>
-        ensures { MatchResult result (λ _. self.new ≡ steps (map (Listed channel.now) (names_in names.now)) self.old) (λ _. self.new ≡ self.old) }
+        ensures memory { OnErr result (any_adds (map (Listed channel.now) (names_in names.now)) self.old ≡ true) }
+        ensures listed { MatchResult result (λ _. self.new ≡ steps (map (Listed channel.now) (names_in names.now)) self.old) (λ _. self.new ≡ self.old) }
     {
-        let words = pieces(alloc, names, b' ')?;
-        self.channels.list(alloc, channel, words.as_slice())?;
+        self.channels.list(alloc, channel, names)?;
         Ok(())
     }
 }

@@ -1,46 +1,34 @@
 // Marks are set and cleared (RFC 2812 section 3.2.3).
-ghost use Rattle.std.specs.Prelude.{◌≡◌, MatchResult, map, true};
-ghost use Rattle.chanstate.specs.Items.{markings, marking, mark_of, singles};
-ghost use Rattle.chanstate.specs.Seen.{single_seen};
+ghost use Rattle.std.specs.Prelude.{◌≡◌, true};
+ghost use Rattle.std.specs.Option.{option_to_list};
+ghost use Rattle.chanstate.specs.Items.{markings, single_at, singles};
 ghost use Rattle.chanstate.specs.Steps.{steps};
 
-use crate::modes::{Mode, mark_by, modes_of};
+use crate::modes::{argument, mark_by, next_arguments, next_sign};
 use crate::state::ChanState;
-use bytetext::{NoMemory, Text};
-use std::alloc::Global;
+use bytetext::Text;
 
 impl ChanState {
-    // A mark of a member is set or cleared, if the mode is about one.
-    fn mark(&mut self, channel: &[u8], mode: Mode<'_>)
-        ensures { self.new ≡ steps (marking channel.now mode.entry.on mode.entry.argument.now (mark_of mode.entry.letter)) self.old }
+    // A byte of a mode string sets or clears a mark of a member, if it is about one.
+    fn mark(&mut self, channel: &[u8], on: bool, byte: u8, arguments: &[Text])
+        ensures { self.new ≡ steps (markings channel.now (option_to_list (single_at on byte arguments.now))) self.old }
     {
-        if let Some(mark) = mark_by(mode.letter) {
-            self.channels.mark(channel, mode.argument, mark, mode.on);
+        if let Some(mark) = mark_by(byte) {
+            self.channels
+                .mark(channel, argument(on, byte, arguments), mark, on);
         }
     }
 
-    // The same for each of these modes, in their order.
-    fn mark_each(&mut self, channel: &[u8], modes: &[Mode<'_>])
-        ensures { self.new ≡ steps (markings channel.now (map single_seen modes.now)) self.old }
+    // The modes of a channel change, in the order of their letters.
+    pub(crate) fn mode(&mut self, channel: &[u8], string: &[u8], arguments: &[Text])
+        ensures { self.new ≡ steps (markings channel.now (singles true string.now arguments.now)) self.old }
     {
-        for mode in modes {
-            self.mark(channel, *mode);
+        let mut on = true;
+        let mut rest = arguments;
+        for byte in string {
+            self.mark(channel, on, *byte, rest);
+            rest = next_arguments(on, *byte, rest);
+            on = next_sign(on, *byte);
         }
-    }
-
-    // The modes of a channel change.
-    pub(crate) fn mode(
-        &mut self,
-        alloc: Global,
-        channel: &[u8],
-        string: &[u8],
-        arguments: &[Text],
-    ) -> Result<(), NoMemory>
-        ensures { MatchResult result (λ _. self.new ≡ steps (markings channel.now (singles true string.now arguments.now)) self.old)
-            (λ _. self.new ≡ self.old) }
-    {
-        let modes = modes_of(alloc, string, arguments)?;
-        self.mark_each(channel, modes.as_slice());
-        Ok(())
     }
 }

@@ -1,11 +1,10 @@
 // Those whom a list of names shows.
 ghost use Rattle.std.specs.Prelude.{◌≡◌, ◌+◌, ◌<◌, ◌≤◌, ◌++◌, IfOk, OnOk, length};
-ghost use Rattle.std.specs.List.{filter_map};
 ghost use Rattle.std.specs.Option.{option_to_list};
 ghost use Rattle.std.specs.Vec.{vec_len, vec_capacity};
 ghost use Rattle.std.specs.Map.{values_of};
 ghost use Rattle.indexmap.specs.IndexMap.{spare};
-ghost use Rattle.chanstate.specs.Items.{named};
+ghost use Rattle.chanstate.specs.Items.{names_in};
 ghost use Rattle.chanstate.specs.Seats.{AreIndexed, AreUnder, IsUnder, seated};
 ghost use Rattle.chanstate.specs.Members.{listed, listed_each};
 
@@ -17,13 +16,13 @@ use bytetext::NoMemory;
 use rfccase::fold_text;
 use std::alloc::Global;
 
-// Those whom these words name, each with its key, in the words' order.
-pub(crate) fn named_by(alloc: Global, words: &[&[u8]]) -> Result<Vec<(Vec<u8>, Member)>, NoMemory>
+// Those whom a list of names names, each with its key, in their order.
+pub(crate) fn named_by(alloc: Global, names: &[u8]) -> Result<Vec<(Vec<u8>, Member)>, NoMemory>
     ensures keyed { IfOk result (λ ones. AreUnder ones.items) }
-    ensures named { IfOk result (λ ones. values_of ones.items ≡ filter_map (λ word. named word.now) words.now) }
+    ensures named { IfOk result (λ ones. values_of ones.items ≡ names_in names.now) }
 {
     let mut ones = Vec::new(alloc);
-    for word in words {
+    for word in names.split(|byte| *byte == b' ') {
         push_some(&mut ones, alloc, named_member(alloc, word)?)?;
     }
     Ok(ones)

@@ -1,9 +1,13 @@
 // Nicks change (RFC 2812 section 3.1.2): on every channel, or on none where memory is short.
-ghost use Rattle.std.specs.Prelude.{◌≡◌, ◌≤◌, ℕ, List, [], length, OnOk, MatchResult};
+ghost use Rattle.std.specs.Prelude.{◌≡◌, ◌≤◌, ◌||◌, true, ℕ, List, [], length, OnOk, OnErr, MatchResult};
+ghost use Rattle.std.specs.List.{list_any};
 ghost use Rattle.std.specs.Vec.{vec_capacity};
 ghost use Rattle.chanstate.specs.declared.channel.Channel.{Channel};
 ghost use Rattle.chanstate.specs.Channels.{all_renamed};
+ghost use Rattle.rfccase.specs.Casemapping.{is_same};
 ghost use Rattle.chanstate.specs.Items.{Renamed};
+ghost use Rattle.chanstate.specs.Members.{has_member};
+ghost use Rattle.chanstate.specs.Memory.{adds};
 ghost use Rattle.chanstate.specs.Renamings.{AreTaken};
 ghost use Rattle.chanstate.specs.Steps.{step};
 
@@ -15,10 +19,21 @@ use bytetext::{NoMemory, Text};
 use std::alloc::Global;
 
 impl ChanState {
+    // Whether a nick is the bot's own or on a held channel.
+    fn knows(&self, nick: &[u8]) -> bool
+        ensures { result ≡ (is_same nick.now self.now.nick || list_any (λ channel. has_member nick.now channel.members) self.now.channels) }
+    {
+        is_same(nick, self.nick.as_bytes()) || self.channels.have(nick)
+    }
+
     // A nick is now another.
     pub(crate) fn rename(&mut self, alloc: Global, old: &[u8], new: &[u8]) -> Result<(), NoMemory>
-        ensures { MatchResult result (λ _. self.new ≡ step (Renamed old.now new.now) self.old) (λ _. self.new ≡ self.old) }
+        ensures memory { OnErr result (adds (Renamed old.now new.now) self.old ≡ true) }
+        ensures renamed { MatchResult result (λ _. self.new ≡ step (Renamed old.now new.now) self.old) (λ _. self.new ≡ self.old) }
     {
+        if !self.knows(old) {
+            return Ok(());
+        }
         let own = Text::from_slice(alloc, new)?;
         self.channels.rename(alloc, old, new)?;
         if is_same(old, self.nick.as_bytes()) {

@@ -1,11 +1,11 @@
 // The members of one channel, as the bot keeps them: found by their nicks, in the order in which they came.
-ghost use Rattle.std.specs.Prelude.{◌≡◌, [], ◌∷◌, IfOk, OnErr, MatchResult, find};
-ghost use Rattle.std.specs.List.{filter_map};
-ghost use Rattle.std.specs.Option.{option_copied};
+ghost use Rattle.std.specs.Prelude.{◌≡◌, [], ◌∷◌, true, not, IfOk, OnErr, MatchResult, find};
+ghost use Rattle.std.specs.List.{list_any};
+ghost use Rattle.std.specs.Option.{option_copied, option_to_list};
 ghost use Rattle.chanstate.specs.Views.{is_op};
-ghost use Rattle.chanstate.specs.Members.{is_called, has_member, with_mark, with_address, arrived, edited, listed_each};
+ghost use Rattle.chanstate.specs.Members.{is_called, has_member, with_mark, with_address, arrived, edited, listed_each, shown_each};
 ghost use Rattle.chanstate.specs.Renamings.{IsReady};
-ghost use Rattle.chanstate.specs.Items.{named};
+ghost use Rattle.chanstate.specs.Items.{named, names_in};
 ghost use Rattle.chanstate.specs.Firsts.{first_removed, first_changed};
 
 use crate::copies::{copies_of, seats_of};
@@ -16,6 +16,7 @@ use crate::renaming::Renaming;
 use crate::seats::{
     Seats, add, edit_at, index_taken, make_room, member_of, place_of, reserve_entries, vacate,
 };
+use crate::words::{shown, split_signs};
 use bytetext::{NoMemory, Text, TryCopy};
 use rfccase::fold_text;
 use std::alloc::Global;
@@ -128,11 +129,56 @@ impl Roster {
         add(&mut self.seats, alloc, one)
     }
 
-    // Those whom these words name are listed, in their order.
-    pub(crate) fn list_all(&mut self, alloc: Global, words: &[&[u8]]) -> Result<(), NoMemory>
-        ensures { MatchResult result (λ _. self.new ≡ listed_each (filter_map (λ word. named word.now) words.now) self.old) (λ _. self.new ≡ self.old) }
+    // Whether a word of a list of names names someone who isn't among them.
+    fn lacks(&self, word: &[u8]) -> bool
+        ensures { result ≡ list_any (λ one. not (has_member one.nick self.now)) (option_to_list (named word.now)) }
     {
-        let ones = named_by(alloc, words)?;
+        let (_, nick) = split_signs(word);
+        !nick.is_empty() && !self.holds(nick)
+    }
+
+    // Whether a list of names names someone who isn't among them.
+    fn lacks_any(&self, names: &[u8]) -> bool
+        ensures { result ≡ list_any (λ one. not (has_member one.nick self.now)) (names_in names.now) }
+    {
+        for word in names.split(|byte| *byte == b' ') {
+            if self.lacks(word) {
+                return true;
+            }
+        }
+        false
+    }
+
+    // The member whom a word names, if there is one, has the marks before the nick.
+    fn show(&mut self, alloc: Global, word: &[u8])
+        ensures { self.new ≡ shown_each (option_to_list (named word.now)) self.old }
+    {
+        let (signs, nick) = split_signs(word);
+        if !nick.is_empty() {
+            let one = shown(alloc, signs, Text::empty(alloc));
+            self.edit(nick, Edit::Listed(one));
+        }
+    }
+
+    // The same for each word of a list of names, in their order.
+    fn show_all(&mut self, alloc: Global, names: &[u8])
+        ensures { self.new ≡ shown_each (names_in names.now) self.old }
+    {
+        for word in names.split(|byte| *byte == b' ') {
+            self.show(alloc, word);
+        }
+    }
+
+    // Those whom a list of names names are listed, in their order.
+    pub(crate) fn list_all(&mut self, alloc: Global, names: &[u8]) -> Result<(), NoMemory>
+        ensures memory { OnErr result (list_any (λ one. not (has_member one.nick self.old)) (names_in names.now) ≡ true) }
+        ensures listed { MatchResult result (λ _. self.new ≡ listed_each (names_in names.now) self.old) (λ _. self.new ≡ self.old) }
+    {
+        if !self.lacks_any(names) {
+            self.show_all(alloc, names);
+            return Ok(());
+        }
+        let ones = named_by(alloc, names)?;
         make_room(&mut self.seats, alloc, ones.len())?;
         list_each(&mut self.seats, ones);
         Ok(())

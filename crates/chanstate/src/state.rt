@@ -4,7 +4,7 @@ ghost use Rattle.std.specs.Option.{option_copied, option_map};
 ghost use Rattle.chanstate.specs.Channels.{is_held};
 ghost use Rattle.chanstate.specs.Views.{connected, channel_in, topic_in, members_in, member_in, is_op, channels_with};
 ghost use Rattle.chanstate.specs.Steps.{after};
-ghost use Rattle.chanstate.specs.Items.{takes_memory};
+ghost use Rattle.chanstate.specs.Memory.{takes_memory};
 
 use crate::change::{Change, change_of};
 use crate::channels::Channels;
@@ -106,17 +106,22 @@ impl ChanState {
     /// Takes a message in.
     ///
     /// # Errors
-    /// `NoMemory` where room is refused; the state is then as before. A KICK, a QUIT and a command that says nothing of
-    /// channels take no memory.
+    /// `NoMemory` where room is refused; the state is then as before. Only a message that brings a text to be kept asks for
+    /// room: a welcome, a JOIN, a NICK of the bot or of a member, and on held channels another topic, another address of a
+    /// member in a reply 352, and a reply 353 that names someone new. Any other message, as each PART, KICK, QUIT and MODE,
+    /// takes no memory.
     pub fn apply(&mut self, alloc: Global, message: &Message) -> Result<(), NoMemory>
-        ensures memory { OnErr result (takes_memory message.now ≡ true) }
+        ensures memory { OnErr result (takes_memory message.now self.old ≡ true) }
         ensures applied { MatchResult result (λ _. self.new ≡ after message.now self.old) (λ _. self.new ≡ self.old) }
     {
         match change_of(message) {
             Change::Nothing => Ok(()),
             Change::Welcome(nick) => self.welcome(alloc, nick),
             Change::Join { person, list } => self.join_all(alloc, person, list),
-            Change::Part { nick, list } => self.leave_all(alloc, nick, list),
+            Change::Part { nick, list } => {
+                self.leave_all(nick, list);
+                Ok(())
+            }
             Change::Kick { channel, target } => {
                 self.leave(target, channel);
                 Ok(())
@@ -130,7 +135,10 @@ impl ChanState {
                 channel,
                 modes,
                 arguments,
-            } => self.mode(alloc, channel, modes, arguments),
+            } => {
+                self.mode(channel, modes, arguments);
+                Ok(())
+            }
             Change::Topic { channel, topic } => self.set_topic(alloc, channel, topic),
             Change::Names { channel, names } => self.list(alloc, channel, names),
             Change::Address {

@@ -32,31 +32,19 @@ pub fn is(command: &[u8], name: &[u8]) -> bool
 pub fn read_verb(command: &[u8]) -> Verb
     ensures { result ≡ verb_of command.now }
 {
-    if is(command, b"001") {
-        Verb::RplWelcome
-    } else if is(command, b"JOIN") {
-        Verb::Join
-    } else if is(command, b"PART") {
-        Verb::Part
-    } else if is(command, b"KICK") {
-        Verb::Kick
-    } else if is(command, b"QUIT") {
-        Verb::Quit
-    } else if is(command, b"NICK") {
-        Verb::Nick
-    } else if is(command, b"MODE") {
-        Verb::Mode
-    } else if is(command, b"TOPIC") {
-        Verb::Topic
-    } else if is(command, b"332") {
-        Verb::RplTopic
-    } else if is(command, b"331") {
-        Verb::RplNoTopic
-    } else if is(command, b"353") {
-        Verb::RplNamReply
-    } else if is(command, b"352") {
-        Verb::RplWhoReply
-    } else {
-        Verb::Other
+    match command {
+        b"001" => Verb::RplWelcome,
+        b"JOIN" => Verb::Join,
+        b"PART" => Verb::Part,
+        b"KICK" => Verb::Kick,
+        b"QUIT" => Verb::Quit,
+        b"NICK" => Verb::Nick,
+        b"MODE" => Verb::Mode,
+        b"TOPIC" => Verb::Topic,
+        b"332" => Verb::RplTopic,
+        b"331" => Verb::RplNoTopic,
+        b"353" => Verb::RplNamReply,
+        b"352" => Verb::RplWhoReply,
+        _ => Verb::Other,
     }
 }

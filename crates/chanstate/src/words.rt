@@ -1,13 +1,11 @@
 // The parts of a parameter: channels with commas between, names with spaces between.
-ghost use Rattle.std.specs.Prelude.{◌≡◌, ◌==◌, ◌≤◌, length, IfOk, map, filter, drop};
-ghost use Rattle.std.specs.List.{slice_split, slice_get, list_all};
+ghost use Rattle.std.specs.Prelude.{◌≡◌, ◌≤◌, length, IfOk, take, drop};
+ghost use Rattle.std.specs.List.{slice_get};
 ghost use Rattle.std.specs.Option.{option_copied};
-ghost use Rattle.rfccase.specs.Channels.{is_channel_name};
-ghost use Rattle.chanstate.specs.Items.{channels_in, is_sign, signs_len, named};
+ghost use Rattle.chanstate.specs.Items.{is_sign, signs_len, shown_by, named};
 
 use crate::member::Member;
 use bytetext::{NoMemory, Text};
-use rfccase::is_channel_name;
 use std::alloc::Global;
 
 /// The parameter at this place, from 0.
@@ -31,35 +29,6 @@ pub fn params_from(params: &[Text], from: usize) -> &[Text]
     }
 }
 
-/// The pieces of a text between these bytes.
-pub fn pieces(alloc: Global, text: &[u8], between: u8) -> Result<Vec<&[u8]>, NoMemory>
-    ensures { IfOk result (λ parts. map (λ x. x.now) parts.items ≡ slice_split (λ b. b == between) text.now) }
-{
-    let parts = text.split(|byte| *byte == between).collect(alloc)?;
-    Ok(parts)
-}
-
-// Those of these pieces that are channels' names.
-fn only_names<'a>(alloc: Global, pieces: &[&'a [u8]]) -> Result<Vec<&'a [u8]>, NoMemory>
-    ensures { IfOk result (λ names. map (λ x. x.now) names.items ≡ filter is_channel_name (map (λ x. x.now) pieces.now)) }
-{
-    let mut names = Vec::new(alloc);
-    for piece in pieces {
-        if is_channel_name(piece) {
-            names.push(*piece)?;
-        }
-    }
-    Ok(names)
-}
-
-/// The channels of a list with commas between.
-pub fn channel_names(alloc: Global, list: &[u8]) -> Result<Vec<&[u8]>, NoMemory>
-    ensures { IfOk result (λ names. map (λ x. x.now) names.items ≡ channels_in list.now) }
-{
-    let pieces = pieces(alloc, list, b',')?;
-    only_names(alloc, pieces.as_slice())
-}
-
 fn is_sign_byte(byte: u8) -> bool
     ensures { result ≡ is_sign byte }
 {
@@ -78,17 +47,36 @@ fn count_signs(word: &[u8]) -> usize
     count
 }
 
+/// The marks of a word of a list of names, and the nick after them.
+pub fn split_signs(word: &[u8]) -> (&[u8], &[u8])
+    ensures signs { result.0.now ≡ take (signs_len word.now) word.now }
+    ensures nick { result.1.now ≡ drop (signs_len word.now) word.now }
+{
+    word.split_at(count_signs(word))
+}
+
+/// A member of this nick, with the marks that stand before it and no address. Takes no memory.
+pub fn shown(alloc: Global, signs: &[u8], nick: Text) -> Member
+    ensures { result ≡ shown_by signs.now nick }
+{
+    Member {
+        nick,
+        user: Text::empty(alloc),
+        host: Text::empty(alloc),
+        op: signs.contains(&b'@'),
+        voice: signs.contains(&b'+'),
+        half_op: signs.contains(&b'%'),
+    }
+}
+
 /// A word of a list of names, as a member; none where no nick follows the marks.
 pub fn named_member(alloc: Global, word: &[u8]) -> Result<Option<Member>, NoMemory>
     ensures { IfOk result (λ one. one ≡ named word.now) }
 {
-    let (signs, nick) = word.split_at(count_signs(word));
+    let (signs, nick) = split_signs(word);
     if nick.is_empty() {
         return Ok(None);
     }
-    let mut one = Member::new(alloc, nick, b"", b"")?;
-    one.op = signs.contains(&b'@');
-    one.voice = signs.contains(&b'+');
-    one.half_op = signs.contains(&b'%');
-    Ok(Some(one))
+    let nick = Text::from_slice(alloc, nick)?;
+    Ok(Some(shown(alloc, signs, nick)))
 }

@@ -1,9 +1,10 @@
-use Rattle.std.proofs.Common.{◌≡◌, take, map}
+use Rattle.std.proofs.Common.{◌≡◌, map, filter}
+use Rattle.rfccase.specs.Channels.{is_channel_name}
 use Rattle.chanstate.specs.Channels.{opened}
 use Rattle.chanstate.specs.Members.{unmarked}
 use Rattle.chanstate.proofs.joins.opened_each.Given as goal
 
--- the channels of the names so far
-abbrev pub invariant-loop-name : goal.invariant-loop-name
-invariant-loop-name l = l.channels.items
-    ≡ map (λ name. opened name.now (unmarked l.person.nick.now l.person.user.now l.person.host.now)) (take l.name-index l.names)
+-- the channels of the pieces so far
+abbrev pub invariant-loop-piece : goal.invariant-loop-piece
+invariant-loop-piece l = l.channels.items
+    ≡ map (λ name. opened name (unmarked l.person.nick.now l.person.user.now l.person.host.now)) (filter is_channel_name (map (λ x. x.now) l.yielded))

@@ -1,4 +1,4 @@
-use Rattle.std.proofs.Common.{◌≡◌, take}
+use Rattle.std.proofs.Common.{◌≡◌, map}
 use Rattle.std.specs.List.{filter_map}
 use Rattle.std.specs.Map.{values_of}
 use Rattle.chanstate.specs.Items.{named}
@@ -9,5 +9,5 @@ use Rattle.chanstate.proofs.newcomers.named_by.Given as goal
 abbrev pub invariant-loop-word : goal.invariant-loop-word
 invariant-loop-word l = record {
   keyed : AreUnder l.ones.items;
-  named : values_of l.ones.items ≡ filter_map (λ word. named word.now) (take l.word-index l.words);
+  named : values_of l.ones.items ≡ filter_map named (map (λ x. x.now) l.yielded);
 }

@@ -38,7 +38,8 @@ returns-clause-indexed c =
     let inserted = at_ok c.insert.result _
     (c.insert.ensures.succeeds (omega (arith, c.requires.entry, c.swap_remove-place.ensures.room.0))) c.insert.ensures.updates in
     let lower-is = c.as_slice.ensures.value ∙ c.lower_case-lower.ensures ∙ ap folded c.replace.ensures.value in
-    (respelled c.args.old.now c.args.nick c.as_slice.result.now c.args.key c.args.seats.now.places.items c.args.seats.now.index.entries c.swap_remove-place.new.self.entries c.insert.new.self.entries
+    (respelled c.args.old.now c.args.nick c.as_slice.result.now c.args.key c.args.seats.now.places.items c.args.seats.now.index.entries
+    c.swap_remove-place.new.self.entries c.insert.new.self.entries
     c.in-Some.at m (record m { nick = c.replace.new.dest }) c.take.new.self _ c.requires.indexed (sym c.place_of.ensures ∙ c.in-Some.is)
     (sym c.index_mut.ensures.value ∙ sym c.take.ensures.value ∙ c.in-Some-take.is)
     c.take.ensures.after lower-is removed.1 removed.3 c.requires.key inserted.1 inserted.3 c.requires.apart
@@ -51,7 +52,8 @@ returns-clause-renamed c =
     let inserted = at_ok c.insert.result _
     (c.insert.ensures.succeeds (omega (arith, c.requires.entry, c.swap_remove-place.ensures.room.0))) c.insert.ensures.updates in
     let lower-is = c.as_slice.ensures.value ∙ c.lower_case-lower.ensures ∙ ap folded c.replace.ensures.value in
-    (respelled c.args.old.now c.args.nick c.as_slice.result.now c.args.key c.args.seats.now.places.items c.args.seats.now.index.entries c.swap_remove-place.new.self.entries c.insert.new.self.entries
+    (respelled c.args.old.now c.args.nick c.as_slice.result.now c.args.key c.args.seats.now.places.items c.args.seats.now.index.entries
+    c.swap_remove-place.new.self.entries c.insert.new.self.entries
     c.in-Some.at m (record m { nick = c.replace.new.dest }) c.take.new.self _ c.requires.indexed (sym c.place_of.ensures ∙ c.in-Some.is)
     (sym c.index_mut.ensures.value ∙ sym c.take.ensures.value ∙ c.in-Some-take.is)
     c.take.ensures.after lower-is removed.1 removed.3 c.requires.key inserted.1 inserted.3 c.requires.apart

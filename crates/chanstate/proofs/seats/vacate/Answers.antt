@@ -33,7 +33,8 @@ pub returns-clause-indexed : goal.returns-clause-indexed
 returns-clause-indexed c =
     let lower-is = c.as_slice.ensures.value ∙ c.lower_case-lower.ensures in
     let updates = c.swap_remove-place.ensures.updates in
-    (vacated c.args.nick.now c.as_slice.result.now c.args.seats.now.places.items c.args.seats.now.index.entries c.swap_remove-place.new.self.entries c.in-Some.at c.in-Some-take.member c.take.new.self _ c.requires
+    (vacated c.args.nick.now c.as_slice.result.now c.args.seats.now.places.items c.args.seats.now.index.entries
+    c.swap_remove-place.new.self.entries c.in-Some.at c.in-Some-take.member c.take.new.self _ c.requires
     (sym c.place_of.ensures ∙ c.in-Some.is)
     (sym c.index_mut.ensures.value ∙ sym c.take.ensures.value ∙ c.in-Some-take.is) c.take.ensures.after lower-is updates.1 updates.3).0
 
@@ -41,7 +42,8 @@ pub returns-clause-gone : goal.returns-clause-gone
 returns-clause-gone c =
     let lower-is = c.as_slice.ensures.value ∙ c.lower_case-lower.ensures in
     let updates = c.swap_remove-place.ensures.updates in
-    (vacated c.args.nick.now c.as_slice.result.now c.args.seats.now.places.items c.args.seats.now.index.entries c.swap_remove-place.new.self.entries c.in-Some.at c.in-Some-take.member c.take.new.self _ c.requires
+    (vacated c.args.nick.now c.as_slice.result.now c.args.seats.now.places.items c.args.seats.now.index.entries
+    c.swap_remove-place.new.self.entries c.in-Some.at c.in-Some-take.member c.take.new.self _ c.requires
     (sym c.place_of.ensures ∙ c.in-Some.is)
     (sym c.index_mut.ensures.value ∙ sym c.take.ensures.value ∙ c.in-Some-take.is) c.take.ensures.after lower-is updates.1 updates.3).1
 
@@ -49,6 +51,7 @@ pub returns-clause-removed : goal.returns-clause-removed
 returns-clause-removed c =
     let lower-is = c.as_slice.ensures.value ∙ c.lower_case-lower.ensures in
     let updates = c.swap_remove-place.ensures.updates in
-    (vacated c.args.nick.now c.as_slice.result.now c.args.seats.now.places.items c.args.seats.now.index.entries c.swap_remove-place.new.self.entries c.in-Some.at c.in-Some-take.member c.take.new.self _ c.requires
+    (vacated c.args.nick.now c.as_slice.result.now c.args.seats.now.places.items c.args.seats.now.index.entries
+    c.swap_remove-place.new.self.entries c.in-Some.at c.in-Some-take.member c.take.new.self _ c.requires
     (sym c.place_of.ensures ∙ c.in-Some.is)
     (sym c.index_mut.ensures.value ∙ sym c.take.ensures.value ∙ c.in-Some-take.is) c.take.ensures.after lower-is updates.1 updates.3).2

@@ -1,0 +1,184 @@
+-- Changes that leave a list as it is, and which names and members a change leaves.
+use Rattle.std.proofs.Common.{◌≡◌, ℕ, ◌<◌, suc, zero, Bool, true, false, cond, not, ◌||◌, List, [], ◌∷◌, length, get_or, map, filter, refl, sym, ap, ◌∙◌}
+use Rattle.std.proofs.Common.{Some, arith}
+use Rattle.std.specs.Prelude.{find}
+use Rattle.std.specs.List.{list_any}
+use Rattle.std.proofs.lemmas.Bool.{cond-true, cond-false}
+use Rattle.chanstate.specs.declared.member.Member.{Member}
+use Rattle.chanstate.specs.declared.channel.Channel.{Channel}
+use Rattle.chanstate.specs.declared.state.ChanState.{ChanState}
+use Rattle.rfccase.specs.Casemapping.{is_same}
+use Rattle.chanstate.specs.Firsts.{first_changed}
+use Rattle.chanstate.specs.Members.{is_called, has_member, with_marks_of, listed, listed_each, shown_each, arrived, unmarked, renamed}
+use Rattle.chanstate.specs.Channels.{is_named, is_held, with_members, on_channel, all_renamed}
+use Rattle.chanstate.specs.Views.{channel_in, member_in, members_of}
+use Rattle.chanstate.specs.Items.{Item, Joined, Listed, Renamed}
+use Rattle.chanstate.specs.Steps.{joined, step, steps}
+use Rattle.chanstate.specs.Memory.{adds, any_adds, lacks, readdresses, retitles}
+use Rattle.std.specs.Prelude.{nat_eq}
+use Rattle.std.specs.Cmp.Lexicographic.{pointwise}
+use Rattle.std.proofs.lemmas.Slice.Eq.{bytes_eq-Decides}
+use Rattle.chanstate.specs.Members.{with_address}
+use Rattle.chanstate.specs.Channels.{with_topic}
+use Rattle.chanstate.proofs.BoolLemmas.{or-parts, or-left, or-right, not-false}
+use Rattle.chanstate.proofs.FirstsLemmas.{first_changed-nowhere}
+use Rattle.chanstate.proofs.FindLemmas.{any-agree}
+
+-- ---- a change that changes nothing
+
+same_step : {X : Type 0} (b : Bool) (x y : X) (xs ys : List X) → (b ≡ true → y ≡ x) → (b ≡ false → ys ≡ xs) → cond b (y ∷ xs) (x ∷ ys) ≡ x ∷ xs
+same_step true x y xs ys here there = ap (λ z. z ∷ xs) (here refl)
+same_step false x y xs ys here there = ap (λ zs. x ∷ zs) (there refl)
+
+pub first_changed-kept : {X : Type 0} (p : X → Bool) (f : X → X) (xs : List X) → ((x : X) → find p xs ≡ Some x → f x ≡ x) → first_changed p f xs ≡ xs
+first_changed-kept p f [] kept = refl
+first_changed-kept p f (x ∷ xs) kept =
+    same_step (p x) x (f x) xs (first_changed p f xs)
+    (λ is. kept x (cond-true (p x) _ _ is))
+    (λ is. first_changed-kept p f xs (λ y found. kept y (cond-false (p x) _ _ is ∙ found)))
+
+-- nobody has the old nick
+pub renamed-nobody : (old new : List ℕ) (ms : List Member) → has_member old ms ≡ false → renamed old new ms ≡ ms
+renamed-nobody old new ms none = cond-false _ _ _ none
+
+pub all_renamed-nobody : (old new : List ℕ) (cs : List Channel) → list_any (λ c. has_member old c.members) cs ≡ false → all_renamed old new cs ≡ cs
+all_renamed-nobody old new [] none = refl
+all_renamed-nobody old new (c ∷ cs) none =
+    let parts = or-parts (has_member old c.members) (list_any (λ c. has_member old c.members) cs) none in
+    ap (λ ms. record c { members = ms } ∷ all_renamed old new cs) (renamed-nobody old new c.members parts.0)
+    ∙ ap (λ ds. c ∷ ds) (all_renamed-nobody old new cs parts.1)
+
+pub renamed_unknown : (old new : List ℕ) (s : ChanState) → adds (Renamed old new) s ≡ false → step (Renamed old new) s ≡ s
+renamed_unknown old new s none =
+    let parts = or-parts (is_same old s.nick) (list_any (λ c. has_member old c.members) s.channels) none in
+    ap (λ nick. record s { nick = nick; channels = all_renamed old new s.channels }) (cond-false (is_same old s.nick) new s.nick parts.0)
+    ∙ ap (λ cs. record s { channels = cs }) (all_renamed-nobody old new s.channels parts.1)
+
+-- ---- what a change leaves
+
+any_step : {X : Type 0} (b : Bool) (p : X → Bool) (x y : X) (xs ys : List X) → p y ≡ p x → list_any p ys ≡ list_any p xs
+    → list_any p (cond b (y ∷ xs) (x ∷ ys)) ≡ (p x || list_any p xs)
+any_step true p x y xs ys one rest = ap (λ z. z || list_any p xs) one
+any_step false p x y xs ys one rest = ap (λ z. p x || z) rest
+
+pub any-kept : {X : Type 0} (p q : X → Bool) (f : X → X) → ((x : X) → p (f x) ≡ p x) → (xs : List X) → list_any p (first_changed q f xs) ≡ list_any p xs
+any-kept p q f keeps [] = refl
+any-kept p q f keeps (x ∷ xs) = any_step (q x) p x (f x) xs (first_changed q f xs) (keeps x) (any-kept p q f keeps xs)
+
+-- a join of someone else leaves which channels are held
+pub is_held-joined : (nick user host channel name : List ℕ) (s : ChanState) → is_same nick s.nick ≡ false
+    → is_held name (joined nick user host channel s).channels ≡ is_held name s.channels
+is_held-joined nick user host channel name s other =
+    ap (λ (t : ChanState). is_held name t.channels) (cond-false _ _ _ other)
+    ∙ any-kept (is_named name) (is_named channel) (with_members (arrived (unmarked nick user host))) (λ c. refl) s.channels
+
+-- a join of a channel that isn't held
+pub joined-nowhere : (nick user host channel : List ℕ) (s : ChanState) → is_same nick s.nick ≡ false → is_held channel s.channels ≡ false
+    → joined nick user host channel s ≡ s
+joined-nowhere nick user host channel s other none =
+    cond-false _ _ _ other
+    ∙ ap (λ cs. record s { channels = cs }) (first_changed-nowhere (is_named channel) (with_members (arrived (unmarked nick user host))) s.channels none)
+
+joined_nick : (nick user host channel : List ℕ) (s : ChanState) → is_same nick s.nick ≡ false → (joined nick user host channel s).nick ≡ s.nick
+joined_nick nick user host channel s other = ap (λ (t : ChanState). t.nick) (cond-false _ _ _ other)
+
+pub is_held-joins : (nick user host : List ℕ) (names : List (List ℕ)) (name : List ℕ) (s : ChanState) → is_same nick s.nick ≡ false
+    → is_held name (steps (map (Joined nick user host) names) s).channels ≡ is_held name s.channels
+is_held-joins nick user host [] name s other = refl
+is_held-joins nick user host (n ∷ ns) name s other =
+    is_held-joins nick user host ns name (joined nick user host n s) (ap (is_same nick) (joined_nick nick user host n s other) ∙ other)
+    ∙ is_held-joined nick user host n name s other
+
+-- a topic or an address that is there already
+same_text : (xs ys : List ℕ) → not (pointwise nat_eq xs ys) ≡ false → ys ≡ xs
+same_text xs ys same = sym ((bytes_eq-Decides xs ys).0 (not-false _ same))
+
+pub same_topic : (channel topic : List ℕ) (s : ChanState) → retitles topic (channel_in channel s) ≡ false
+    → first_changed (is_named channel) (with_topic topic) s.channels ≡ s.channels
+same_topic channel topic s same =
+    first_changed-kept (is_named channel) (with_topic topic) s.channels
+    (λ c found. ap (λ t. record c { topic = t }) (same_text c.topic topic (ap (retitles topic) (sym found) ∙ same)))
+
+readdressed : (user host : List ℕ) (m : Member) → readdresses user host (Some m) ≡ false → with_address user host m ≡ m
+readdressed user host m same =
+    let parts = or-parts (not (pointwise nat_eq m.user user)) (not (pointwise nat_eq m.host host)) same in
+    ap (λ u. record m { user = u; host = host }) (same_text m.user user parts.0) ∙ ap (λ h. record m { host = h }) (same_text m.host host parts.1)
+
+pub same_address : (channel nick user host : List ℕ) (s : ChanState) → readdresses user host (member_in channel nick s) ≡ false
+    → on_channel channel (first_changed (is_called nick) (with_address user host)) s.channels ≡ s.channels
+same_address channel nick user host s same =
+    first_changed-kept (is_named channel) (with_members (first_changed (is_called nick) (with_address user host))) s.channels
+    (λ c found. ap (λ ms. record c { members = ms })
+    (first_changed-kept (is_called nick) (with_address user host) c.members
+    (λ m there. readdressed user host m (ap (readdresses user host) (sym there)
+    ∙ (ap (λ o. readdresses user host (find (is_called nick) (members_of o))) (sym found) ∙ same)))))
+
+-- ---- those who are listed while all of them are members
+
+none_new_step : (one : Member) (more ms : List Member) → has_member one.nick ms ≡ true
+    → listed_each more (first_changed (is_called one.nick) (with_marks_of one) ms) ≡ shown_each more (first_changed (is_called one.nick) (with_marks_of one) ms)
+    → listed_each more (listed one ms) ≡ shown_each more (first_changed (is_called one.nick) (with_marks_of one) ms)
+none_new_step one more ms here rest = ap (listed_each more) (cond-true _ _ _ here) ∙ rest
+
+pub listed-members : (names ms : List Member) → list_any (λ one. not (has_member one.nick ms)) names ≡ false → listed_each names ms ≡ shown_each names ms
+listed-members [] ms none = refl
+listed-members (one ∷ more) ms none =
+    let parts = or-parts (not (has_member one.nick ms)) (list_any (λ one. not (has_member one.nick ms)) more) none in
+    let after = first_changed (is_called one.nick) (with_marks_of one) ms in
+    none_new_step one more ms (not-false _ parts.0)
+    (listed-members more after
+    (any-agree (λ x. not (has_member x.nick after)) (λ x. not (has_member x.nick ms))
+    (λ x. ap not (any-kept (is_called x.nick) (is_called one.nick) (with_marks_of one) (λ m. refl) ms)) more ∙ parts.1))
+
+-- ---- a piece of a list that names what takes memory
+
+named_step : (b : Bool) (f : List ℕ → Item) (s : ChanState) (x : List ℕ) (xs : List (List ℕ)) → any_adds (map f xs) s ≡ true
+    → any_adds (map f (cond b (x ∷ xs) xs)) s ≡ true
+named_step true f s x xs is = or-right (adds (f x) s) (any_adds (map f xs) s) is
+named_step false f s x xs is = is
+
+pub any_adds-piece : (p : List ℕ → Bool) (f : List ℕ → Item) (s : ChanState) (xs : List (List ℕ)) (i : ℕ) (x : List ℕ) → i < length xs → x ≡ get_or xs i x
+    → p x ≡ true → adds (f x) s ≡ true → any_adds (map f (filter p xs)) s ≡ true
+any_adds-piece p f s [] i x less at is one = absurd (let less : i < 0 = less in omega arith)
+any_adds-piece p f s (y ∷ ys) zero x less at is one =
+    let passes : p y ≡ true = ap p (sym at) ∙ is in
+    ap (λ ns. any_adds (map f ns) s) (cond-true _ (y ∷ filter p ys) (filter p ys) passes)
+    ∙ or-left (adds (f y) s) (any_adds (map f (filter p ys)) s) (ap (λ z. adds (f z) s) (sym at) ∙ one)
+any_adds-piece p f s (y ∷ ys) (suc i) x less at is one =
+    let less : suc i < suc (length ys) = less in
+    named_step (p y) f s y (filter p ys) (any_adds-piece p f s ys i x (omega arith) at is one)
+
+pub any_adds-one : (item : Item) (s : ChanState) → adds item s ≡ true → any_adds (item ∷ []) s ≡ true
+any_adds-one item s is = or-left (adds item s) false is
+
+-- a piece that names a channel makes the list of them longer
+pub named-piece : (p : List ℕ → Bool) (xs : List (List ℕ)) (i : ℕ) (x : List ℕ) → i < length xs → x ≡ get_or xs i x → p x ≡ true → 0 < length (filter p xs)
+named-piece p [] i x less at is = absurd (let less : i < 0 = less in omega arith)
+named-piece p (y ∷ ys) zero x less at is =
+    ap_less (cond-true _ (y ∷ filter p ys) (filter p ys) (ap p (sym at) ∙ is))
+  where
+    ap_less : {zs : List (List ℕ)} → zs ≡ y ∷ filter p ys → 0 < length zs
+    ap_less {zs = zs} e = let long : length zs ≡ suc (length (filter p ys)) = ap length e in omega (arith, long)
+named-piece p (y ∷ ys) (suc i) x less at is =
+    let less : suc i < suc (length ys) = less in
+    step (p y) (named-piece p ys i x (omega arith) at is)
+  where
+    step : (b : Bool) → 0 < length (filter p ys) → 0 < length (cond b (y ∷ filter p ys) (filter p ys))
+    step true more = omega arith
+    step false more = more
+
+pub adds-held : (nick user host channel : List ℕ) (s : ChanState) → is_held channel s.channels ≡ true → adds (Joined nick user host channel) s ≡ true
+adds-held nick user host channel s held = or-right (is_same nick s.nick) (is_held channel s.channels) held
+
+pub any_adds-listed : (channel : List ℕ) (names : List Member) (s : ChanState)
+    → any_adds (map (Listed channel) names) s ≡ list_any (λ one. lacks one.nick (channel_in channel s)) names
+any_adds-listed channel [] s = refl
+any_adds-listed channel (one ∷ more) s = ap (λ b. lacks one.nick (channel_in channel s) || b) (any_adds-listed channel more s)
+
+-- the bot's joins take memory, if there are any
+pub any_adds-own : (nick user host : List ℕ) (names : List (List ℕ)) (s : ChanState) → is_same nick s.nick ≡ true → 0 < length names
+    → any_adds (map (Joined nick user host) names) s ≡ true
+any_adds-own nick user host [] s own some = absurd (let some : 0 < 0 = some in omega arith)
+any_adds-own nick user host (n ∷ ns) s own some =
+    or-left (is_same nick s.nick || is_held n s.channels) (any_adds (map (Joined nick user host) ns) s) (or-left (is_same nick s.nick) (is_held
+    n s.channels) own)

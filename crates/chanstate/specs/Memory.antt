@@ -1,0 +1,48 @@
+-- Which messages take memory: those that may add a text or a member to what is known. No other message takes any.
+use Rattle.std.specs.Prelude.{ℕ, Bool, true, false, not, ◌||◌, List, Option, None, Some, nat_eq}
+use Rattle.std.specs.Cmp.Lexicographic.{pointwise}
+use Rattle.chanstate.specs.declared.member.Member.{Member}
+use Rattle.std.specs.List.{list_any}
+use Rattle.ircline.specs.declared.message.Message.{Message}
+use Rattle.chanstate.specs.declared.channel.Channel.{Channel}
+use Rattle.chanstate.specs.declared.state.ChanState.{ChanState}
+use Rattle.rfccase.specs.Casemapping.{is_same}
+use Rattle.chanstate.specs.Members.{has_member}
+use Rattle.chanstate.specs.Channels.{is_held}
+use Rattle.chanstate.specs.Views.{channel_in, member_in}
+use Rattle.chanstate.specs.Items.{Item, Welcomed, Joined, Left, Departed, Renamed, Marked, Titled, Listed, Addressed, items_of}
+
+-- whether the channel is held, and nobody there has this nick
+abbrev pub lacks : List ℕ → Option Channel → Bool
+lacks nick None = false
+lacks nick (Some channel) = not (has_member nick channel.members)
+
+-- whether the channel is held, and has another topic
+abbrev pub retitles : List ℕ → Option Channel → Bool
+retitles topic None = false
+retitles topic (Some channel) = not (pointwise nat_eq channel.topic topic)
+
+-- whether the member is there, and has another address
+abbrev pub readdresses : List ℕ → List ℕ → Option Member → Bool
+readdresses user host None = false
+readdresses user host (Some m) = not (pointwise nat_eq m.user user) || not (pointwise nat_eq m.host host)
+
+-- whether an item concerns a held channel or the bot's own nick, and brings a text that has to be kept
+abbrev pub adds : Item → ChanState → Bool
+adds (Welcomed nick) s = true
+adds (Joined nick user host channel) s = is_same nick s.nick || is_held channel s.channels
+adds (Left nick channel) s = false
+adds (Departed nick) s = false
+adds (Renamed old new) s = is_same old s.nick || list_any (λ channel. has_member old channel.members) s.channels
+adds (Marked channel mark on nick) s = false
+adds (Titled channel topic) s = retitles topic (channel_in channel s)
+adds (Listed channel one) s = lacks one.nick (channel_in channel s)
+adds (Addressed channel nick user host) s = readdresses user host (member_in channel nick s)
+
+-- whether one of these does
+abbrev pub any_adds : List Item → ChanState → Bool
+any_adds items s = list_any (λ item. adds item s) items
+
+-- whether a message may take memory
+abbrev pub takes_memory : Message → ChanState → Bool
+takes_memory m s = any_adds (items_of m) s
