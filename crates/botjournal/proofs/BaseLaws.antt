@@ -1,0 +1,246 @@
+-- Bases: what is read is spelled so, and what is spelled so is read.
+use Rattle.std.proofs.Common.{◌≡◌, ℕ, ◌^◌, ◌<◌, Bool, true, cond, eqb, List, [], ◌∷◌, ◌++◌, Option, Some, None, Ok, Err, refl, sym, ap, subst, ◌∙◌, inl, inr}
+use Rattle.std.specs.Int.{w32}
+use Rattle.std.proofs.lemmas.Bool.{eqb-true}
+use Rattle.userfile.specs.declared.change.Change.{Change}
+use Rattle.userfile.specs.declared.error.ChangeFault.{ChangeFault}
+use Rattle.userfile.specs.declared.error.ChangeFault.TheVariants.{BadHandle, BadMask, BadChannel, BadComment, NoSuchUser, UserExists, MaskExists}
+use Rattle.userfile.specs.declared.error.ChangeFault.TheVariants.{NoSuchMask, BanExists, NoSuchBan, Full}
+use Rattle.usercodec.specs.declared.fault.CodecFault.TheVariants.{NotCanonical}
+use Rattle.usercodec.specs.declared.records.Record.{Record}
+use Rattle.usercodec.specs.Fields.{number, Reading, checked, byte_at, number_at}
+use Rattle.usercodec.specs.Changes.{made, change_at, change_bytes}
+use Rattle.usercodec.specs.Records.{record_bytes, IsGoodRecord}
+use Rattle.usercodec.proofs.Steps.{IsBytes, chosen, bind_ok, guard_ok, ok_is, Takes}
+use Rattle.usercodec.proofs.FieldLaws.{byte_field}
+use Rattle.usercodec.proofs.RecordLaws.{record_sort}
+use Rattle.usercodec.specs.FaultBytes.{fault_byte, fault_from, known}
+use Rattle.botjournal.specs.declared.base.Base.{Base}
+use Rattle.botjournal.specs.declared.reply.Answer.{Answer}
+use Rattle.botjournal.specs.declared.reply.Answer.TheVariants.{Taken, Refused}
+use Rattle.botjournal.specs.declared.reply.Reply.{Reply}
+use Rattle.botjournal.specs.Bases.{listed, answer_bytes, reply_bytes, out_bytes, base_bytes, are_rising, is_of_its_bot, IsGoodAnswer, IsGoodReply, IsGoodOut}
+use Rattle.botjournal.specs.Bases.{AreListed, IsGoodBase}
+use Rattle.botjournal.specs.Bases.{answer_from, answer_at, reply_at, replies_listed_at, replies_at, records_at, out_from, out_at, base_of, parts_at, base_at}
+use Rattle.botjournal.specs.Bases.{base_in, IsBaseOf}
+use Rattle.usercodec.proofs.PartLaws.{IsPart, of_sort, u16_part, u32_part, change_part, both_part, fault_byte-from, known_is}
+use Rattle.botjournal.proofs.ItemLaws.{listed_part}
+use Rattle.botjournal.proofs.WholeLaws.{whole_again, whole_spelled}
+
+-- ---- a field and its test
+
+checked_part : {A : Type 0} {read : List ℕ → Reading A} {spelling : A → List ℕ} {IsGood : A → Type 0} → IsPart read spelling IsGood
+    → (test : A → Bool) → IsPart (λ bytes. checked test (read bytes)) spelling (λ x. IsGood x × (test x ≡ true))
+checked_part {A = A} {read = read} {spelling = spelling} {IsGood = IsGood} part test = record { takes = takes; again = again }
+  where
+    takes : (bytes : List ℕ) (x : A) (rest : List ℕ) → IsBytes bytes → checked test (read bytes) ≡ Ok (x, rest)
+        → Takes bytes (spelling x) rest × (IsGood x × (test x ≡ true))
+    takes bytes x rest fits e =
+        let a = bind_ok (read bytes) (λ y. cond (test y.0) (Ok y) (Err NotCanonical)) (x, rest) e in
+        let g = guard_ok (test a.0.0) NotCanonical a.0 (x, rest) a.2 in
+        let t = part.takes bytes a.0.0 a.0.1 fits a.1 in
+        subst (λ (p : A × List ℕ). Takes bytes (spelling p.0) p.1 × (IsGood p.0 × (test p.0 ≡ true))) g.1 (t.0, (t.1, g.0))
+
+    again : (x : A) (rest : List ℕ) → (IsGood x × (test x ≡ true)) → checked test (read (spelling x ++ rest)) ≡ Ok (x, rest)
+    again x rest good = rw (part.again x rest good.0, good.1) refl
+
+-- what is made of a value, which tells the value
+made_part : {A B : Type 0} {read : List ℕ → Reading A} {spelling : A → List ℕ} {IsGood : A → Type 0} → IsPart read spelling IsGood
+    → (to : A → B) (from : B → A) → ((y : B) → to (from y) ≡ y) → (spelled : B → List ℕ) → ((x : A) → spelled (to x) ≡ spelling x)
+    → ((y : B) → spelled y ≡ spelling (from y)) → (Fits : B → Type 0) → ((x : A) → IsGood x → Fits (to x)) → ((y : B) → Fits y → IsGood (from y))
+    → IsPart (λ bytes. made to (read bytes)) spelled Fits
+made_part {A = A} {B = B} {read = read} {spelling = spelling} {IsGood = IsGood} part to from back spelled there here Fits fit good = record {
+  takes =
+      takes;
+  again = again;
+}
+  where
+    takes : (bytes : List ℕ) (y : B) (rest : List ℕ) → IsBytes bytes → made to (read bytes) ≡ Ok (y, rest) → Takes bytes (spelled y) rest × Fits y
+    takes bytes y rest fits e =
+        let a = bind_ok (read bytes) (λ x. Ok (to x.0, x.1)) (y, rest) e in
+        let t = part.takes bytes a.0.0 a.0.1 fits a.1 in
+        let took : Takes bytes (spelled (to a.0.0)) a.0.1 = subst (λ (b : List ℕ). Takes bytes b a.0.1) (sym (there a.0.0)) t.0 in
+        subst (λ (p : B × List ℕ). Takes bytes (spelled p.0) p.1 × Fits p.0) (ok_is (to a.0.0, a.0.1) (y, rest) a.2) (took, fit a.0.0 t.1)
+
+    again : (y : B) (rest : List ℕ) → Fits y → made to (read (spelled y ++ rest)) ≡ Ok (y, rest)
+    again y rest fits =
+        ap (λ b. made to (read (b ++ rest))) (here y) ∙ ap (made to) (part.again (from y) rest (good y fits)) ∙ ap (λ z. Ok (z, rest)) (back y)
+
+-- ---- replies
+
+answer_part : IsPart answer_at answer_bytes IsGoodAnswer
+unfolding answer_at answer_from byte_at fault_from
+answer_part = record { takes = takes; again = again }
+  where
+    from_takes : (byte : ℕ) (bytes : List ℕ) (x : Answer) (rest : List ℕ) → IsBytes bytes → answer_from byte bytes ≡ Ok (x, rest)
+        → Takes (byte ∷ bytes) (answer_bytes x) rest × IsGoodAnswer x
+    from_takes byte bytes x rest fits e =
+        elim (chosen (eqb byte 0) _ _ _ e) [
+          | inl p ↦
+              let a = bind_ok (number_at w32 bytes) (λ n. Ok (Taken n.0, n.1)) (x, rest) p.1 in
+              let t = u32_part.takes bytes a.0.0 a.0.1 fits a.1 in
+              let parts : byte ∷ bytes ≡ (0 ∷ number w32 a.0.0) ++ a.0.1 =
+              ap (λ (k : ℕ). k ∷ bytes) (eqb-true byte 0 p.0) ∙ ap (λ (b : List ℕ). 0 ∷ b) t.0.parts in
+              subst (λ (q : Answer × List ℕ). Takes (byte ∷ bytes) (answer_bytes q.0) q.1 × IsGoodAnswer q.0) (ok_is (Taken a.0.0, a.0.1) (x, rest) a.2)
+              (record { parts = parts; rest_fits = t.0.rest_fits }, t.1)
+          | inr p ↦
+              let a = bind_ok (known (fault_from byte) bytes) (λ f. Ok (Refused f.0, f.1)) (x, rest) p.1 in
+              let k = known_is (fault_from byte) bytes a.0.0 a.0.1 a.1 in
+              let parts : byte ∷ bytes ≡ (fault_byte a.0.0 ∷ []) ++ a.0.1 =
+              ap (λ (k : ℕ). k ∷ bytes) (sym (fault_byte-from byte a.0.0 k.0)) ∙ ap (λ (b : List ℕ). fault_byte a.0.0 ∷ b) k.1 in
+              subst (λ (q : Answer × List ℕ). Takes (byte ∷ bytes) (answer_bytes q.0) q.1 × IsGoodAnswer q.0) (ok_is (Refused a.0.0, a.0.1) (x, rest) a.2)
+              (record { parts = parts; rest_fits = subst IsBytes k.1 fits }, tt)
+        ]
+
+    takes : (bytes : List ℕ) (x : Answer) (rest : List ℕ) → IsBytes bytes → answer_at bytes ≡ Ok (x, rest) → Takes bytes (answer_bytes x) rest × IsGoodAnswer x
+    takes bytes x rest fits e =
+        let a = bind_ok (byte_at bytes) (λ byte. answer_from byte.0 byte.1) (x, rest) e in
+        let t = byte_field.laws.takes bytes a.0.0 a.0.1 fits a.1 in
+        let u = from_takes a.0.0 a.0.1 x rest t.0.rest_fits a.2 in
+        (record { parts = t.0.parts ∙ u.0.parts; rest_fits = u.0.rest_fits }, u.1)
+
+    refused : (fault : ChangeFault) (rest : List ℕ) → answer_at (fault_byte fault ∷ rest) ≡ Ok (Refused fault, rest)
+    refused BadHandle rest = refl
+    refused UserExists rest = refl
+    refused NoSuchUser rest = refl
+    refused BadMask rest = refl
+    refused MaskExists rest = refl
+    refused NoSuchMask rest = refl
+    refused BadChannel rest = refl
+    refused BanExists rest = refl
+    refused NoSuchBan rest = refl
+    refused BadComment rest = refl
+    refused Full rest = refl
+
+    again : (x : Answer) (rest : List ℕ) → IsGoodAnswer x → answer_at (answer_bytes x ++ rest) ≡ Ok (x, rest)
+    again (Taken n) rest good = ap (made Taken) (u32_part.again n rest good)
+    again (Refused fault) rest good = refused fault rest
+
+abbrev reply_of : ℕ × (ℕ × Answer) → Reply
+reply_of x = record { leaf = x.0; request = x.1.0; answer = x.1.1 }
+
+reply_part : IsPart reply_at reply_bytes IsGoodReply
+unfolding reply_at
+reply_part =
+    made_part (both_part u16_part (both_part u32_part answer_part)) reply_of (λ y. (y.leaf, (y.request, y.answer))) (λ y. refl) reply_bytes (λ x. refl)
+    (λ y. refl)
+    IsGoodReply (λ x g. g) (λ y g. g)
+
+replies_part : IsPart replies_at (listed reply_bytes) (λ x. AreListed IsGoodReply x × (are_rising x ≡ true))
+unfolding replies_at replies_listed_at
+replies_part = checked_part (listed_part reply_part) are_rising
+
+records_part : IsPart records_at (listed record_bytes) (AreListed IsGoodRecord)
+unfolding records_at
+records_part = listed_part (of_sort record_sort)
+
+-- ---- the change that is out
+
+no_out : (x : Option Change) (rest : List ℕ) → (let r : Reading (Option Change) = Err NotCanonical in r) ≡ Ok (x, rest) → ⊥
+no_out x rest e = cc
+
+abbrev some_change : Change → Option Change
+some_change change = Some change
+
+abbrev none_out : Option Change
+none_out = None
+
+out_part : IsPart out_at out_bytes IsGoodOut
+unfolding out_at out_from byte_at
+out_part = record { takes = takes; again = again }
+  where
+    from_takes : (byte : ℕ) (bytes : List ℕ) (x : Option Change) (rest : List ℕ) → IsBytes bytes → out_from byte bytes ≡ Ok (x, rest)
+        → Takes (byte ∷ bytes) (out_bytes x) rest × IsGoodOut x
+    from_takes byte bytes x rest fits e =
+        elim (chosen (eqb byte 0) _ _ _ e) [
+          | inl p ↦
+              let parts : byte ∷ bytes ≡ (0 ∷ []) ++ bytes = ap (λ (k : ℕ). k ∷ bytes) (eqb-true byte 0 p.0) in
+              subst (λ (q : Option Change × List ℕ). Takes (byte ∷ bytes) (out_bytes q.0) q.1 × IsGoodOut q.0) (ok_is (none_out, bytes) (x, rest) p.1)
+              (record { parts = parts; rest_fits = fits }, tt)
+          | inr p ↦
+              elim (chosen (eqb byte 1) _ _ _ p.1) [
+                | inl p ↦
+                    let a = bind_ok (change_at bytes) (λ c. Ok (some_change c.0, c.1)) (x, rest) p.1 in
+                    let t = change_part.takes bytes a.0.0 a.0.1 fits a.1 in
+                    let parts : byte ∷ bytes ≡ (1 ∷ change_bytes a.0.0) ++ a.0.1 =
+                    ap (λ (k : ℕ). k ∷ bytes) (eqb-true byte 1 p.0) ∙ ap (λ (b : List ℕ). 1 ∷ b) t.0.parts in
+                    subst (λ (q : Option Change × List ℕ). Takes (byte ∷ bytes) (out_bytes q.0) q.1 × IsGoodOut q.0)
+                    (ok_is (some_change a.0.0, a.0.1) (x, rest) a.2)
+                    (record { parts = parts; rest_fits = t.0.rest_fits }, t.1)
+                | inr p ↦ absurd (no_out x rest p.1)
+              ]
+        ]
+
+    takes : (bytes : List ℕ) (x : Option Change) (rest : List ℕ) → IsBytes bytes → out_at bytes ≡ Ok (x, rest) → Takes bytes (out_bytes x) rest × IsGoodOut x
+    takes bytes x rest fits e =
+        let a = bind_ok (byte_at bytes) (λ byte. out_from byte.0 byte.1) (x, rest) e in
+        let t = byte_field.laws.takes bytes a.0.0 a.0.1 fits a.1 in
+        let u = from_takes a.0.0 a.0.1 x rest t.0.rest_fits a.2 in
+        (record { parts = t.0.parts ∙ u.0.parts; rest_fits = u.0.rest_fits }, u.1)
+
+    again : (x : Option Change) (rest : List ℕ) → IsGoodOut x → out_at (out_bytes x ++ rest) ≡ Ok (x, rest)
+    again None rest good = refl
+    again (Some change) rest good = ap (made some_change) (change_part.again change rest good)
+
+-- ---- bases
+
+abbrev fields_of : Base → ℕ × (ℕ × (List Record × (List Reply × (ℕ × Option Change))))
+fields_of b = (b.bot, (b.version, (b.records, (b.replies, (b.last_request, b.out)))))
+
+-- a base that has a spelling, but for what its bot wants
+record PartsPass (base : Base) : Type 0 where
+  bot : base.bot < 2 ^ 16
+  version : base.version < 2 ^ 32
+  records : AreListed IsGoodRecord base.records
+  replies : AreListed IsGoodReply base.replies × (are_rising base.replies ≡ true)
+  last_request : base.last_request < 2 ^ 32
+  out : IsGoodOut base.out
+
+parts_part : IsPart parts_at base_bytes PartsPass
+unfolding parts_at
+parts_part =
+    made_part (both_part u16_part (both_part u32_part (both_part records_part (both_part replies_part (both_part u32_part out_part)))))
+    base_of fields_of (λ y. refl) base_bytes (λ x. refl) (λ y. refl) PartsPass
+    (λ x g. record { bot = g.0; version = g.1.0; records = g.1.1.0; replies = g.1.1.1.0; last_request = g.1.1.1.1.0; out = g.1.1.1.1.1 })
+    (λ y g. (g.bot, (g.version, (g.records, (g.replies, (g.last_request, g.out))))))
+
+pub base_part : IsPart base_at base_bytes IsGoodBase
+unfolding base_at
+base_part = record {
+  takes = λ bytes x rest fits e. (let t = (checked_part parts_part is_of_its_bot).takes bytes x rest fits e in (t.0, good_is x t.1.0 t.1.1));
+  again = λ x rest good. (checked_part parts_part is_of_its_bot).again x rest (passes x good, good.of_its_bot);
+}
+  where
+    good_is : (x : Base) → PartsPass x → is_of_its_bot x ≡ true → IsGoodBase x
+    good_is x p own = record {
+      bot = p.bot;
+      version = p.version;
+      records = p.records;
+      replies = p.replies.0;
+      rising = p.replies.1;
+      last_request = p.last_request;
+      out = p.out;
+      of_its_bot = own;
+    }
+
+    passes : (x : Base) → IsGoodBase x → PartsPass x
+    passes x g = record {
+      bot = g.bot;
+      version = g.version;
+      records = g.records;
+      replies = (g.replies, g.rising);
+      last_request = g.last_request;
+      out = g.out;
+    }
+
+-- ---- bases that are all of their bytes
+
+pub base_again : (base : Base) → IsGoodBase base → base_in (base_bytes base) ≡ Some base
+base_again base good = whole_again base_part base good
+
+pub found_is : (bytes : List ℕ) (found : Option Base) → IsBytes bytes → found ≡ base_in bytes → IsBaseOf bytes found
+found_is bytes None fits e = tt
+found_is bytes (Some base) fits e = whole_spelled base_part bytes base fits (sym e)
+
+pub is_found : (bytes : List ℕ) (base : Base) (found : Option Base) → found ≡ base_in bytes → IsGoodBase base → bytes ≡ base_bytes base → found ≡ Some base
+is_found bytes base found e good is = e ∙ ap base_in is ∙ base_again base good

@@ -1,0 +1,101 @@
+-- Entries: what is read is spelled so, and what is spelled so is read.
+use Rattle.std.proofs.Common.{◌≡◌, ℕ, suc, ◌^◌, ◌<◌, true, eqb, List, [], ◌∷◌, ◌++◌, Option, Some, None, Ok, Err, refl, sym, ap, subst, ◌∙◌, inl, inr}
+use Rattle.std.specs.Int.{w16, w32}
+use Rattle.std.proofs.lemmas.Bool.{eqb-true}
+use Rattle.usercodec.specs.declared.fault.CodecFault.TheVariants.{BadTag}
+use Rattle.usercodec.specs.Fields.{number, Reading, byte_at, number_at}
+use Rattle.usercodec.specs.Changes.{both, made, change_at, change_bytes, IsGoodChange}
+use Rattle.usercodec.proofs.Steps.{IsBytes, chosen, bind_ok, ok_is, Takes}
+use Rattle.botjournal.specs.declared.entry.Entry.{Entry}
+use Rattle.botjournal.specs.declared.entry.Entry.TheVariants.{Accepted, Settled, Applied, ReqOut, ReqDone}
+use Rattle.usercodec.specs.FaultBytes.{fault_byte, fault_at}
+use Rattle.botjournal.specs.Entries.{entry_bytes, IsGoodEntry, accepted_at, settled_at, applied_at, request_out_at, request_done_at, entry_fields_at, entry_at}
+use Rattle.botjournal.specs.Entries.{entry_in, IsEntryOf}
+use Rattle.usercodec.proofs.PartLaws.{IsPart, u16_part, u32_part, change_part, fault_part, both_part}
+use Rattle.botjournal.proofs.WholeLaws.{whole_again, whole_spelled}
+
+-- ---- the fields of each kind
+
+accepted_part : IsPart (both (number_at w16) (both (number_at w32) change_at)) (λ x. number w16 x.0 ++ (number w32 x.1.0 ++ change_bytes x.1.1))
+    (λ x. (x.0 < 2 ^ 16) × ((x.1.0 < 2 ^ 32) × IsGoodChange x.1.1))
+accepted_part = both_part u16_part (both_part u32_part change_part)
+
+settled_part : IsPart (both (number_at w16) (both (number_at w32) fault_at)) (λ x. number w16 x.0 ++ (number w32 x.1.0 ++ fault_byte x.1.1 ∷ []))
+    (λ x. (x.0 < 2 ^ 16) × ((x.1.0 < 2 ^ 32) × Unit {0}))
+settled_part = both_part u16_part (both_part u32_part fault_part)
+
+numbered_part : IsPart (both (number_at w32) change_at) (λ x. number w32 x.0 ++ change_bytes x.1) (λ x. (x.0 < 2 ^ 32) × IsGoodChange x.1)
+numbered_part = both_part u32_part change_part
+
+-- ---- what stands after a tag
+
+-- the tag and its fields are an entry that has a spelling
+abbrev Taken : ℕ → List ℕ → Entry → List ℕ → Type 0
+Taken tag bytes x rest = Takes (tag ∷ bytes) (entry_bytes x) rest × IsGoodEntry x
+
+tagged_takes : {A : Type 0} {read : List ℕ → Reading A} {spelling : A → List ℕ} {IsGood : A → Type 0} (kind tag : ℕ) (entry_of : A → Entry)
+    → IsPart read spelling IsGood → ((x : A) → entry_bytes (entry_of x) ≡ kind ∷ spelling x) → ((x : A) → IsGood x → IsGoodEntry (entry_of x))
+    → (bytes : List ℕ) (x : Entry) (rest : List ℕ) → IsBytes bytes → eqb tag kind ≡ true → made entry_of (read bytes) ≡ Ok (x, rest) → Taken tag bytes x rest
+tagged_takes {A = A} {read = read} {spelling = spelling} kind tag entry_of part spelled good bytes x rest fits same e =
+    let tag_is : tag ≡ kind = eqb-true tag kind same in
+    let a = bind_ok (read bytes) (λ y. Ok (entry_of y.0, y.1)) (x, rest) e in
+    let t = part.takes bytes a.0.0 a.0.1 fits a.1 in
+    let front : tag ∷ bytes ≡ (kind ∷ spelling a.0.0) ++ a.0.1 = ap (λ (k : ℕ). k ∷ bytes) tag_is ∙ ap (λ (b : List ℕ). kind ∷ b) t.0.parts in
+    let parts : tag ∷ bytes ≡ entry_bytes (entry_of a.0.0) ++ a.0.1 = front ∙ ap (λ (b : List ℕ). b ++ a.0.1) (sym (spelled a.0.0)) in
+    subst (λ (p : Entry × List ℕ). Taken tag bytes p.0 p.1) (ok_is (entry_of a.0.0, a.0.1) (x, rest) a.2)
+    (record { parts = parts; rest_fits = t.0.rest_fits }, good a.0.0 t.1)
+
+no_value : (x : Entry) (rest : List ℕ) → (let r : Reading Entry = Err BadTag in r) ≡ Ok (x, rest) → ⊥
+no_value x rest e = cc
+
+fields_take : (tag : ℕ) (bytes : List ℕ) (x : Entry) (rest : List ℕ) → IsBytes bytes → entry_fields_at tag bytes ≡ Ok (x, rest) → Taken tag bytes x rest
+unfolding entry_fields_at accepted_at settled_at applied_at request_out_at request_done_at
+fields_take tag bytes x rest fits e =
+    elim (chosen (eqb tag 1) _ _ _ e) [
+      | inl p ↦ tagged_takes 1 tag (λ x. Accepted x.0 x.1.0 x.1.1) accepted_part (λ x. refl) (λ x g. g) bytes x rest fits p.0 p.1
+      | inr p ↦
+          elim (chosen (eqb tag 2) _ _ _ p.1) [
+            | inl p ↦ tagged_takes 2 tag (λ x. Settled x.0 x.1.0 x.1.1) settled_part (λ x. refl) (λ x g. (g.0, g.1.0)) bytes x rest fits p.0 p.1
+            | inr p ↦
+                elim (chosen (eqb tag 3) _ _ _ p.1) [
+                  | inl p ↦ tagged_takes 3 tag (λ x. Applied x.0 x.1) numbered_part (λ x. refl) (λ x g. g) bytes x rest fits p.0 p.1
+                  | inr p ↦
+                      elim (chosen (eqb tag 4) _ _ _ p.1) [
+                        | inl p ↦ tagged_takes 4 tag (λ x. ReqOut x.0 x.1) numbered_part (λ x. refl) (λ x g. g) bytes x rest fits p.0 p.1
+                        | inr p ↦
+                            elim (chosen (eqb tag 5) _ _ _ p.1) [
+                              | inl p ↦ tagged_takes 5 tag ReqDone u32_part (λ x. refl) (λ x g. g) bytes x rest fits p.0 p.1
+                              | inr p ↦ absurd (no_value x rest p.1)
+                            ]
+                      ]
+                ]
+          ]
+    ]
+
+pub entry_part : IsPart entry_at entry_bytes IsGoodEntry
+unfolding entry_at entry_fields_at byte_at accepted_at settled_at applied_at request_out_at request_done_at
+entry_part = record { takes = takes; again = again }
+  where
+    takes : (bytes : List ℕ) (x : Entry) (rest : List ℕ) → IsBytes bytes → entry_at bytes ≡ Ok (x, rest) → Takes bytes (entry_bytes x) rest × IsGoodEntry x
+    takes [] x rest fits e = absurd cc
+    takes (tag ∷ bytes) x rest fits e = fields_take tag bytes x rest (λ i. fits (suc i)) e
+
+    again : (x : Entry) (rest : List ℕ) → IsGoodEntry x → entry_at (entry_bytes x ++ rest) ≡ Ok (x, rest)
+    again (Accepted origin r c) rest good = ap (made (λ x. Accepted x.0 x.1.0 x.1.1)) (accepted_part.again (origin, (r, c)) rest good)
+    again (Settled leaf r fault) rest good = ap (made (λ x. Settled x.0 x.1.0 x.1.1)) (settled_part.again (leaf, (r, fault)) rest (good.0, (good.1, tt)))
+    again (Applied n c) rest good = ap (made (λ x. Applied x.0 x.1)) (numbered_part.again (n, c) rest good)
+    again (ReqOut r c) rest good = ap (made (λ x. ReqOut x.0 x.1)) (numbered_part.again (r, c) rest good)
+    again (ReqDone r) rest good = ap (made ReqDone) (u32_part.again r rest good)
+
+-- ---- entries that are all of their bytes
+
+pub entry_again : (entry : Entry) → IsGoodEntry entry → entry_in (entry_bytes entry) ≡ Some entry
+entry_again entry good = whole_again entry_part entry good
+
+pub found_is : (bytes : List ℕ) (found : Option Entry) → IsBytes bytes → found ≡ entry_in bytes → IsEntryOf bytes found
+found_is bytes None fits e = tt
+found_is bytes (Some entry) fits e = whole_spelled entry_part bytes entry fits (sym e)
+
+pub is_found : (bytes : List ℕ) (entry : Entry) (found : Option Entry) → found ≡ entry_in bytes → IsGoodEntry entry → bytes ≡ entry_bytes entry
+    → found ≡ Some entry
+is_found bytes entry found e good is = e ∙ ap entry_in is ∙ entry_again entry good

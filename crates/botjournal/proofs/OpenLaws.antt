@@ -1,0 +1,92 @@
+-- Journals that are made and opened, their contents read.
+use Rattle.std.proofs.Common.{◌≡◌, ℕ, Bool, true, false, Some, Result, Ok, Err, List, [], refl, sym, ap, subst, ◌∙◌}
+use Rattle.std.specs.Prelude.{if◌then◌else◌}
+use Rattle.bytetext.specs.declared.failure.Failure.{Failure}
+use Rattle.bytetext.specs.declared.failure.Failure.TheVariants.{Refused, NoMemory}
+use Rattle.storage.specs.State.{State}
+use Rattle.bytejournal.specs.declared.fault.JournalFault.{JournalFault}
+use Rattle.bytejournal.specs.declared.fault.JournalFault.TheVariants.{DiskFault, NotAJournal, Spent, GenerationsSpent}
+use Rattle.bytejournal.specs.declared.journal.Journal.{Journal}
+use Rattle.bytejournal.specs.declared.opening.Opened.{Opened as OpenedTexts}
+use Rattle.bytejournal.specs.declared.opening.Returned.{Returned}
+use Rattle.bytejournal.specs.Meaning.{meaning as meaning_in_texts}
+use Rattle.bytejournal.specs.Journal.{IsAtRest as AreTextsAtRest, first_disk, second_disk}
+use Rattle.bytejournal.specs.Opening.{new_contents as new_texts, Untouched, Creates as CreatesTexts, Opens as OpensTexts, Restarts as RestartsTexts}
+use Rattle.bytejournal.proofs.Pairs.{meaning_comm}
+use Rattle.botjournal.specs.declared.base.Base.{Base}
+use Rattle.botjournal.specs.declared.opening.Opened.{Opened}
+use Rattle.botjournal.specs.Bases.{base_bytes, IsGoodBase}
+use Rattle.botjournal.specs.Contents.{new_contents, with_base, typed, meaning}
+use Rattle.botjournal.specs.Journal.{IsAtRest, contents_of, Creates, Refuses, Opens, Restarts, CannotRead, contents_read, ReadsTexts}
+use Rattle.botjournal.proofs.BaseLaws.{base_again}
+use Rattle.botjournal.proofs.JournalLaws.{some_is}
+
+module _ {D : Type 0} (state : D → State) where
+  -- ---- made
+
+  pub creates : (first second : D) (base : Base) (text : List ℕ) → IsGoodBase base → text ≡ base_bytes base → (journal : Journal D)
+      → CreatesTexts state first second text (Ok journal) → Creates state first second base (Ok journal)
+  creates first second base text good is journal r =
+      let contents : contents_of state journal ≡ Some (new_contents base) =
+      ap typed r.2 ∙ ap (λ t. typed (Some (new_texts t))) is ∙ ap (λ b. with_base 1 b (Some [])) (base_again base good) in
+      (r.0, record { texts = r.1; some = some_is (contents_of state journal) (Some (new_contents base)) contents refl }, contents)
+
+  -- ---- opened
+
+  -- the order of the disks makes no difference
+  in_order : (swapped : Bool) (active idle : D)
+      → meaning_in_texts (state active).seen (state idle).seen
+      ≡ meaning_in_texts (state (if swapped then idle else active)).seen (state (if swapped then active else idle)).seen
+  in_order false active idle = refl
+  in_order true active idle = meaning_comm (state active).seen (state idle).seen
+
+  untouched_means : (first second first' second' : D) → Untouched (state first) (state first') → Untouched (state second) (state second')
+      → meaning_in_texts (state first').seen (state second').seen ≡ meaning_in_texts (state first).seen (state second).seen
+  untouched_means first second first' second' a b =
+      ap (λ x. meaning_in_texts x (state second').seen) a.seen ∙ ap (λ y. meaning_in_texts (state first).seen y) b.seen
+
+  opened_as_read : (first second : D) (texts : OpenedTexts D) → OpensTexts state first second (Ok texts) → (opened : Opened D)
+      → ReadsTexts texts (Ok opened) → Opens state first second (Ok opened)
+  opened_as_read first second texts o opened r =
+      let journal : opened.journal ≡ texts.journal = r.0 in
+      let found : meaning (state first).seen (state second).seen ≡ contents_read texts = ap typed o.0.found in
+      let read : meaning (state first).seen (state second).seen
+      ≡ Some (record { generation = texts.journal.generation; base = opened.base; entries = opened.entries }) = found ∙ r.2 in
+      let here : contents_of state texts.journal ≡ meaning (state first).seen (state second).seen =
+      ap typed (in_order texts.journal.swapped texts.journal.active texts.journal.idle
+      ∙ untouched_means first second (first_disk texts.journal) (second_disk texts.journal) o.1 o.2) in
+      let rests : AreTextsAtRest state texts.journal → IsAtRest state texts.journal =
+      λ rest. record { texts = rest; some = some_is (contents_of state texts.journal) _ (here ∙ read) refl } in (
+        record {
+          found = subst (λ j. meaning (state first).seen (state second).seen
+              ≡ Some (record { generation = j.generation; base = opened.base; entries = opened.entries })) (sym journal) read;
+          going = subst (λ j. j.spent ≡ false) (sym journal) o.0.going;
+          whole = λ a b. r.1 ∙ o.0.whole a b;
+          at_rest = λ whole. subst (λ j. IsAtRest state j) (sym journal) (rests (o.0.at_rest (sym r.1 ∙ whole)));
+        },
+        subst (λ j. Untouched (state first) (state (first_disk j))) (sym journal) o.1,
+        subst (λ j. Untouched (state second) (state (second_disk j))) (sym journal) o.2,
+      )
+
+  why_not : (first second : D) (texts : OpenedTexts D) → OpensTexts state first second (Ok texts) → (error : Failure JournalFault)
+      → CannotRead (contents_read texts) error → (first' second' : D) → Refuses state first second error first' second'
+  why_not first second texts o (Refused DiskFault) r first' second' = absurd r
+  why_not first second texts o (Refused NotAJournal) r first' second' = ap typed o.0.found ∙ r
+  why_not first second texts o (Refused Spent) r first' second' = r
+  why_not first second texts o (Refused GenerationsSpent) r first' second' = r
+  why_not first second texts o NoMemory r first' second' = tt
+
+  pub opens : (first second : D) (texts : OpenedTexts D) → OpensTexts state first second (Ok texts) → (result : Result (Opened D) (Returned D))
+      → ReadsTexts texts result → Opens state first second result
+  opens first second texts o (Ok opened) r = opened_as_read first second texts o opened r
+  opens first second texts o (Err returned) r = (
+    why_not first second texts o returned.error r.0 returned.disks.first returned.disks.second,
+    subst (λ d. Untouched (state first) (state d)) (sym r.1) o.1,
+    subst (λ d. Untouched (state second) (state d)) (sym r.2) o.2,
+  )
+
+  -- ---- opened again
+
+  pub restarts : (journal : Journal D) (texts : OpenedTexts D) → RestartsTexts state journal (Ok texts) → (result : Result (Opened D) (Returned D))
+      → ReadsTexts texts result → Restarts state journal result
+  restarts journal texts h result r = (h.0, h.1, h.2, h.3, opens h.0 h.1 texts h.4 result r)

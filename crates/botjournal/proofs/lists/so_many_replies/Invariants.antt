@@ -1,0 +1,9 @@
+use Rattle.std.proofs.Common.{◌≡◌, ◌-◌, []}
+use Rattle.usercodec.specs.Records.{items_at}
+use Rattle.botjournal.specs.Bases.{reply_at}
+use Rattle.botjournal.proofs.lists.so_many_replies.Given as goal
+
+-- those so far and those that are left are all of them
+abbrev pub invariant-loop : goal.invariant-loop
+invariant-loop l = items_at (λ held bytes. reply_at bytes) (l.count - l.counter) l.replies.items l.fields ≡ items_at (λ held bytes. reply_at bytes) l.count
+    [] l.fn.fields

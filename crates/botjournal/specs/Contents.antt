@@ -1,0 +1,52 @@
+-- What the bytes of two disks mean as a bot's journal.
+use Rattle.std.specs.Prelude.{ℕ, ◌+◌, Option, Some, None, List, [], ◌∷◌, ◌++◌, option_map}
+use Rattle.bytejournal.specs.Meaning.{Contents as Texts, meaning as meaning_in_texts}
+use Rattle.botjournal.specs.declared.base.Base.{Base}
+use Rattle.botjournal.specs.declared.entry.Entry.{Entry}
+use Rattle.botjournal.specs.Entries.{entry_in}
+use Rattle.botjournal.specs.Bases.{base_in}
+
+-- what a journal holds: a base, and the entries appended since
+pub record Contents : Type 0 where
+  pub generation : ℕ
+  pub base : Base
+  pub entries : List Entry
+
+-- the contents with one entry more
+abbrev pub added : Entry → Contents → Contents
+added entry contents = record { generation = contents.generation; base = contents.base; entries = contents.entries ++ (entry ∷ []) }
+
+-- another base alone, in the next generation
+abbrev pub rebased : Base → Contents → Contents
+rebased base contents = record { generation = contents.generation + 1; base = base; entries = [] }
+
+-- a new journal's contents
+abbrev pub new_contents : Base → Contents
+new_contents base = record { generation = 1; base = base; entries = [] }
+
+-- an entry before others
+abbrev pub before_others : Option Entry → Option (List Entry) → Option (List Entry)
+before_others None others = None
+before_others (Some entry) others = option_map (λ more. entry ∷ more) others
+
+-- the entries whose spellings these texts are
+abbrev pub entries_in : List (List ℕ) → Option (List Entry)
+entries_in [] = Some []
+entries_in (text ∷ texts) = before_others (entry_in text) (entries_in texts)
+
+abbrev pub with_entries : ℕ → Base → Option (List Entry) → Option Contents
+with_entries generation base None = None
+with_entries generation base (Some entries) = Some (record { generation = generation; base = base; entries = entries })
+
+abbrev pub with_base : ℕ → Option Base → Option (List Entry) → Option Contents
+with_base generation None entries = None
+with_base generation (Some base) entries = with_entries generation base entries
+
+-- contents of texts, read: none where one of them is the spelling of nothing
+abbrev pub typed : Option Texts → Option Contents
+typed None = None
+typed (Some texts) = with_base texts.generation (base_in texts.base) (entries_in texts.entries)
+
+-- what two disks mean
+abbrev pub meaning : List ℕ → List ℕ → Option Contents
+meaning first second = typed (meaning_in_texts first second)

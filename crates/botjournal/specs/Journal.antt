@@ -1,0 +1,119 @@
+-- What the calls of a bot's journal answer. Contracts see a bot's journal as the journal of texts that it stands on.
+use Rattle.std.specs.Prelude.{◌≡◌, ◌≢◌, ◌⊎◌, ◌+◌, ◌-◌, ◌^◌, true, false, ℕ, Option, Some, None, List, IsSome, option_map, Result, Ok, Err}
+use Rattle.bytetext.specs.declared.failure.Failure.{Failure}
+use Rattle.bytetext.specs.declared.failure.Failure.TheVariants.{Refused, NoMemory}
+use Rattle.storage.specs.State.{State, Rose}
+use Rattle.bytejournal.specs.declared.fault.JournalFault.{JournalFault}
+use Rattle.bytejournal.specs.declared.fault.JournalFault.TheVariants.{DiskFault, NotAJournal, Spent, GenerationsSpent}
+use Rattle.bytejournal.specs.declared.journal.Journal.{Journal as Texts}
+use Rattle.bytejournal.specs.declared.opening.Returned.{Returned}
+use Rattle.bytejournal.specs.declared.opening.Opened.{Opened as OpenedTexts}
+use Rattle.bytejournal.specs.Meaning.{IsWhole}
+use Rattle.bytejournal.specs.Journal.{IsAtRest as AreTextsAtRest, contents_of as texts_of, DiskFailed, SameDisks, first_disk, second_disk}
+use Rattle.bytejournal.specs.Opening.{CannotCreate, Untouched, Reopened}
+use Rattle.botjournal.specs.declared.base.Base.{Base}
+use Rattle.botjournal.specs.declared.entry.Entry.{Entry}
+use Rattle.botjournal.specs.declared.opening.Opened.{Opened}
+use Rattle.botjournal.specs.Bases.{base_in}
+use Rattle.botjournal.specs.Contents.{Contents, added, rebased, new_contents, entries_in, with_base, typed, meaning}
+
+-- two images mean the one or the other, and all their gates are there
+pub record IsEither (before after : Option Contents) (first second : List ℕ) : Type 0 where
+  pub means : (meaning first second ≡ before) ⊎ (meaning first second ≡ after)
+  pub first_whole : IsWhole first
+  pub second_whole : IsWhole second
+
+module _ {D : Type 0} (state : D → State) where
+  -- what the journal's disks mean
+  abbrev pub contents_of : Texts D → Option Contents
+  contents_of journal = typed (texts_of state journal)
+
+  -- between two calls: the journal of texts is at rest, and each of its texts is a spelling
+  pub record IsAtRest (journal : Texts D) : Type 0 where
+    pub texts : AreTextsAtRest state journal
+    pub some : IsSome (contents_of journal)
+
+  -- after a fault nothing is known until the journal is opened again
+  abbrev pub IsSound : Texts D → Type 0
+  IsSound journal = journal.spent ≡ false → IsAtRest journal
+
+  -- Appending an entry, by cases on the answer.
+  abbrev pub Appends : Texts D → Entry → Result (Unit {0}) (Failure JournalFault) → Texts D → Type 0
+  Appends old entry (Ok _) new = (old.spent ≡ false) × (new.spent ≡ false) × (contents_of new ≡ option_map (added entry) (contents_of old))
+  Appends old entry (Err (Refused DiskFault)) new = (old.spent ≡ false) × (new.spent ≡ true) × DiskFailed state old new
+  Appends old entry (Err (Refused NotAJournal)) new = ⊥
+  Appends old entry (Err (Refused Spent)) new = (old.spent ≡ true) × (new ≡ old)
+  Appends old entry (Err (Refused GenerationsSpent)) new = ⊥
+  Appends old entry (Err NoMemory) new = (old.spent ≡ false) × (new.spent ≡ false) × SameDisks state old new × (contents_of new ≡ contents_of old)
+
+  -- Putting another base in place, by cases on the answer.
+  abbrev pub Rebases : Texts D → Base → Result (Unit {0}) (Failure JournalFault) → Texts D → Type 0
+  Rebases old base (Ok _) new = (old.spent ≡ false) × (new.spent ≡ false) × (new.generation ≡ old.generation + 1)
+      × (contents_of new ≡ option_map (rebased base) (contents_of old))
+  Rebases old base (Err (Refused DiskFault)) new = (old.spent ≡ false) × (new.spent ≡ true) × DiskFailed state old new
+  Rebases old base (Err (Refused NotAJournal)) new = ⊥
+  Rebases old base (Err (Refused Spent)) new = (old.spent ≡ true) × (new ≡ old)
+  Rebases old base (Err (Refused GenerationsSpent)) new = (old.spent ≡ false) × (old.generation ≡ 2 ^ 32 - 1) × (new ≡ old)
+  Rebases old base (Err NoMemory) new = (old.spent ≡ false) × (old.generation ≢ 2 ^ 32 - 1) × (new.spent ≡ false) × SameDisks state old new
+      × (contents_of new ≡ contents_of old)
+
+  -- Making a journal, by cases on the answer.
+  abbrev pub Creates : D → D → Base → Result (Texts D) (Returned D) → Type 0
+  Creates first second base (Ok journal) = (journal.spent ≡ false) × IsAtRest journal × (contents_of journal ≡ Some (new_contents base))
+  Creates first second base (Err returned) = CannotCreate (state first) (state second) returned.error (state returned.disks.first) (state returned.disks.second)
+
+  -- what an opened journal was found to hold
+  abbrev pub contents_found : Opened D → Contents
+  contents_found opened = record { generation = opened.journal.generation; base = opened.base; entries = opened.entries }
+
+  -- The journal was opened on disks with these bytes. Where it is whole it is at rest.
+  pub record IsOpened (first second : List ℕ) (opened : Opened D) : Type 0 where
+    pub found : meaning first second ≡ Some (contents_found opened)
+    pub going : opened.journal.spent ≡ false
+    pub whole : IsWhole first → IsWhole second → opened.whole ≡ true
+    pub at_rest : opened.whole ≡ true → IsAtRest opened.journal
+
+  -- why a journal wasn't opened
+  abbrev pub Refuses : D → D → Failure JournalFault → D → D → Type 0
+  Refuses first second (Refused DiskFault) first' second' = Rose (state first).failed (state first').failed ⊎ Rose (state second).failed (state second').failed
+  Refuses first second (Refused NotAJournal) first' second' = meaning (state first).seen (state second).seen ≡ None
+  Refuses first second (Refused Spent) first' second' = ⊥
+  Refuses first second (Refused GenerationsSpent) first' second' = ⊥
+  Refuses first second NoMemory first' second' = Unit {0}
+
+  -- Opening a journal, by cases on the answer.
+  abbrev pub Opens : D → D → Result (Opened D) (Returned D) → Type 0
+  Opens first second (Ok opened) = IsOpened (state first).seen (state second).seen opened
+      × Untouched (state first) (state (first_disk opened.journal)) × Untouched (state second) (state (second_disk opened.journal))
+  Opens first second (Err returned) = Refuses first second returned.error returned.disks.first returned.disks.second
+      × Untouched (state first) (state returned.disks.first) × Untouched (state second) (state returned.disks.second)
+
+  -- Opening a journal again on what a crash left of its disks.
+  abbrev pub Restarts : Texts D → Result (Opened D) (Returned D) → Type 0
+  Restarts journal result = (first : D) × (second : D) × Reopened (state (first_disk journal)) (state first)
+      × Reopened (state (second_disk journal)) (state second) × Opens first second result
+
+-- why the texts of an opened journal were not read
+abbrev pub CannotRead : Option Contents → Failure JournalFault → Type 0
+CannotRead contents (Refused DiskFault) = ⊥
+CannotRead contents (Refused NotAJournal) = contents ≡ None
+CannotRead contents (Refused Spent) = ⊥
+CannotRead contents (Refused GenerationsSpent) = ⊥
+CannotRead contents NoMemory = Unit {0}
+
+module _ {D : Type 0} where
+  -- the disks are not told to hold no journal
+  abbrev pub IsNotRefused : Result (Opened D) (Returned D) → Type 0
+  IsNotRefused (Ok opened) = Unit {0}
+  IsNotRefused (Err returned) = returned.error ≢ Refused NotAJournal
+
+  -- the contents of the texts that were found
+  abbrev pub contents_read : OpenedTexts D → Option Contents
+  contents_read texts = with_base texts.journal.generation (base_in texts.base) (entries_in texts.entries)
+
+  -- Reading the texts of an opened journal, by cases on the answer: the disks are handed on as they are.
+  abbrev pub ReadsTexts : OpenedTexts D → Result (Opened D) (Returned D) → Type 0
+  ReadsTexts texts (Ok opened) = (opened.journal ≡ texts.journal) × (opened.whole ≡ texts.whole)
+      × (contents_read texts ≡ Some (record { generation = texts.journal.generation; base = opened.base; entries = opened.entries }))
+  ReadsTexts texts (Err returned) = CannotRead (contents_read texts) returned.error
+      × (returned.disks.first ≡ first_disk texts.journal) × (returned.disks.second ≡ second_disk texts.journal)

@@ -1,0 +1,5 @@
+pub mod Whole
+pub mod Entries
+pub mod Bases
+pub mod Contents
+pub mod Journal

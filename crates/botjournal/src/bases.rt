@@ -1,0 +1,149 @@
+// Bases as bytes.
+ghost use Rattle.std.specs.Prelude.{◌≡◌, ◌++◌, IfOk, OnOk, None};
+ghost use Rattle.std.specs.Int.{w16, w32};
+ghost use Rattle.userfile.specs.Apply.{bad_shape};
+ghost use Rattle.botjournal.specs.declared.base.Base.{Base};
+ghost use Rattle.botjournal.specs.Whole.{Finds};
+ghost use Rattle.botjournal.specs.Bases.{base_bytes, out_bytes, base_in, IsGoodBase, HasShapes, HasShapeOut, IsBaseOf};
+ghost use Rattle.botjournal.specs.Bases.{FindsBase, is_of_its_bot};
+ghost use Rattle.botjournal.specs.Bases.{out_at, out_from, parts_at, base_at};
+
+use crate::base::Base;
+use crate::fields::{Fields, put_u16, put_u32};
+use crate::lists::{put_records, put_replies, records, replies};
+use bytetext::{Failure, NoMemory};
+use std::alloc::Global;
+use usercodec::{CodecError, CodecFault, put_change};
+use userfile::Change;
+
+/// The one spelling of a base.
+///
+/// # Errors
+/// `NoMemory` where room for it is refused.
+pub fn write_base(alloc: Global, base: &Base) -> Result<Vec<u8>, NoMemory>
+    requires { HasShapes base.now }
+    ensures { IfOk result (λ bytes. bytes.items ≡ base_bytes base.now) }
+{
+    let mut bytes = Vec::new(alloc);
+    put_base(&mut bytes, base)?;
+    Ok(bytes)
+}
+
+fn put_base(out: &mut Vec<u8>, base: &Base) -> Result<(), NoMemory>
+    requires { HasShapes base.now }
+    ensures { OnOk result (out.new.items ≡ out.old.items ++ base_bytes base.now) }
+{
+    put_u16(out, base.bot)?;
+    put_u32(out, base.version)?;
+    put_records(out, base.records.as_slice())?;
+    put_replies(out, base.replies.as_slice())?;
+    put_u32(out, base.last_request)?;
+    put_out(out, &base.out)
+}
+
+fn put_out(bytes: &mut Vec<u8>, out: &Option<Change>) -> Result<(), NoMemory>
+    requires { HasShapeOut out.now }
+    ensures { OnOk result (bytes.new.items ≡ bytes.old.items ++ out_bytes out.now) }
+{
+    match out {
+        None => {
+            bytes.push(0)?;
+            Ok(())
+        }
+        Some(change) => {
+            bytes.push(1)?;
+            put_change(bytes, change)
+        }
+    }
+}
+
+/// The base whose spelling these bytes are, all of them, where they are one's.
+///
+/// # Errors
+/// `NoMemory` where room for the base is refused.
+pub fn read_base(alloc: Global, bytes: &[u8]) -> Result<Option<Base>, NoMemory>
+    ensures exact { IfOk result (λ read. read ≡ base_in bytes.now) }
+    // What is read is spelled by the bytes.
+    ensures spelled { IfOk result (λ read. IsBaseOf bytes.now read) }
+    // What is spelled is read.
+    ensures only { (base : Base) → IsGoodBase base → bytes.now ≡ base_bytes base → FindsBase base result }
+{
+    read_whole(alloc, bytes)
+}
+
+fn read_whole(alloc: Global, bytes: &[u8]) -> Result<Option<Base>, NoMemory>
+    ensures { IfOk result (λ read. read ≡ base_in bytes.now) }
+{
+    let mut fields = Fields::new(bytes);
+    match base(alloc, &mut fields) {
+        Ok(base) => {
+            if fields.is_empty() {
+                return Ok(Some(base));
+            }
+            Ok(None)
+        }
+        Err(Failure::Refused(_)) => Ok(None),
+        Err(Failure::NoMemory) => Err(NoMemory),
+    }
+}
+
+#[tactic(auto, unfolding(crate::specs::Bases::base_at))]
+fn base(alloc: Global, fields: &mut Fields<'_>) -> Result<Base, CodecError>
+    ensures { Finds (λ base. (base, fields.new)) result (base_at fields.old) }
+{
+    let base = parts(alloc, fields)?;
+    if !is_of_its_bot(&base) {
+        return Err(Failure::Refused(CodecFault::NotCanonical));
+    }
+    Ok(base)
+}
+
+#[tactic(auto, unfolding(crate::specs::Bases::parts_at))]
+fn parts(alloc: Global, fields: &mut Fields<'_>) -> Result<Base, CodecError>
+    ensures { Finds (λ base. (base, fields.new)) result (parts_at fields.old) }
+{
+    let bot = fields.u16()?;
+    let version = fields.u32()?;
+    let records = records(alloc, fields)?;
+    let replies = replies(alloc, fields)?;
+    let last_request = fields.u32()?;
+    let out = out(alloc, fields)?;
+    Ok(Base {
+        bot,
+        version,
+        records,
+        replies,
+        last_request,
+        out,
+    })
+}
+
+#[tactic(auto, unfolding(crate::specs::Bases::out_at))]
+fn out(alloc: Global, fields: &mut Fields<'_>) -> Result<Option<Change>, CodecError>
+    ensures { Finds (λ out. (out, fields.new)) result (out_at fields.old) }
+{
+    let byte = fields.byte()?;
+    out_of(alloc, byte, fields)
+}
+
+#[tactic(auto, unfolding(crate::specs::Bases::out_from))]
+fn out_of(alloc: Global, byte: u8, fields: &mut Fields<'_>) -> Result<Option<Change>, CodecError>
+    ensures { Finds (λ out. (out, fields.new)) result (out_from byte fields.old) }
+{
+    match byte {
+        0 => Ok(None),
+        1 => Ok(Some(fields.change(alloc)?)),
+        _ => Err(Failure::Refused(CodecFault::NotCanonical)),
+    }
+}
+
+// Whether what a base holds fits its bot: a leaf has no replies, and the hub no request.
+fn is_of_its_bot(base: &Base) -> bool
+    ensures { result ≡ is_of_its_bot base.now }
+{
+    if base.bot == 0 {
+        base.last_request == 0 && base.out.is_none()
+    } else {
+        base.replies.is_empty()
+    }
+}

@@ -1,0 +1,187 @@
+// Entries as bytes.
+ghost use Rattle.std.specs.Prelude.{◌≡◌, None, IfOk, OnOk, ◌++◌, ◌∷◌};
+ghost use Rattle.userfile.specs.Apply.{bad_shape};
+ghost use Rattle.std.specs.Int.{w16, w32};
+ghost use Rattle.usercodec.specs.Answers.{Makes};
+ghost use Rattle.usercodec.specs.Fields.{number};
+ghost use Rattle.usercodec.specs.Changes.{change_bytes};
+ghost use Rattle.botjournal.specs.declared.entry.Entry.{Entry};
+ghost use Rattle.botjournal.specs.Entries.{entry_bytes, entry_in, IsGoodEntry, HasShape, IsEntryOf, FindsEntry};
+ghost use Rattle.botjournal.specs.Entries.{entry_at, entry_fields_at, accepted_at, settled_at, applied_at};
+ghost use Rattle.botjournal.specs.Entries.{request_out_at, request_done_at};
+
+use crate::entry::Entry;
+use crate::fields::{Fields, put_u16, put_u32};
+use bytetext::{Failure, NoMemory};
+use std::alloc::Global;
+use usercodec::{CodecError, CodecFault, byte_of_fault, put_change};
+use userfile::Change;
+
+/// The one spelling of an entry.
+///
+/// # Errors
+/// `NoMemory` where room for it is refused.
+pub fn write_entry(alloc: Global, entry: &Entry) -> Result<Vec<u8>, NoMemory>
+    requires { HasShape entry.now }
+    ensures { IfOk result (λ bytes. bytes.items ≡ entry_bytes entry.now) }
+{
+    let mut bytes = Vec::new(alloc);
+    put_entry(&mut bytes, entry)?;
+    Ok(bytes)
+}
+
+fn put_entry(out: &mut Vec<u8>, entry: &Entry) -> Result<(), NoMemory>
+    requires { HasShape entry.now }
+    ensures { OnOk result (out.new.items ≡ out.old.items ++ entry_bytes entry.now) }
+{
+    match entry {
+        Entry::Accepted {
+            origin,
+            request,
+            change,
+        } => {
+            put_request(out, 1, *origin, *request)?;
+            put_change(out, change)
+        }
+        Entry::Settled {
+            leaf,
+            request,
+            fault,
+        } => {
+            put_request(out, 2, *leaf, *request)?;
+            out.push(byte_of_fault(*fault))?;
+            Ok(())
+        }
+        Entry::Applied { number, change } => put_numbered(out, 3, *number, change),
+        Entry::ReqOut { request, change } => put_numbered(out, 4, *request, change),
+        Entry::ReqDone { request } => {
+            out.push(5)?;
+            put_u32(out, *request)
+        }
+    }
+}
+
+// A tag, a bot and the number of its request.
+fn put_request(out: &mut Vec<u8>, tag: u8, bot: u16, request: u32) -> Result<(), NoMemory>
+    ensures { OnOk result (out.new.items ≡ out.old.items ++ tag ∷ (number w16 bot ++ number w32 request)) }
+{
+    out.push(tag)?;
+    put_u16(out, bot)?;
+    put_u32(out, request)
+}
+
+// A tag, a number and a change.
+fn put_numbered(out: &mut Vec<u8>, tag: u8, n: u32, change: &Change) -> Result<(), NoMemory>
+    requires { bad_shape change.now ≡ None }
+    ensures { OnOk result (out.new.items ≡ out.old.items ++ tag ∷ (number w32 n ++ change_bytes change.now)) }
+{
+    out.push(tag)?;
+    put_u32(out, n)?;
+    put_change(out, change)
+}
+
+/// The entry whose spelling these bytes are, all of them, where they are one's.
+///
+/// # Errors
+/// `NoMemory` where room for the entry is refused.
+pub fn read_entry(alloc: Global, bytes: &[u8]) -> Result<Option<Entry>, NoMemory>
+    ensures exact { IfOk result (λ read. read ≡ entry_in bytes.now) }
+    // What is read is spelled by the bytes.
+    ensures spelled { IfOk result (λ read. IsEntryOf bytes.now read) }
+    // What is spelled is read.
+    ensures only { (entry : Entry) → IsGoodEntry entry → bytes.now ≡ entry_bytes entry → FindsEntry entry result }
+{
+    read_whole(alloc, bytes)
+}
+
+fn read_whole(alloc: Global, bytes: &[u8]) -> Result<Option<Entry>, NoMemory>
+    ensures { IfOk result (λ read. read ≡ entry_in bytes.now) }
+{
+    let mut fields = Fields::new(bytes);
+    match entry(alloc, &mut fields) {
+        Ok(entry) => {
+            if fields.is_empty() {
+                return Ok(Some(entry));
+            }
+            Ok(None)
+        }
+        Err(Failure::Refused(_)) => Ok(None),
+        Err(Failure::NoMemory) => Err(NoMemory),
+    }
+}
+
+#[tactic(auto, unfolding(crate::specs::Entries::entry_at))]
+fn entry(alloc: Global, fields: &mut Fields<'_>) -> Result<Entry, CodecError>
+    ensures { Makes (λ entry. (entry, fields.new)) result (entry_at fields.old) }
+{
+    let tag = fields.byte()?;
+    tagged(alloc, tag, fields)
+}
+
+#[tactic(auto, unfolding(crate::specs::Entries::entry_fields_at))]
+fn tagged(alloc: Global, tag: u8, fields: &mut Fields<'_>) -> Result<Entry, CodecError>
+    ensures { Makes (λ entry. (entry, fields.new)) result (entry_fields_at tag fields.old) }
+{
+    match tag {
+        1 => accepted(alloc, fields),
+        2 => settled(fields),
+        3 => applied(alloc, fields),
+        4 => request_out(alloc, fields),
+        5 => request_done(fields),
+        _ => Err(Failure::Refused(CodecFault::BadTag)),
+    }
+}
+
+#[tactic(auto, unfolding(crate::specs::Entries::accepted_at))]
+fn accepted(alloc: Global, fields: &mut Fields<'_>) -> Result<Entry, CodecError>
+    ensures { Makes (λ entry. (entry, fields.new)) result (accepted_at fields.old) }
+{
+    let origin = fields.u16()?;
+    let request = fields.u32()?;
+    let change = fields.change(alloc)?;
+    Ok(Entry::Accepted {
+        origin,
+        request,
+        change,
+    })
+}
+
+#[tactic(auto, unfolding(crate::specs::Entries::settled_at))]
+fn settled(fields: &mut Fields<'_>) -> Result<Entry, CodecError>
+    ensures { Makes (λ entry. (entry, fields.new)) result (settled_at fields.old) }
+{
+    let leaf = fields.u16()?;
+    let request = fields.u32()?;
+    let fault = fields.fault()?;
+    Ok(Entry::Settled {
+        leaf,
+        request,
+        fault,
+    })
+}
+
+#[tactic(auto, unfolding(crate::specs::Entries::applied_at))]
+fn applied(alloc: Global, fields: &mut Fields<'_>) -> Result<Entry, CodecError>
+    ensures { Makes (λ entry. (entry, fields.new)) result (applied_at fields.old) }
+{
+    let number = fields.u32()?;
+    let change = fields.change(alloc)?;
+    Ok(Entry::Applied { number, change })
+}
+
+#[tactic(auto, unfolding(crate::specs::Entries::request_out_at))]
+fn request_out(alloc: Global, fields: &mut Fields<'_>) -> Result<Entry, CodecError>
+    ensures { Makes (λ entry. (entry, fields.new)) result (request_out_at fields.old) }
+{
+    let request = fields.u32()?;
+    let change = fields.change(alloc)?;
+    Ok(Entry::ReqOut { request, change })
+}
+
+#[tactic(auto, unfolding(crate::specs::Entries::request_done_at))]
+fn request_done(fields: &mut Fields<'_>) -> Result<Entry, CodecError>
+    ensures { Makes (λ entry. (entry, fields.new)) result (request_done_at fields.old) }
+{
+    let request = fields.u32()?;
+    Ok(Entry::ReqDone { request })
+}

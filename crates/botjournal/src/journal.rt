@@ -1,0 +1,131 @@
+// The journal of a bot.
+ghost use Rattle.std.specs.Prelude.{◌≡◌, ◌≢◌, ◌<◌, ◌-◌, ◌^◌, ◌↔◌, IsTrue, false, length, option_map};
+ghost use Rattle.bytejournal.specs.Meaning.{added as added_text, rebased as rebased_text};
+ghost use Rattle.bytejournal.specs.Journal.{AnyMoment, contents_of as texts_of};
+ghost use Rattle.bytejournal.specs.Journal.{IsSound as AreTextsSound, IsEither as IsEitherText, Appends as AppendsText};
+ghost use Rattle.bytejournal.specs.Journal.{Rebases as RebasesText};
+ghost use Rattle.botjournal.specs.Bases.{IsGoodBase};
+ghost use Rattle.botjournal.specs.Entries.{IsGoodEntry};
+ghost use Rattle.botjournal.specs.Contents.{added, rebased};
+ghost use Rattle.botjournal.specs.Journal.{IsSound, IsEither, Appends, Rebases, contents_of};
+
+use crate::base::Base;
+use crate::bases::write_base;
+use crate::entries::write_entry;
+use crate::entry::Entry;
+use bytejournal::{JournalError, JournalFault};
+use bytetext::Failure;
+use std::alloc::Global;
+use std::marker::Model;
+use storage::Disk;
+
+/// A bot's base and the entries appended since, on two disks. Contracts see the journal of texts that it stands on.
+#[derive(Drop)]
+pub struct Journal<D: Disk> {
+    pub(crate) texts: bytejournal::Journal<D>,
+    /// Whether a disk failed since the journal was opened.
+    pub(crate) spent: bool,
+}
+
+impl<D: Disk> Model for Journal<D> {
+    ghost use Rattle.std.specs.Prelude.{◌≡◌};
+    ghost use Rattle.bytejournal.specs.declared.journal.Journal.{Journal as Texts};
+
+    ghost Value = { Texts D };
+
+    ghost view = { λ j. j.texts };
+
+    ghost invariant = { λ j. j.spent ≡ j.texts.spent };
+}
+
+impl<D: Disk> Journal<D> {
+    /// Appends an entry. At `Ok` it is acknowledged: from then on each crash leaves it.
+    ///
+    /// # Errors
+    /// `Spent` where a disk failed before. `NoMemory` where room is refused: nothing was written. `DiskFault` where a
+    /// disk failed in this call: the entry counts or doesn't, and the journal is spent.
+    pub fn append(&mut self, alloc: Global, entry: &Entry) -> Result<(), JournalError>
+        requires sound { IsSound D.state self.old }
+        requires good { IsGoodEntry entry.now }
+        ensures sound { IsSound D.state self.new }
+        ensures row { Appends D.state self.old entry.now result self.new }
+        ensures any_moment { self.old.spent ≡ false → AnyMoment D.state self.old self.new
+            (IsEither (contents_of D.state self.old) (option_map (added entry.now) (contents_of D.state self.old))) }
+    {
+        if self.spent {
+            return Err(Failure::Refused(JournalFault::Spent));
+        }
+        let text = write_entry(alloc, entry)?;
+        self.append_text(alloc, &text)
+    }
+
+    fn append_text(&mut self, alloc: Global, text: &[u8]) -> Result<(), JournalError>
+        requires sound { AreTextsSound D.state self.old }
+        requires small { length text.now < 2 ^ 32 }
+        ensures sound { AreTextsSound D.state self.new }
+        ensures row { AppendsText D.state self.old text.now result self.new }
+        ensures any_moment { self.old.spent ≡ false → AnyMoment D.state self.old self.new
+            (IsEitherText (texts_of D.state self.old) (option_map (added_text text.now) (texts_of D.state self.old))) }
+    {
+        match self.texts.append(alloc, text) {
+            Ok(()) => Ok(()),
+            Err(Failure::NoMemory) => Err(Failure::NoMemory),
+            Err(Failure::Refused(fault)) => {
+                self.spent = true;
+                Err(Failure::Refused(fault))
+            }
+        }
+    }
+
+    /// Puts a base in the place of the base and its entries, in the next generation. At `Ok` it is acknowledged.
+    ///
+    /// # Errors
+    /// `Spent` where a disk failed before. `GenerationsSpent` where the generations are used up. `NoMemory` where room
+    /// is refused: nothing was written. `DiskFault` where a disk failed in this call: the old base and entries count,
+    /// or the new base alone, and the journal is spent.
+    pub fn rebase(&mut self, alloc: Global, base: &Base) -> Result<(), JournalError>
+        requires sound { IsSound D.state self.old }
+        requires good { IsGoodBase base.now }
+        ensures sound { IsSound D.state self.new }
+        ensures row { Rebases D.state self.old base.now result self.new }
+        ensures any_moment { self.old.spent ≡ false → AnyMoment D.state self.old self.new
+            (IsEither (contents_of D.state self.old) (option_map (rebased base.now) (contents_of D.state self.old))) }
+    {
+        if self.spent {
+            return Err(Failure::Refused(JournalFault::Spent));
+        }
+        if self.generations_spent() {
+            return Err(Failure::Refused(JournalFault::GenerationsSpent));
+        }
+        let text = write_base(alloc, base)?;
+        self.rebase_text(alloc, &text)
+    }
+
+    fn rebase_text(&mut self, alloc: Global, text: &[u8]) -> Result<(), JournalError>
+        requires sound { AreTextsSound D.state self.old }
+        requires left { self.old.generation ≢ 2 ^ 32 - 1 }
+        requires small { length text.now < 2 ^ 32 }
+        ensures sound { AreTextsSound D.state self.new }
+        ensures row { RebasesText D.state self.old text.now result self.new }
+        ensures any_moment { self.old.spent ≡ false → AnyMoment D.state self.old self.new
+            (IsEitherText (texts_of D.state self.old)
+            (option_map (rebased_text text.now) (texts_of D.state self.old))) }
+    {
+        match self.texts.rebase(alloc, text) {
+            Ok(()) => Ok(()),
+            Err(Failure::NoMemory) => Err(Failure::NoMemory),
+            Err(Failure::Refused(fault)) => {
+                self.spent = true;
+                Err(Failure::Refused(fault))
+            }
+        }
+    }
+
+    /// Whether the active disk's generation is the last one, so that `rebase` would be refused for it. After a fault
+    /// nothing is said of the answer.
+    pub fn generations_spent(&self) -> bool
+        ensures { IsTrue result ↔ (self.now.generation ≡ 2 ^ 32 - 1) }
+    {
+        self.texts.generations_spent()
+    }
+}

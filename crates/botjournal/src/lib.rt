@@ -1,0 +1,39 @@
+//! The journal of a bot: its base and entries as values, over the journal of byte texts on two disks.
+//!
+//! A [`Base`] is a bot's state at a version: the userfile's records, and what is kept of requests. An [`Entry`] is what
+//! happened since. Each has one spelling as bytes ([`write_base`], [`write_entry`]); the readers take that spelling and
+//! nothing else. A [`Journal`] keeps them on two disks, and holds at any crash the entries before a call, or with the
+//! one in hand.
+//!
+//! ```text
+//! let mut journal = Journal::create(alloc, first, second, &base)?;
+//! journal.append(alloc, &entry)?;         // acknowledged: each crash from now on leaves it
+//! journal.rebase(alloc, &other_base)?;    // the new base alone
+//! let opened = journal.restart(alloc)?;   // what stands on the disks after a crash
+//! if opened.whole { /* opened.base, opened.entries, and opened.journal to go on with */ }
+//! ```
+//!
+//! `NotAJournal` comes from disks that hold no journal of texts, or one whose base or an entry is the spelling of none;
+//! it never comes from disks that mean a base and entries. After a disk's fault the journal is spent: what was being
+//! written counts or doesn't, and opening it again tells.
+#![tactic(auto)]
+
+mod base;
+mod bases;
+mod entries;
+mod entry;
+mod fields;
+mod journal;
+mod laws;
+mod lists;
+mod opening;
+mod reply;
+
+pub use crate::base::Base;
+pub use crate::bases::{read_base, write_base};
+pub use crate::entries::{read_entry, write_entry};
+pub use crate::entry::Entry;
+pub use crate::journal::Journal;
+pub use crate::laws::{laws_of_bases, laws_of_entries};
+pub use crate::opening::Opened;
+pub use crate::reply::{Answer, Reply};

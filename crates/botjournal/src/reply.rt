@@ -1,0 +1,30 @@
+// The hub's kept reply to a leaf.
+use bytetext::{NoMemory, TryCopy};
+use std::alloc::Global;
+use userfile::ChangeFault;
+
+/// What became of a leaf's request.
+#[derive(Clone, Copy, Debug)]
+pub enum Answer {
+    /// The change was taken, and has this number.
+    Taken(u32),
+    /// The userfile refused the change.
+    Refused(ChangeFault),
+}
+
+/// The hub's last reply to a leaf.
+#[derive(Clone, Copy, Debug)]
+pub struct Reply {
+    /// The leaf's number, from 1.
+    pub leaf: u16,
+    /// The leaf's number of its request.
+    pub request: u32,
+    /// What became of it.
+    pub answer: Answer,
+}
+
+impl TryCopy for Reply {
+    fn copy(&self, _alloc: Global) -> Result<Reply, NoMemory> {
+        Ok(*self)
+    }
+}

@@ -1,0 +1,143 @@
+-- Bodies of each kind: what is read is spelled so, and what is spelled so is read.
+use Rattle.std.proofs.Common.{◌≡◌, ℕ, ◌^◌, ◌<◌, true, List, [], ◌∷◌, ◌++◌, Option, Some, Ok, Err, refl, sym, ap, subst, ◌∙◌}
+use Rattle.std.specs.Int.{w16, w32}
+use Rattle.std.proofs.lemmas.List.{append-nil}
+use Rattle.usercodec.specs.declared.fault.CodecFault.{CodecFault}
+use Rattle.usercodec.specs.Fields.{number, Reading, number_at}
+use Rattle.usercodec.specs.Changes.{both, made, change_at, change_bytes, IsGoodChange}
+use Rattle.usercodec.proofs.Steps.{IsBytes, bind_ok, ok_is, Takes}
+use Rattle.sharewire.specs.declared.kind.Kind.{Kind}
+use Rattle.sharewire.specs.declared.kind.Kind.TheVariants.{Hello as hello, Change as change, Request as request, Accepted as accepted, Refused as refused, BotText as bot_text}
+use Rattle.sharewire.specs.declared.packet.Packet.{Packet}
+use Rattle.sharewire.specs.declared.packet.Packet.TheVariants.{Hello, Change, Request, Accepted, Refused, BotText}
+use Rattle.sharewire.specs.Kinds.{kind_byte, kind_from, kind_of}
+use Rattle.usercodec.specs.FaultBytes.{fault_byte, fault_at}
+use Rattle.sharewire.specs.Texts.{is_bot_text}
+use Rattle.sharewire.specs.Frames.{long_text, body_of, inside, IsGoodPacket}
+use Rattle.sharewire.specs.Bodies.{bot_text_at, hello_at, change_packet_at, request_at, accepted_at, refused_at, bot_text_packet_at, body_at}
+use Rattle.usercodec.proofs.PartLaws.{IsPart, u16_part, u32_part, change_part, fault_part, both_part}
+use Rattle.sharewire.proofs.LongTextLaws.{bot_text_part}
+
+-- ---- the fields of each kind
+
+hello_part : IsPart (both (number_at w16) (number_at w32)) (λ x. number w16 x.0 ++ number w32 x.1) (λ x. (x.0 < 2 ^ 16) × (x.1 < 2 ^ 32))
+hello_part = both_part u16_part u32_part
+
+request_part : IsPart (both (number_at w16) (both (number_at w32) change_at)) (λ x. number w16 x.0 ++ (number w32 x.1.0 ++ change_bytes x.1.1))
+    (λ x. (x.0 < 2 ^ 16) × ((x.1.0 < 2 ^ 32) × IsGoodChange x.1.1))
+request_part = both_part u16_part (both_part u32_part change_part)
+
+change_packet_part : IsPart (both (number_at w32) (both (number_at w16) (both (number_at w32) change_at)))
+    (λ x. number w32 x.0 ++ (number w16 x.1.0 ++ (number w32 x.1.1.0 ++ change_bytes x.1.1.1)))
+    (λ x. (x.0 < 2 ^ 32) × ((x.1.0 < 2 ^ 16) × ((x.1.1.0 < 2 ^ 32) × IsGoodChange x.1.1.1)))
+change_packet_part = both_part u32_part (both_part u16_part (both_part u32_part change_part))
+
+accepted_part : IsPart (both (number_at w16) (both (number_at w32) (number_at w32))) (λ x. number w16 x.0 ++ (number w32 x.1.0 ++ number w32 x.1.1))
+    (λ x. (x.0 < 2 ^ 16) × ((x.1.0 < 2 ^ 32) × (x.1.1 < 2 ^ 32)))
+accepted_part = both_part u16_part (both_part u32_part u32_part)
+
+refused_part : IsPart (both (number_at w16) (both (number_at w32) fault_at)) (λ x. number w16 x.0 ++ (number w32 x.1.0 ++ fault_byte x.1.1 ∷ []))
+    (λ x. (x.0 < 2 ^ 16) × ((x.1.0 < 2 ^ 32) × Unit {0}))
+refused_part = both_part u16_part (both_part u32_part fault_part)
+
+bot_text_packet_part : IsPart (both (number_at w16) (both (number_at w16) bot_text_at)) (λ x. number w16 x.0 ++ (number w16 x.1.0 ++ long_text x.1.1))
+    (λ x. (x.0 < 2 ^ 16) × ((x.1.0 < 2 ^ 16) × (is_bot_text x.1.1 ≡ true)))
+bot_text_packet_part = both_part u16_part (both_part u16_part bot_text_part)
+
+-- ---- bodies
+
+-- what is told of a packet that was read
+pub record IsTaken (kind : Kind) (bytes : List ℕ) (packet : Packet) (rest : List ℕ) : Type 0 where
+  pub took : Takes bytes (body_of packet) rest
+  pub good : IsGoodPacket packet
+  pub of_kind : kind_of packet ≡ kind
+
+made_takes : {A : Type 0} {read : List ℕ → Reading A} {spelling : A → List ℕ} {IsGood : A → Type 0} (packet_of : A → Packet) (kind : Kind)
+    → IsPart read spelling IsGood → ((x : A) → body_of (packet_of x) ≡ spelling x) → ((x : A) → IsGood x → IsGoodPacket (packet_of x))
+    → ((x : A) → kind_of (packet_of x) ≡ kind)
+    → (bytes : List ℕ) (packet : Packet) (rest : List ℕ) → IsBytes bytes → made packet_of (read bytes) ≡ Ok (packet, rest) → IsTaken kind bytes packet rest
+made_takes {read = read} packet_of kind part spelled good kinds bytes packet rest fits e =
+    let a = bind_ok (read bytes) (λ x. Ok (packet_of x.0, x.1)) (packet, rest) e in
+    let t = part.takes bytes a.0.0 a.0.1 fits a.1 in
+    let same = ok_is (packet_of a.0.0, a.0.1) (packet, rest) a.2 in
+    let took : Takes bytes (body_of (packet_of a.0.0)) a.0.1 = subst (λ (b : List ℕ). Takes bytes b a.0.1) (sym (spelled a.0.0)) t.0 in
+    subst (λ (p : Packet × List ℕ). IsTaken kind bytes p.0 p.1) same (record { took = took; good = good a.0.0 t.1; of_kind = kinds a.0.0 })
+
+pub body_takes : (kind : Kind) (bytes : List ℕ) (packet : Packet) (rest : List ℕ) → IsBytes bytes → body_at kind bytes ≡ Ok (packet, rest)
+    → IsTaken kind bytes packet rest
+unfolding hello_at change_packet_at request_at accepted_at refused_at bot_text_packet_at
+body_takes hello bytes packet rest fits e = made_takes (λ x. Hello x.0 x.1) hello hello_part (λ x. refl) (λ x g. g) (λ x. refl) bytes packet rest fits e
+body_takes change bytes packet rest fits e =
+    made_takes (λ x. Change x.0 x.1.0 x.1.1.0 x.1.1.1) change change_packet_part (λ x. refl) (λ x g. g) (λ x. refl) bytes packet rest fits e
+body_takes request bytes packet rest fits e =
+    made_takes (λ x. Request x.0 x.1.0 x.1.1) request request_part (λ x. refl) (λ x g. g) (λ x. refl) bytes packet rest fits e
+body_takes accepted bytes packet rest fits e =
+    made_takes (λ x. Accepted x.0 x.1.0 x.1.1) accepted accepted_part (λ x. refl) (λ x g. g) (λ x. refl) bytes packet rest fits e
+body_takes refused bytes packet rest fits e =
+    made_takes (λ x. Refused x.0 x.1.0 x.1.1) refused refused_part (λ x. refl) (λ x g. (g.0, g.1.0)) (λ x. refl) bytes packet rest fits e
+body_takes bot_text bytes packet rest fits e =
+    made_takes (λ x. BotText x.0 x.1.0 x.1.1) bot_text bot_text_packet_part (λ x. refl) (λ x g. g) (λ x. refl) bytes packet rest fits e
+
+pub body_again : (packet : Packet) (rest : List ℕ) → IsGoodPacket packet → body_at (kind_of packet) (body_of packet ++ rest) ≡ Ok (packet, rest)
+unfolding hello_at change_packet_at request_at accepted_at refused_at bot_text_packet_at
+body_again (Hello leaf version) rest good = ap (made (λ x. Hello x.0 x.1)) (hello_part.again (leaf, version) rest good)
+body_again (Change n origin r c) rest good =
+    ap (made (λ x. Change x.0 x.1.0 x.1.1.0 x.1.1.1)) (change_packet_part.again (n, (origin, (r, c))) rest good)
+body_again (Request leaf r c) rest good = ap (made (λ x. Request x.0 x.1.0 x.1.1)) (request_part.again (leaf, (r, c)) rest good)
+body_again (Accepted leaf r n) rest good = ap (made (λ x. Accepted x.0 x.1.0 x.1.1)) (accepted_part.again (leaf, (r, n)) rest good)
+body_again (Refused leaf r fault) rest good =
+    ap (made (λ x. Refused x.0 x.1.0 x.1.1)) (refused_part.again (leaf, (r, fault)) rest (good.0, (good.1, tt)))
+body_again (BotText from to text) rest good = ap (made (λ x. BotText x.0 x.1.0 x.1.1)) (bot_text_packet_part.again (from, (to, text)) rest good)
+
+-- ---- kinds
+
+pub kind_from-byte : (kind : Kind) → kind_from (kind_byte kind) ≡ Some kind
+kind_from-byte hello = refl
+kind_from-byte change = refl
+kind_from-byte request = refl
+kind_from-byte accepted = refl
+kind_from-byte refused = refl
+kind_from-byte bot_text = refl
+
+some_is : {A : Type 0} (x y : A) → (let s : Option A = Some x in s) ≡ Some y → x ≡ y
+some_is x y e = cc
+
+pub same_kind : (a b : Kind) → kind_byte a ≡ kind_byte b → a ≡ b
+same_kind a b e = some_is a b (sym (kind_from-byte a) ∙ ap kind_from e ∙ kind_from-byte b)
+
+-- ---- whole bodies
+
+cons_is : (a b : ℕ) (x y : List ℕ) → a ∷ x ≡ b ∷ y → (a ≡ b) × (x ≡ y)
+cons_is a b x y e = (cc, cc)
+
+-- what is the inside of a good packet reads as it
+pub reads_again : (kind : Kind) (body : List ℕ) (packet : Packet) → IsGoodPacket packet → inside packet ≡ kind_byte kind ∷ body
+    → body_at kind body ≡ Ok (packet, [])
+reads_again kind body packet good e =
+    let parts = cons_is (kind_byte (kind_of packet)) (kind_byte kind) (body_of packet) body e in
+    let whole : body_of packet ++ [] ≡ body = append-nil (body_of packet) ∙ parts.1 in
+    ap (λ (k : Kind). body_at k body) (sym (same_kind (kind_of packet) kind parts.0)) ∙ ap (body_at (kind_of packet)) (sym whole)
+    ∙ body_again packet [] good
+
+-- a body that reads whole is the packet's
+pub reads_whole : (kind : Kind) (body : List ℕ) (packet : Packet) (rest : List ℕ) → IsBytes body → body_at kind body ≡ Ok (packet, rest) → rest ≡ []
+    → IsGoodPacket packet × (inside packet ≡ kind_byte kind ∷ body)
+reads_whole kind body packet rest fits e none =
+    let t = body_takes kind body packet rest fits e in
+    let whole : body ≡ body_of packet = t.took.parts ∙ ap (λ (r : List ℕ). body_of packet ++ r) none ∙ append-nil (body_of packet) in
+    (t.good, ap (λ (k : Kind). kind_byte k ∷ body_of packet) t.of_kind ∙ ap (λ (b : List ℕ). kind_byte kind ∷ b) (sym whole))
+
+-- a body with bytes left over is no packet's
+pub reads_more : (kind : Kind) (body : List ℕ) (found : Packet) (rest : List ℕ) → body_at kind body ≡ Ok (found, rest) → (rest ≡ [] → ⊥)
+    → (packet : Packet) → IsGoodPacket packet → inside packet ≡ kind_byte kind ∷ body → ⊥
+reads_more kind body found rest e some packet good is =
+    let same = ok_is (found, rest) (packet, []) (sym e ∙ reads_again kind body packet good is) in
+    some (ap (λ (p : Packet × List ℕ). p.1) same)
+
+-- nor is one that has a fault
+pub reads_none : (kind : Kind) (body : List ℕ) (fault : CodecFault) → body_at kind body ≡ Err fault
+    → (packet : Packet) → IsGoodPacket packet → inside packet ≡ kind_byte kind ∷ body → ⊥
+reads_none kind body fault e packet good is = no_value fault packet (sym e ∙ reads_again kind body packet good is)
+  where
+    no_value : (fault : CodecFault) (packet : Packet) → (let r : Reading Packet = Err fault in r) ≡ Ok (packet, []) → ⊥
+    no_value fault packet e = cc

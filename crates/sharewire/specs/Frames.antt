@@ -1,0 +1,49 @@
+-- The one spelling of a packet: a frame, which is the length of kind and body, the kind, and the body (our own choice
+-- throughout; numbers have their most significant byte first).
+use Rattle.std.specs.Prelude.{◌≡◌, ◌<◌, ◌^◌, true, ℕ, List, [], ◌∷◌, ◌++◌, length, None}
+use Rattle.std.specs.Int.{w16, w32}
+use Rattle.userfile.specs.Apply.{bad_shape}
+use Rattle.usercodec.specs.Fields.{number}
+use Rattle.usercodec.specs.Changes.{change_bytes, IsGoodChange}
+use Rattle.sharewire.specs.declared.packet.Packet.{Packet}
+use Rattle.sharewire.specs.declared.packet.Packet.TheVariants.{Hello, Change, Request, Accepted, Refused, BotText}
+use Rattle.sharewire.specs.Kinds.{kind_byte, kind_of}
+use Rattle.usercodec.specs.FaultBytes.{fault_byte}
+use Rattle.sharewire.specs.Texts.{is_bot_text}
+
+-- a text that one bot tells another: its length in two bytes, and its bytes
+abbrev pub long_text : List ℕ → List ℕ
+long_text bytes = number w16 (length bytes) ++ bytes
+
+abbrev pub body_of : Packet → List ℕ
+body_of (Hello leaf version) = number w16 leaf ++ number w32 version
+body_of (Change n origin request change) = number w32 n ++ (number w16 origin ++ (number w32 request ++ change_bytes change))
+body_of (Request leaf request change) = number w16 leaf ++ (number w32 request ++ change_bytes change)
+body_of (Accepted leaf request n) = number w16 leaf ++ (number w32 request ++ number w32 n)
+body_of (Refused leaf request fault) = number w16 leaf ++ (number w32 request ++ fault_byte fault ∷ [])
+body_of (BotText from to text) = number w16 from ++ (number w16 to ++ long_text text)
+
+-- kind and body
+abbrev pub inside : Packet → List ℕ
+inside packet = kind_byte (kind_of packet) ∷ body_of packet
+
+abbrev pub frame : Packet → List ℕ
+frame packet = number w16 (length (inside packet)) ++ inside packet
+
+-- what a packet must hold to be written: a change of good shape, a text that may be told
+abbrev pub CanBeWritten : Packet → Type 0
+CanBeWritten (Hello leaf version) = Unit {0}
+CanBeWritten (Change n origin request change) = bad_shape change ≡ None
+CanBeWritten (Request leaf request change) = bad_shape change ≡ None
+CanBeWritten (Accepted leaf request n) = Unit {0}
+CanBeWritten (Refused leaf request fault) = Unit {0}
+CanBeWritten (BotText from to text) = is_bot_text text ≡ true
+
+-- a packet that has a frame: it can be written, and its numbers have room
+abbrev pub IsGoodPacket : Packet → Type 0
+IsGoodPacket (Hello leaf version) = (leaf < 2 ^ 16) × (version < 2 ^ 32)
+IsGoodPacket (Change n origin request change) = (n < 2 ^ 32) × ((origin < 2 ^ 16) × ((request < 2 ^ 32) × IsGoodChange change))
+IsGoodPacket (Request leaf request change) = (leaf < 2 ^ 16) × ((request < 2 ^ 32) × IsGoodChange change)
+IsGoodPacket (Accepted leaf request n) = (leaf < 2 ^ 16) × ((request < 2 ^ 32) × (n < 2 ^ 32))
+IsGoodPacket (Refused leaf request fault) = (leaf < 2 ^ 16) × (request < 2 ^ 32)
+IsGoodPacket (BotText from to text) = (from < 2 ^ 16) × ((to < 2 ^ 16) × (is_bot_text text ≡ true))

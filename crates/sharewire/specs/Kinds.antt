@@ -1,0 +1,33 @@
+-- The byte of each kind of packet (our own choice; 3 is kept for a part of a snapshot).
+use Rattle.std.specs.Prelude.{ℕ, ◌==◌, Option, Some, None, if◌then◌else◌}
+use Rattle.sharewire.specs.declared.kind.Kind.{Kind}
+use Rattle.sharewire.specs.declared.kind.Kind.TheVariants.{Hello as hello, Change as change, Request as request, Accepted as accepted, Refused as refused, BotText as bot_text}
+use Rattle.sharewire.specs.declared.packet.Packet.{Packet}
+use Rattle.sharewire.specs.declared.packet.Packet.TheVariants.{Hello, Change, Request, Accepted, Refused, BotText}
+
+abbrev pub kind_byte : Kind → ℕ
+kind_byte hello = 1
+kind_byte change = 2
+kind_byte request = 4
+kind_byte accepted = 5
+kind_byte refused = 6
+kind_byte bot_text = 7
+
+-- the kind of a byte, where it is one
+abbrev pub kind_from : ℕ → Option Kind
+kind_from byte =
+    if byte == 1 then Some hello
+    else (if byte == 2 then Some change
+    else (if byte == 4 then Some request
+    else (if byte == 5 then Some accepted
+    else (if byte == 6 then Some refused
+    else (if byte == 7 then Some bot_text
+    else None)))))
+
+abbrev pub kind_of : Packet → Kind
+kind_of (Hello leaf version) = hello
+kind_of (Change n origin r c) = change
+kind_of (Request leaf r c) = request
+kind_of (Accepted leaf r n) = accepted
+kind_of (Refused leaf r fault) = refused
+kind_of (BotText from to text) = bot_text

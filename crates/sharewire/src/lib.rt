@@ -1,0 +1,55 @@
+//! The sharing link as bytes: packets to frames, and a stream of bytes to packets.
+//!
+//! A frame is two bytes of length, a byte of kind and a body; the length is that of kind and body, 1 to 40,000. Numbers
+//! have their most significant byte first, and changes are spelled as [`usercodec`] spells them. The format is our own.
+//!
+//! | kind | packet | body |
+//! |---|---|---|
+//! | 1 | [`Packet::Hello`] | leaf (2 bytes), version (4) |
+//! | 2 | [`Packet::Change`] | number (4), origin (2), request (4), change |
+//! | 4 | [`Packet::Request`] | leaf (2), request (4), change |
+//! | 5 | [`Packet::Accepted`] | leaf (2), request (4), number (4) |
+//! | 6 | [`Packet::Refused`] | leaf (2), request (4), the number of the fault's letter U (1) |
+//! | 7 | [`Packet::BotText`] | from (2), to (2), the text's length (2), the text |
+//!
+//! [`write_packet`] writes a packet's one frame. A [`WireReader`] is fed the pieces of a stream, cut anywhere, and
+//! tells each packet once, in order, as soon as its frame is whole. It keeps no more than one frame that is not. The
+//! first [`WireFault`] ends the stream: with the second byte of a frame if its length is bad, with the third if its
+//! kind is, with the last if its body is. The packets before it are given.
+//!
+//! ```text
+//! let frame = write_packet(alloc, &Packet::Hello { leaf: 1, version: 2 })?;    // 0007 01 0001 00000002
+//! let mut reader = WireReader::new(alloc);
+//! reader.feed(alloc, &frame[..7])?;              // no packet yet
+//! reader.feed(alloc, &frame[7..])?;              // the hello
+//! reader.feed(alloc, b"\x00\x00")?;              // K3: a length of 0
+//! ```
+//!
+//! What a stream tells is `Tells` in `specs/Streams.antt`, by its frames alone; [`a_stream_tells_one_thing`] says that
+//! it is one thing. [`read_pieces`] is the whole way from pieces to packets.
+#![tactic(auto)]
+
+mod body;
+mod fault;
+mod feed;
+mod fields;
+mod frames;
+mod front;
+mod kind;
+mod laws;
+mod limits;
+mod packet;
+mod pieces;
+mod reader;
+mod texts;
+mod writer;
+
+pub use crate::fault::WireFault;
+pub use crate::feed::Feed;
+pub use crate::laws::{a_stream_tells_one_thing, frames_are_apart, written_is_told};
+pub use crate::limits::MAX_LENGTH;
+pub use crate::packet::Packet;
+pub use crate::pieces::read_pieces;
+pub use crate::reader::WireReader;
+pub use crate::texts::{MAX_BOT_TEXT, is_bot_text};
+pub use crate::writer::write_packet;

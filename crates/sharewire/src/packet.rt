@@ -1,0 +1,117 @@
+// What goes over the link.
+use bytetext::{NoMemory, Text, TryCopy};
+use std::alloc::Global;
+use userfile::{Change, ChangeFault};
+
+/// One packet of the sharing link. Bot 0 is the hub, and leaves are numbered from 1.
+#[derive(Debug, Drop)]
+pub enum Packet {
+    /// A leaf tells the hub the version that it is at.
+    Hello {
+        /// The leaf's number.
+        leaf: u16,
+        /// The leaf's version.
+        version: u32,
+    },
+    /// The hub tells a leaf an accepted change.
+    Change {
+        /// The change's number, from 1.
+        number: u32,
+        /// The bot that asked for it: 0 for the hub.
+        origin: u16,
+        /// The asking leaf's request number: 0 for the hub's own.
+        request: u32,
+        /// The change itself.
+        change: Change,
+    },
+    /// A leaf asks the hub for a change.
+    Request {
+        /// The leaf's number.
+        leaf: u16,
+        /// The leaf's number of this request.
+        request: u32,
+        /// The change that it asks for.
+        change: Change,
+    },
+    /// The hub tells a leaf that its request was accepted.
+    Accepted {
+        /// The leaf's number.
+        leaf: u16,
+        /// The leaf's number of its request.
+        request: u32,
+        /// The number that the change got.
+        number: u32,
+    },
+    /// The hub tells a leaf that its request was refused.
+    Refused {
+        /// The leaf's number.
+        leaf: u16,
+        /// The leaf's number of its request.
+        request: u32,
+        /// Why the userfile refused the change.
+        fault: ChangeFault,
+    },
+    /// A bot tells another bot a text.
+    BotText {
+        /// The bot that says it.
+        from: u16,
+        /// The bot that it is said to.
+        to: u16,
+        /// What is said: see [`is_bot_text`](crate::is_bot_text).
+        text: Text,
+    },
+}
+
+impl TryCopy for Packet {
+    fn copy(&self, alloc: Global) -> Result<Packet, NoMemory> {
+        match self {
+            Packet::Hello { leaf, version } => Ok(Packet::Hello {
+                leaf: *leaf,
+                version: *version,
+            }),
+            Packet::Change {
+                number,
+                origin,
+                request,
+                change,
+            } => Ok(Packet::Change {
+                number: *number,
+                origin: *origin,
+                request: *request,
+                change: change.copy(alloc)?,
+            }),
+            Packet::Request {
+                leaf,
+                request,
+                change,
+            } => Ok(Packet::Request {
+                leaf: *leaf,
+                request: *request,
+                change: change.copy(alloc)?,
+            }),
+            Packet::Accepted {
+                leaf,
+                request,
+                number,
+            } => Ok(Packet::Accepted {
+                leaf: *leaf,
+                request: *request,
+                number: *number,
+            }),
+            Packet::Refused {
+                leaf,
+                request,
+                fault,
+            } => Ok(Packet::Refused {
+                leaf: *leaf,
+                request: *request,
+                fault: *fault,
+            }),
+            Packet::BotText { from, to, text } => Ok(Packet::BotText {
+                from: *from,
+                to: *to,
+                text: text.copy(alloc)?,
+            }),
+        }
+    }
+}

@@ -1,0 +1,139 @@
+// A stream of bytes to packets, in whatever pieces it comes.
+ghost use Rattle.std.specs.Prelude.{◌≡◌, ◌≤◌, ◌+◌, ◌-◌, List, ℕ, [], ◌++◌, drop, length};
+ghost use Rattle.std.specs.Prelude.{IfOk, OnOk, OnErr, IsErr, IsOk};
+ghost use Rattle.sharewire.specs.declared.packet.Packet.{Packet};
+ghost use Rattle.sharewire.specs.declared.limits.TheConstants.{MAX_LENGTH};
+ghost use Rattle.sharewire.specs.Streams.{Tells, ended, fault_told};
+
+use crate::fault::WireFault;
+use crate::feed::Feed;
+use crate::frames::{Frames, read_frames};
+use bytetext::{NoMemory, Seq, TryCopy};
+use std::alloc::Global;
+use std::marker::Model;
+
+/// The packets of a stream, which is fed in pieces, cut anywhere.
+///
+/// Contracts see how the stream ends so far: in the begin of a frame, whose bytes are kept, or at a fault. No more is
+/// kept than one frame that is not whole.
+///
+/// ```text
+/// let mut reader = WireReader::new(alloc);
+/// reader.feed(alloc, b"\x00\x07\x01\x00\x01\x00\x00")?    // no packet yet
+/// reader.feed(alloc, b"\x00\x02")?                        // Hello of leaf 1 at version 2
+/// reader.feed(alloc, b"\x00\x00")?                        // BadLength
+/// reader.feed(alloc, b"\x00\x07")?                        // Failed
+/// ```
+#[derive(Debug, Drop)]
+pub struct WireReader {
+    held: Vec<u8>,
+    fault: Option<WireFault>,
+}
+
+impl Model for WireReader {
+    ghost use Rattle.std.specs.Prelude.{length, ◌≤◌, ◌+◌};
+    ghost use Rattle.sharewire.specs.Streams.{Ending, ended};
+    ghost use Rattle.sharewire.specs.declared.limits.TheConstants.{MAX_LENGTH};
+
+    ghost Value = { Ending };
+
+    ghost view = { λ r. ended r.held.items r.fault };
+
+    ghost invariant = { λ r. length r.held.items ≤ MAX_LENGTH + 1 };
+}
+
+impl WireReader {
+    /// A reader at the begin of a stream. Takes no memory.
+    pub fn new(alloc: Global) -> WireReader
+        ensures empty { result ≡ Ok [] }
+        ensures told { Tells [] [] result }
+    {
+        WireReader {
+            held: Vec::new(alloc),
+            fault: None,
+        }
+    }
+
+    /// The packets whose frames end in this piece of the stream, and the fault after them if there is one. After a
+    /// fault each further piece tells [`WireFault::Failed`] alone, and takes no memory.
+    ///
+    /// # Errors
+    /// `NoMemory` where room for the piece or a packet is refused. The reader is as before, and the piece can be fed
+    /// again.
+    pub fn feed(&mut self, alloc: Global, piece: &[u8]) -> Result<Feed, NoMemory>
+        // Of any stream that has told these packets so far, the packets go on with those of the answer.
+        ensures told { (stream : List ℕ) (packets : List Packet) → Tells stream packets self.old
+            → IfOk result (λ feed. Tells (stream ++ piece.now) (packets ++ feed.packets) self.new) }
+        ensures fault { IfOk result (λ feed. feed.fault ≡ fault_told self.old self.new) }
+        ensures few { IfOk self.new (λ begun. length begun ≤ MAX_LENGTH + 1) }
+        // A reader that has failed takes no memory, and stays so.
+        ensures failed { IsErr self.old → IsOk result }
+        ensures stays { IsErr self.old → self.new ≡ self.old }
+        ensures unchanged { OnErr result (self.new ≡ self.old) }
+    {
+        if self.fault.is_some() {
+            return Ok(Feed {
+                packets: Seq::empty(alloc),
+                fault: Some(WireFault::Failed),
+            });
+        }
+        let begun = self.held.len();
+        self.held.extend_from_slice(piece)?;
+        match take_frames(alloc, &mut self.held) {
+            Ok(feed) => {
+                self.fault = feed.fault;
+                Ok(feed)
+            }
+            Err(NoMemory) => {
+                self.held.truncate(begun);
+                Err(NoMemory)
+            }
+        }
+    }
+}
+
+impl TryCopy for WireReader {
+    fn copy(&self, alloc: Global) -> Result<WireReader, NoMemory> {
+        let held = Vec::from_slice(alloc, self.held.as_slice())?;
+        Ok(WireReader {
+            held,
+            fault: self.fault,
+        })
+    }
+}
+
+// Takes the frames off the bytes that are held: the begin of a frame is left, and nothing after a fault.
+fn take_frames(alloc: Global, held: &mut Vec<u8>) -> Result<Feed, NoMemory>
+    ensures told { IfOk result (λ feed. Tells held.old.items feed.packets (ended held.new.items feed.fault)) }
+    ensures few { IfOk result (λ _. length held.new.items ≤ MAX_LENGTH + 1) }
+    ensures unchanged { OnErr result (held.new.items ≡ held.old.items) }
+{
+    let Frames {
+        packets,
+        rest,
+        fault,
+    } = read_frames(alloc, held.as_slice())?;
+    let left = if fault.is_some() { 0 } else { rest.len() };
+    keep_last(alloc, held, left)?;
+    Ok(Feed {
+        packets: Seq::new(packets),
+        fault,
+    })
+}
+
+// Keeps so many of the last bytes.
+fn keep_last(alloc: Global, held: &mut Vec<u8>, count: usize) -> Result<(), NoMemory>
+    requires { count ≤ length held.old.items }
+    ensures kept { OnOk result (held.new.items ≡ drop (length held.old.items - count) held.old.items) }
+    ensures unchanged { OnErr result (held.new.items ≡ held.old.items) }
+{
+    if count == 0 {
+        held.clear();
+        return Ok(());
+    }
+    let gone = held.len() - count;
+    if gone > 0 {
+        *held = Vec::from_slice(alloc, &held[gone..])?;
+    }
+    Ok(())
+}

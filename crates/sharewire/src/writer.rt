@@ -1,0 +1,114 @@
+// Packets as frames.
+ghost use Rattle.std.specs.Prelude.{◌≡◌, ◌++◌, IfOk, OnOk, true};
+ghost use Rattle.std.specs.Int.{w16, w32};
+ghost use Rattle.usercodec.specs.Fields.{number};
+ghost use Rattle.sharewire.specs.Texts.{is_bot_text};
+ghost use Rattle.sharewire.specs.Frames.{body_of, frame, long_text, CanBeWritten};
+
+use crate::packet::Packet;
+use bytetext::NoMemory;
+use std::alloc::Global;
+use usercodec::{byte_of_fault, put_change};
+
+// Most frames have no more bytes.
+const USUAL: usize = 64;
+
+/// The one spelling of a packet, its frame. Its change is of good shape (see [`userfile::shape`]), its text one that
+/// may be told (see [`is_bot_text`](crate::is_bot_text)).
+///
+/// # Errors
+/// `NoMemory` where room for it is refused.
+pub fn write_packet(alloc: Global, packet: &Packet) -> Result<Vec<u8>, NoMemory>
+    requires { CanBeWritten packet.now }
+    ensures { IfOk result (λ bytes. bytes.items ≡ frame packet.now) }
+{
+    let mut frame = Vec::with_capacity(alloc, USUAL)?;
+    // The length is written last, over these two bytes.
+    frame.extend_from_slice(&[0, 0])?;
+    frame.push(packet.kind().byte())?;
+    put_body(&mut frame, packet)?;
+    let [high, low] = ((frame.len() - 2) as u16).to_be_bytes();
+    frame[0] = high;
+    frame[1] = low;
+    Ok(frame)
+}
+
+// Puts a packet's body after some bytes.
+fn put_body(out: &mut Vec<u8>, packet: &Packet) -> Result<(), NoMemory>
+    requires { CanBeWritten packet.now }
+    ensures { OnOk result (out.new.items ≡ out.old.items ++ body_of packet.now) }
+{
+    match packet {
+        Packet::Hello { leaf, version } => {
+            put_u16(out, *leaf)?;
+            put_u32(out, *version)
+        }
+        Packet::Change {
+            number,
+            origin,
+            request,
+            change,
+        } => {
+            put_u32(out, *number)?;
+            put_u16(out, *origin)?;
+            put_u32(out, *request)?;
+            put_change(out, change)
+        }
+        Packet::Request {
+            leaf,
+            request,
+            change,
+        } => {
+            put_u16(out, *leaf)?;
+            put_u32(out, *request)?;
+            put_change(out, change)
+        }
+        Packet::Accepted {
+            leaf,
+            request,
+            number,
+        } => {
+            put_u16(out, *leaf)?;
+            put_u32(out, *request)?;
+            put_u32(out, *number)
+        }
+        Packet::Refused {
+            leaf,
+            request,
+            fault,
+        } => {
+            put_u16(out, *leaf)?;
+            put_u32(out, *request)?;
+            out.push(byte_of_fault(*fault))?;
+            Ok(())
+        }
+        Packet::BotText { from, to, text } => {
+            put_u16(out, *from)?;
+            put_u16(out, *to)?;
+            put_long_text(out, text.as_bytes())
+        }
+    }
+}
+
+fn put_long_text(out: &mut Vec<u8>, text: &[u8]) -> Result<(), NoMemory>
+    requires { is_bot_text text.now ≡ true }
+    ensures { OnOk result (out.new.items ≡ out.old.items ++ long_text text.now) }
+{
+    put_u16(out, text.len() as u16)?;
+    out.extend_from_slice(text)?;
+    Ok(())
+}
+
+fn put_u16(out: &mut Vec<u8>, n: u16) -> Result<(), NoMemory>
+    ensures { OnOk result (out.new.items ≡ out.old.items ++ number w16 n) }
+{
+    out.extend_from_slice(&n.to_be_bytes())?;
+    Ok(())
+}
+
+fn put_u32(out: &mut Vec<u8>, n: u32) -> Result<(), NoMemory>
+    ensures { OnOk result (out.new.items ≡ out.old.items ++ number w32 n) }
+{
+    out.extend_from_slice(&n.to_be_bytes())?;
+    Ok(())
+}

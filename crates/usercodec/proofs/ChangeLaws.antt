@@ -1,0 +1,314 @@
+-- Changes: what is read is spelled so, what is spelled so is read, and what was told stays.
+use Rattle.std.proofs.Common.{◌≡◌, ℕ, suc, ◌^◌, ◌<◌, true, eqb, nat_lt, List, [], ◌∷◌, ◌++◌, Ok, Err, refl, sym, ap, subst, ◌∙◌, append_assoc, arith}
+use Rattle.std.proofs.Common.{inl, inr}
+use Rattle.std.specs.Int.{w64}
+use Rattle.std.proofs.lemmas.Bool.{eqb-true, ltb-true}
+use Rattle.std.proofs.lemmas.Bool.Decides.{nat_tests}
+use Rattle.rfccase.specs.Channels.{is_channel_name}
+use Rattle.userfile.specs.Shapes.{is_handle, is_hostmask, is_ban_channel, is_comment}
+use Rattle.userfile.specs.declared.ban.Ban.{Ban}
+use Rattle.userfile.specs.declared.change.Change.{Change}
+use Rattle.userfile.specs.declared.change.Change.TheVariants.{AddUser, DelUser, AddHost, DelHost, SetGlobal, SetChan, SetBot, AddBan, DelBan}
+use Rattle.usercodec.specs.declared.fault.CodecFault.TheVariants.{BadTag}
+use Rattle.usercodec.specs.Fields.{number, text, flags, Reading, ◌>>=◌, byte_at, number_at, flags_at}
+use Rattle.usercodec.specs.Fields.{handle_at, hostmask_at, channel_at, ban_channel_at, comment_at}
+use Rattle.usercodec.specs.Changes.{ban_bytes, change_bytes, IsGoodChange, both, made, handle_and_mask_at, handle_and_flags_at, channel_and_mask_at}
+use Rattle.usercodec.specs.Changes.{set_chan_at, ban_at, add_ban_at, fields_at, change_at}
+use Rattle.usercodec.specs.Laws.{Stays}
+use Rattle.usercodec.proofs.ShapeLaws.{handle_is_short, channel_is_short, ban_channel_is_short, hostmask_is_short, comment_is_short, fields_pass}
+use Rattle.usercodec.proofs.ShapeLaws.{shape_passes}
+use Rattle.usercodec.proofs.Steps.{IsBytes, chosen, bind_ok, ok_is, Takes, Takes-then, stays_bind, stays_if, NoTag, no_tag_bind}
+use Rattle.usercodec.proofs.FieldLaws.{IsSort, IsField, byte_field, wide64, number_field, text_field, checked_field, both_field}
+
+-- ---- the fields of changes
+
+pub handle_field : IsField handle_at text (λ handle. is_handle handle ≡ true)
+unfolding handle_at
+handle_field = checked_field text_field is_handle handle_is_short
+
+pub hostmask_field : IsField hostmask_at text (λ mask. is_hostmask mask ≡ true)
+unfolding hostmask_at
+hostmask_field = checked_field text_field is_hostmask hostmask_is_short
+
+pub channel_field : IsField channel_at text (λ channel. is_channel_name channel ≡ true)
+unfolding channel_at
+channel_field = checked_field text_field is_channel_name channel_is_short
+
+pub ban_channel_field : IsField ban_channel_at text (λ channel. is_ban_channel channel ≡ true)
+unfolding ban_channel_at
+ban_channel_field = checked_field text_field is_ban_channel ban_channel_is_short
+
+pub comment_field : IsField comment_at text (λ comment. is_comment comment ≡ true)
+unfolding comment_at
+comment_field = checked_field text_field is_comment comment_is_short
+
+letters_fit : (bits : ℕ) → nat_lt bits (2 ^ 52) ≡ true → bits < 2 ^ 64
+letters_fit bits passes = let lt = ltb-true bits (2 ^ 52) passes in omega arith
+
+pub flags_field : IsField flags_at flags (λ bits. nat_lt bits (2 ^ 52) ≡ true)
+unfolding flags_at
+flags_field = checked_field (number_field w64 (2 ^ 64) wide64) (λ bits. nat_lt bits (2 ^ 52)) letters_fit
+
+pub moment_field : IsField (number_at w64) (number w64) (λ n. n < 2 ^ 64)
+moment_field = number_field w64 (2 ^ 64) wide64
+
+-- ---- several fields, each after the other
+
+handle_and_mask_field : IsField handle_and_mask_at (λ x. text x.0 ++ text x.1) (λ x. (is_handle x.0 ≡ true) × (is_hostmask x.1 ≡ true))
+unfolding handle_and_mask_at
+handle_and_mask_field = both_field handle_field hostmask_field
+
+handle_and_flags_field : IsField handle_and_flags_at (λ x. text x.0 ++ flags x.1) (λ x. (is_handle x.0 ≡ true) × (nat_lt x.1 (2 ^ 52) ≡ true))
+unfolding handle_and_flags_at
+handle_and_flags_field = both_field handle_field flags_field
+
+channel_and_mask_field : IsField channel_and_mask_at (λ x. text x.0 ++ text x.1) (λ x. (is_ban_channel x.0 ≡ true) × (is_hostmask x.1 ≡ true))
+unfolding channel_and_mask_at
+channel_and_mask_field = both_field ban_channel_field hostmask_field
+
+-- whether a ban has a spelling
+pub record BanPasses (ban : Ban) : Type 0 where
+  pub channel : is_ban_channel ban.channel ≡ true
+  pub mask : is_hostmask ban.mask ≡ true
+  pub creator : is_handle ban.creator ≡ true
+  pub expires : ban.expires < 2 ^ 64
+  pub comment : is_comment ban.comment ≡ true
+
+abbrev new_ban : List ℕ → List ℕ → List ℕ → ℕ → List ℕ → Ban
+new_ban channel mask creator expires comment =
+    record { channel = channel; mask = mask; creator = creator; expires = expires; comment = comment }
+
+pub ban_field : IsField ban_at ban_bytes BanPasses
+unfolding ban_at
+ban_field = record { laws = record { takes = takes; again = again; stays = stays }; no_tag = no_tag }
+  where
+    takes : (bytes : List ℕ) (x : Ban) (rest : List ℕ) → IsBytes bytes → ban_at bytes ≡ Ok (x, rest) → Takes bytes (ban_bytes x) rest × BanPasses x
+    takes bytes x rest fits e =
+        let a = bind_ok (ban_channel_at bytes) (λ a. hostmask_at a.1 >>= λ b. handle_at b.1 >>= λ c. number_at w64 c.1 >>= λ d. comment_at d.1 >>=
+        λ e. Ok (new_ban a.0 b.0 c.0 d.0 e.0, e.1)) (x, rest) e in
+        let b = bind_ok (hostmask_at a.0.1) (λ b. handle_at b.1 >>= λ c. number_at w64 c.1 >>= λ d. comment_at d.1 >>= λ e. Ok
+        (new_ban a.0.0 b.0 c.0 d.0 e.0, e.1)) (x, rest) a.2 in
+        let c = bind_ok (handle_at b.0.1) (λ c. number_at w64 c.1 >>= λ d. comment_at d.1 >>= λ e. Ok (new_ban a.0.0 b.0.0 c.0 d.0 e.0, e.1)) (x, rest) b.2 in
+        let d = bind_ok (number_at w64 c.0.1) (λ d. comment_at d.1 >>= λ e. Ok (new_ban a.0.0 b.0.0 c.0.0 d.0 e.0, e.1)) (x, rest) c.2 in
+        let f = bind_ok (comment_at d.0.1) (λ e. Ok (new_ban a.0.0 b.0.0 c.0.0 d.0.0 e.0, e.1)) (x, rest) d.2 in
+        let ta = ban_channel_field.laws.takes bytes a.0.0 a.0.1 fits a.1 in
+        let tb = hostmask_field.laws.takes a.0.1 b.0.0 b.0.1 ta.0.rest_fits b.1 in
+        let tc = handle_field.laws.takes b.0.1 c.0.0 c.0.1 tb.0.rest_fits c.1 in
+        let td = moment_field.laws.takes c.0.1 d.0.0 d.0.1 tc.0.rest_fits d.1 in
+        let tf = comment_field.laws.takes d.0.1 f.0.0 f.0.1 td.0.rest_fits f.1 in
+        let e4 = Takes-then c.0.1 (number w64 d.0.0) d.0.1 (text f.0.0) f.0.1 td.0 tf.0 in
+        let e3 = Takes-then b.0.1 (text c.0.0) c.0.1 (number w64 d.0.0 ++ text f.0.0) f.0.1 tc.0 e4 in
+        let e2 = Takes-then a.0.1 (text b.0.0) b.0.1 (text c.0.0 ++ (number w64 d.0.0 ++ text f.0.0)) f.0.1 tb.0 e3 in
+        let e1 = Takes-then bytes (text a.0.0) a.0.1 (text b.0.0 ++ (text c.0.0 ++ (number w64 d.0.0 ++ text f.0.0))) f.0.1 ta.0 e2 in
+        subst (λ (p : Ban × List ℕ). Takes bytes (ban_bytes p.0) p.1 × BanPasses p.0)
+        (ok_is (new_ban a.0.0 b.0.0 c.0.0 d.0.0 f.0.0, f.0.1) (x, rest) f.2)
+        (e1, record { channel = ta.1; mask = tb.1; creator = tc.1; expires = td.1; comment = tf.1 })
+
+    again : (x : Ban) (rest : List ℕ) → BanPasses x → ban_at (ban_bytes x ++ rest) ≡ Ok (x, rest)
+    again x rest good =
+        let after_moment = text x.comment ++ rest in
+        let after_creator = number w64 x.expires ++ after_moment in
+        let after_mask = text x.creator ++ after_creator in
+        let after_channel = text x.mask ++ after_mask in
+        let grouped : ban_bytes x ++ rest ≡ text x.channel ++ after_channel = simp append_assoc in
+        ap ban_at grouped
+        ∙ rw (
+          ban_channel_field.laws.again x.channel after_channel good.channel,
+          hostmask_field.laws.again x.mask after_mask good.mask,
+          handle_field.laws.again x.creator after_creator good.creator,
+          moment_field.laws.again x.expires after_moment good.expires,
+          comment_field.laws.again x.comment rest good.comment,
+        ) refl
+
+    stays : (bytes more : List ℕ) → Stays (ban_at bytes) (ban_at (bytes ++ more)) more
+    stays bytes more =
+        stays_bind (ban_channel_at bytes) _ _ more (ban_channel_field.laws.stays bytes more) (λ a.
+        stays_bind (hostmask_at a.1) _ _ more (hostmask_field.laws.stays a.1 more) (λ b.
+        stays_bind (handle_at b.1) _ _ more (handle_field.laws.stays b.1 more) (λ c.
+        stays_bind (number_at w64 c.1) _ _ more (moment_field.laws.stays c.1 more) (λ d.
+        stays_bind (comment_at d.1) _ _ more (comment_field.laws.stays d.1 more) (λ e. refl)))))
+
+    no_tag : (bytes : List ℕ) → NoTag (ban_at bytes)
+    no_tag bytes =
+        no_tag_bind (ban_channel_at bytes) _ (ban_channel_field.no_tag bytes) (λ a.
+        no_tag_bind (hostmask_at a.1) _ (hostmask_field.no_tag a.1) (λ b.
+        no_tag_bind (handle_at b.1) _ (handle_field.no_tag b.1) (λ c.
+        no_tag_bind (number_at w64 c.1) _ (moment_field.no_tag c.1) (λ d.
+        no_tag_bind (comment_at d.1) _ (comment_field.no_tag d.1) (λ e. tt)))))
+
+-- ---- what stands after a tag
+
+-- the tag and its fields are a change that has a spelling
+abbrev Taken : ℕ → List ℕ → Change → List ℕ → Type 0
+Taken tag bytes x rest = Takes (tag ∷ bytes) (change_bytes x) rest × IsGoodChange x
+
+-- changes of one tag
+pub record IsTagged {A : Type 0} (read : List ℕ → Reading A) (spelling : A → List ℕ) (IsGood : A → Type 0) (tag : ℕ) (change_of : A → Change) : Type 0 where
+  pub field : IsField read spelling IsGood
+  pub spelled : (x : A) → change_bytes (change_of x) ≡ tag ∷ spelling x
+  pub good : (x : A) → IsGood x → IsGoodChange (change_of x)
+
+tagged_takes : {A : Type 0} {read : List ℕ → Reading A} {spelling : A → List ℕ} {IsGood : A → Type 0} (kind tag : ℕ) (change_of : A → Change)
+    → IsTagged read spelling IsGood kind change_of → (bytes : List ℕ) (x : Change) (rest : List ℕ) → IsBytes bytes → eqb tag kind ≡ true
+    → made change_of (read bytes) ≡ Ok (x, rest) → Taken tag bytes x rest
+tagged_takes {A = A} {read = read} {spelling = spelling} kind tag change_of tagged bytes x rest fits same e =
+    let tag_is : tag ≡ kind = eqb-true tag kind same in
+    let a = bind_ok (read bytes) (λ y. Ok (change_of y.0, y.1)) (x, rest) e in
+    let t = tagged.field.laws.takes bytes a.0.0 a.0.1 fits a.1 in
+    let front : tag ∷ bytes ≡ (kind ∷ spelling a.0.0) ++ a.0.1 = ap (λ (k : ℕ). k ∷ bytes) tag_is ∙ ap (λ (b : List ℕ). kind ∷ b) t.0.parts in
+    let parts : tag ∷ bytes ≡ change_bytes (change_of a.0.0) ++ a.0.1 = front ∙ ap (λ (b : List ℕ). b ++ a.0.1) (sym (tagged.spelled a.0.0)) in
+    subst (λ (p : Change × List ℕ). Taken tag bytes p.0 p.1) (ok_is (change_of a.0.0, a.0.1) (x, rest) a.2)
+    (record { parts = parts; rest_fits = t.0.rest_fits }, tagged.good a.0.0 t.1)
+
+made_stays : {A : Type 0} {read : List ℕ → Reading A} {spelling : A → List ℕ} {IsGood : A → Type 0} (change_of : A → Change)
+    → IsField read spelling IsGood → (bytes more : List ℕ) → Stays (made change_of (read bytes)) (made change_of (read (bytes ++ more))) more
+made_stays {read = read} change_of field bytes more = stays_bind (read bytes) _ _ more (field.laws.stays bytes more) (λ x. refl)
+
+pub made_no_tag : {A : Type 0} {read : List ℕ → Reading A} {spelling : A → List ℕ} {IsGood : A → Type 0} (change_of : A → Change)
+    → IsField read spelling IsGood → (bytes : List ℕ) → NoTag (made change_of (read bytes))
+made_no_tag {read = read} change_of field bytes = no_tag_bind (read bytes) _ (field.no_tag bytes) (λ x. tt)
+
+pub add_user : IsTagged handle_at text (λ handle. is_handle handle ≡ true) 1 AddUser
+add_user = record { field = handle_field; spelled = λ x. refl; good = λ x p. record { shape = shape_passes (AddUser x) p; room = tt } }
+
+pub del_user : IsTagged handle_at text (λ handle. is_handle handle ≡ true) 2 DelUser
+del_user = record { field = handle_field; spelled = λ x. refl; good = λ x p. record { shape = shape_passes (DelUser x) p; room = tt } }
+
+pub add_host : IsTagged handle_and_mask_at (λ x. text x.0 ++ text x.1) (λ x. (is_handle x.0 ≡ true) × (is_hostmask x.1 ≡ true)) 3 (λ x. AddHost x.0 x.1)
+add_host = record { field = handle_and_mask_field; spelled = λ x. refl; good = λ x p. record { shape = shape_passes (AddHost x.0 x.1) p; room = tt } }
+
+pub del_host : IsTagged handle_and_mask_at (λ x. text x.0 ++ text x.1) (λ x. (is_handle x.0 ≡ true) × (is_hostmask x.1 ≡ true)) 4 (λ x. DelHost x.0 x.1)
+del_host = record { field = handle_and_mask_field; spelled = λ x. refl; good = λ x p. record { shape = shape_passes (DelHost x.0 x.1) p; room = tt } }
+
+pub set_global : IsTagged handle_and_flags_at (λ x. text x.0 ++ flags x.1) (λ x. (is_handle x.0 ≡ true) × (nat_lt x.1 (2 ^ 52) ≡ true)) 5
+    (λ x. SetGlobal x.0 x.1)
+set_global = record {
+  field = handle_and_flags_field;
+  spelled = λ x. refl;
+  good = λ x p. record { shape = shape_passes (SetGlobal x.0 x.1) p.0; room = ltb-true x.1 (2 ^ 52) p.1 };
+}
+
+pub set_chan : IsTagged (both handle_at (both channel_at flags_at)) (λ x. text x.0 ++ (text x.1.0 ++ flags x.1.1))
+    (λ x. (is_handle x.0 ≡ true) × ((is_channel_name x.1.0 ≡ true) × (nat_lt x.1.1 (2 ^ 52) ≡ true))) 6 (λ x. SetChan x.0 x.1.0 x.1.1)
+set_chan = record {
+  field = both_field handle_field (both_field channel_field flags_field);
+  spelled = λ x. refl;
+  good = λ x p. record { shape = shape_passes (SetChan x.0 x.1.0 x.1.1) (p.0, p.1.0); room = ltb-true x.1.1 (2 ^ 52) p.1.1 };
+}
+
+pub set_bot : IsTagged handle_and_flags_at (λ x. text x.0 ++ flags x.1) (λ x. (is_handle x.0 ≡ true) × (nat_lt x.1 (2 ^ 52) ≡ true)) 7 (λ x. SetBot x.0 x.1)
+set_bot = record {
+  field = handle_and_flags_field;
+  spelled = λ x. refl;
+  good = λ x p. record { shape = shape_passes (SetBot x.0 x.1) p.0; room = ltb-true x.1 (2 ^ 52) p.1 };
+}
+
+abbrev pub ban_change : Ban → Change
+ban_change ban = AddBan ban.channel ban.mask ban.creator ban.expires ban.comment
+
+pub add_ban : IsTagged ban_at ban_bytes BanPasses 8 ban_change
+add_ban = record {
+  field = ban_field;
+  spelled = λ x. refl;
+  good = λ x p. record { shape = shape_passes (ban_change x) (p.channel, p.mask, p.creator, p.comment); room = p.expires };
+}
+
+pub del_ban : IsTagged channel_and_mask_at (λ x. text x.0 ++ text x.1) (λ x. (is_ban_channel x.0 ≡ true) × (is_hostmask x.1 ≡ true)) 9 (λ x. DelBan x.0 x.1)
+del_ban = record { field = channel_and_mask_field; spelled = λ x. refl; good = λ x p. record { shape = shape_passes (DelBan x.0 x.1) p; room = tt } }
+
+fields_take : (tag : ℕ) (bytes : List ℕ) (x : Change) (rest : List ℕ) → IsBytes bytes → fields_at tag bytes ≡ Ok (x, rest) → Taken tag bytes x rest
+unfolding fields_at set_chan_at add_ban_at
+fields_take tag bytes x rest fits e =
+    elim (chosen (eqb tag 1) _ _ _ e) [
+      | inl p ↦ tagged_takes 1 tag _ add_user bytes x rest fits p.0 p.1
+      | inr p ↦
+          elim (chosen (eqb tag 2) _ _ _ p.1) [
+            | inl p ↦ tagged_takes 2 tag _ del_user bytes x rest fits p.0 p.1
+            | inr p ↦
+                elim (chosen (eqb tag 3) _ _ _ p.1) [
+                  | inl p ↦ tagged_takes 3 tag _ add_host bytes x rest fits p.0 p.1
+                  | inr p ↦
+                      elim (chosen (eqb tag 4) _ _ _ p.1) [
+                        | inl p ↦ tagged_takes 4 tag _ del_host bytes x rest fits p.0 p.1
+                        | inr p ↦
+                            elim (chosen (eqb tag 5) _ _ _ p.1) [
+                              | inl p ↦ tagged_takes 5 tag _ set_global bytes x rest fits p.0 p.1
+                              | inr p ↦
+                                  elim (chosen (eqb tag 6) _ _ _ p.1) [
+                                    | inl p ↦ tagged_takes 6 tag _ set_chan bytes x rest fits p.0 p.1
+                                    | inr p ↦
+                                        elim (chosen (eqb tag 7) _ _ _ p.1) [
+                                          | inl p ↦ tagged_takes 7 tag _ set_bot bytes x rest fits p.0 p.1
+                                          | inr p ↦
+                                              elim (chosen (eqb tag 8) _ _ _ p.1) [
+                                                | inl p ↦ tagged_takes 8 tag _ add_ban bytes x rest fits p.0 p.1
+                                                | inr p ↦
+                                                    elim (chosen (eqb tag 9) _ _ _ p.1) [
+                                                      | inl p ↦ tagged_takes 9 tag _ del_ban bytes x rest fits p.0 p.1
+                                                      | inr p ↦
+                                                          absurd (no_value x rest p.1)
+                                                    ]
+                                              ]
+                                        ]
+                                  ]
+                            ]
+                      ]
+                ]
+          ]
+    ]
+  where
+    no_value : (x : Change) (rest : List ℕ) → (let r : Reading Change = Err BadTag in r) ≡ Ok (x, rest) → ⊥
+    no_value x rest e = cc
+
+fields_stay : (tag : ℕ) (bytes more : List ℕ) → Stays (fields_at tag bytes) (fields_at tag (bytes ++ more)) more
+unfolding fields_at set_chan_at add_ban_at
+fields_stay tag bytes more =
+    stays_if (eqb tag 1) _ _ _ _ more (made_stays AddUser add_user.field bytes more)
+    (stays_if (eqb tag 2) _ _ _ _ more (made_stays DelUser del_user.field bytes more)
+    (stays_if (eqb tag 3) _ _ _ _ more (made_stays (λ x. AddHost x.0 x.1) add_host.field bytes more)
+    (stays_if (eqb tag 4) _ _ _ _ more (made_stays (λ x. DelHost x.0 x.1) del_host.field bytes more)
+    (stays_if (eqb tag 5) _ _ _ _ more (made_stays (λ x. SetGlobal x.0 x.1) set_global.field bytes more)
+    (stays_if (eqb tag 6) _ _ _ _ more (made_stays (λ x. SetChan x.0 x.1.0 x.1.1) set_chan.field bytes more)
+    (stays_if (eqb tag 7) _ _ _ _ more (made_stays (λ x. SetBot x.0 x.1) set_bot.field bytes more)
+    (stays_if (eqb tag 8) _ _ _ _ more (made_stays ban_change add_ban.field bytes more)
+    (stays_if (eqb tag 9) _ _ _ _ more (made_stays (λ x. DelBan x.0 x.1) del_ban.field bytes more) refl))))))))
+
+-- ---- changes
+
+pub change_sort : IsSort change_at change_bytes IsGoodChange
+unfolding change_at fields_at set_chan_at add_ban_at byte_at
+change_sort = record { takes = takes; again = again; stays = stays }
+  where
+    takes : (bytes : List ℕ) (x : Change) (rest : List ℕ) → IsBytes bytes → change_at bytes ≡ Ok (x, rest)
+        → Takes bytes (change_bytes x) rest × IsGoodChange x
+    takes [] x rest fits e = absurd cc
+    takes (tag ∷ bytes) x rest fits e = fields_take tag bytes x rest (λ i. fits (suc i)) e
+
+    of : {A : Type 0} {read : List ℕ → Reading A} {spelling : A → List ℕ} {IsGood : A → Type 0} (change_of : A → Change) → IsField read spelling IsGood
+        → (x : A) (rest : List ℕ) → IsGood x → made change_of (read (spelling x ++ rest)) ≡ Ok (change_of x, rest)
+    of change_of field x rest good = ap (made change_of) (field.laws.again x rest good)
+
+    bits_pass : (bits : ℕ) → bits < 2 ^ 52 → nat_lt bits (2 ^ 52) ≡ true
+    bits_pass bits lt = grind (arith, nat_tests)
+
+    again : (x : Change) (rest : List ℕ) → IsGoodChange x → change_at (change_bytes x ++ rest) ≡ Ok (x, rest)
+    again (AddUser handle) rest good = of AddUser handle_field handle rest (fields_pass (AddUser handle) good.shape)
+    again (DelUser handle) rest good = of DelUser handle_field handle rest (fields_pass (DelUser handle) good.shape)
+    again (AddHost handle mask) rest good = of (λ x. AddHost x.0 x.1) handle_and_mask_field (handle, mask) rest (fields_pass (AddHost handle mask) good.shape)
+    again (DelHost handle mask) rest good = of (λ x. DelHost x.0 x.1) handle_and_mask_field (handle, mask) rest (fields_pass (DelHost handle mask) good.shape)
+    again (SetGlobal handle bits) rest good =
+        of (λ x. SetGlobal x.0 x.1) handle_and_flags_field (handle, bits) rest (fields_pass (SetGlobal handle bits) good.shape, bits_pass bits good.room)
+    again (SetChan handle channel bits) rest good =
+        let p = fields_pass (SetChan handle channel bits) good.shape in
+        of (λ x. SetChan x.0 x.1.0 x.1.1) set_chan.field (handle, (channel, bits)) rest (p.0, (p.1, bits_pass bits good.room))
+    again (SetBot handle bits) rest good =
+        of (λ x. SetBot x.0 x.1) handle_and_flags_field (handle, bits) rest (fields_pass (SetBot handle bits) good.shape, bits_pass bits good.room)
+    again (AddBan channel mask creator expires comment) rest good =
+        let p = fields_pass (AddBan channel mask creator expires comment) good.shape in
+        of ban_change ban_field (new_ban channel mask creator expires comment) rest
+        (record { channel = p.0; mask = p.1; creator = p.2; expires = good.room; comment = p.3 })
+    again (DelBan channel mask) rest good = of (λ x. DelBan x.0 x.1) channel_and_mask_field (channel, mask) rest
+        (fields_pass (DelBan channel mask) good.shape)
+
+    stays : (bytes more : List ℕ) → Stays (change_at bytes) (change_at (bytes ++ more)) more
+    stays bytes more = stays_bind (byte_at bytes) _ _ more (byte_field.laws.stays bytes more) (λ tag. fields_stay tag.0 tag.1 more)

@@ -1,0 +1,12 @@
+pub mod ShapeLaws
+pub mod Steps
+pub mod FieldLaws
+pub mod ChangeLaws
+pub mod SortLaws
+pub mod ItemSteps
+pub mod HeldLaws
+pub mod ItemLaws
+pub mod NewLaws
+pub mod RecordLaws
+pub mod TagLaws
+pub mod PartLaws

@@ -1,0 +1,10 @@
+pub mod Codes
+pub mod Fields
+pub mod Answers
+pub mod Changes
+pub mod Lengths
+pub mod Bans
+pub mod Laws
+pub mod Records
+pub mod Users
+pub mod FaultBytes

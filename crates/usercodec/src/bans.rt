@@ -1,0 +1,76 @@
+// The fields of a ban, as a change adds it and as a record holds it.
+ghost use Rattle.std.specs.Prelude.{◌≡◌, ◌++◌, ◌∷◌, OnOk, true};
+ghost use Rattle.userfile.specs.Together.{is_good_ban};
+ghost use Rattle.usercodec.specs.Bans.{ban_of};
+ghost use Rattle.usercodec.specs.Answers.{Gives};
+ghost use Rattle.usercodec.specs.Changes.{ban_bytes, ban_at};
+
+use crate::fault::CodecError;
+use crate::reader::Reader;
+use crate::user_fields::hostmask;
+use crate::writer::{put_byte, put_number, put_text};
+use bytetext::{NoMemory, Text};
+use std::alloc::Global;
+use userfile::Ban;
+
+// A ban whose texts still lie in the bytes that were read.
+#[derive(Drop)]
+pub(crate) struct BanFields<'a> {
+    pub(crate) channel: &'a [u8],
+    pub(crate) mask: &'a [u8],
+    pub(crate) creator: &'a [u8],
+    pub(crate) expires: u64,
+    pub(crate) comment: &'a [u8],
+}
+
+/// Writes the one spelling of a ban's record after some bytes.
+///
+/// # Errors
+/// `NoMemory` where room for it is refused; a part of it may then stand after the bytes.
+pub fn put_ban(out: &mut Vec<u8>, ban: &Ban) -> Result<(), NoMemory>
+    requires { is_good_ban ban.now ≡ true }
+    ensures { OnOk result (out.new.items ≡ out.old.items ++ 2 ∷ ban_bytes ban.now) }
+{
+    put_byte(out, 2)?;
+    put_text(out, ban.channel.as_bytes())?;
+    put_text(out, ban.mask.as_bytes())?;
+    put_text(out, ban.creator.as_bytes())?;
+    put_number(out, ban.expires)?;
+    put_text(out, ban.comment.as_bytes())
+}
+
+#[tactic(auto, unfolding(crate::specs::Changes::ban_at))]
+pub(crate) fn ban_fields<'a>(reader: &mut Reader<'a>) -> Result<BanFields<'a>, CodecError>
+    ensures { Gives (λ fields. (ban_of fields, reader.new)) result (ban_at reader.old) }
+{
+    let channel = reader.ban_channel()?;
+    let mask = reader.hostmask()?;
+    let creator = reader.handle()?;
+    let expires = reader.number()?;
+    let comment = reader.comment()?;
+    Ok(BanFields {
+        channel,
+        mask,
+        creator,
+        expires,
+        comment,
+    })
+}
+
+impl<'a> BanFields<'a> {
+    ghost use Rattle.std.specs.Prelude.{◌≡◌, IfOk};
+    ghost use Rattle.usercodec.specs.Bans.{ban_of};
+
+    // The ban of these fields.
+    pub(crate) fn copy(&self, alloc: Global) -> Result<Ban, NoMemory>
+        ensures { IfOk result (λ ban. ban ≡ ban_of self.now) }
+    {
+        Ok(Ban {
+            channel: Text::from_slice(alloc, self.channel)?,
+            mask: hostmask(alloc, self.mask)?,
+            creator: Text::from_slice(alloc, self.creator)?,
+            expires: self.expires,
+            comment: Text::from_slice(alloc, self.comment)?,
+        })
+    }
+}

@@ -1,0 +1,130 @@
+// The change at the front of some bytes. All fields are read before the first copy, so memory is asked for only where
+// the bytes are a change.
+ghost use Rattle.std.specs.Prelude.{◌≡◌};
+ghost use Rattle.usercodec.specs.Answers.{Makes};
+ghost use Rattle.usercodec.specs.Fields.{handle_at};
+ghost use Rattle.usercodec.specs.Changes.{handle_and_mask_at, handle_and_flags_at, channel_and_mask_at};
+ghost use Rattle.usercodec.specs.Changes.{set_chan_at, add_ban_at, fields_at, change_at};
+
+use crate::bans::ban_fields;
+use crate::fault::{CodecError, CodecFault};
+use crate::reader::Reader;
+use bytetext::{Failure, Text};
+use flagexpr::Flags;
+use std::alloc::Global;
+use userfile::Change;
+
+#[tactic(auto, unfolding(crate::specs::Changes::change_at))]
+pub(crate) fn change(alloc: Global, reader: &mut Reader<'_>) -> Result<Change, CodecError>
+    ensures { Makes (λ change. (change, reader.new)) result (change_at reader.old) }
+{
+    let tag = reader.byte()?;
+    fields(alloc, tag, reader)
+}
+
+#[tactic(auto, unfolding(crate::specs::Changes::fields_at))]
+fn fields(alloc: Global, tag: u8, reader: &mut Reader<'_>) -> Result<Change, CodecError>
+    ensures { Makes (λ change. (change, reader.new)) result (fields_at tag reader.old) }
+{
+    match tag {
+        1 => {
+            let handle = handle(alloc, reader)?;
+            Ok(Change::AddUser { handle })
+        }
+        2 => {
+            let handle = handle(alloc, reader)?;
+            Ok(Change::DelUser { handle })
+        }
+        3 => {
+            let (handle, mask) = handle_and_mask(alloc, reader)?;
+            Ok(Change::AddHost { handle, mask })
+        }
+        4 => {
+            let (handle, mask) = handle_and_mask(alloc, reader)?;
+            Ok(Change::DelHost { handle, mask })
+        }
+        5 => {
+            let (handle, flags) = handle_and_flags(alloc, reader)?;
+            Ok(Change::SetGlobal { handle, flags })
+        }
+        6 => set_chan(alloc, reader),
+        7 => {
+            let (handle, flags) = handle_and_flags(alloc, reader)?;
+            Ok(Change::SetBot { handle, flags })
+        }
+        8 => add_ban(alloc, reader),
+        9 => {
+            let (channel, mask) = channel_and_mask(alloc, reader)?;
+            Ok(Change::DelBan { channel, mask })
+        }
+        _ => Err(Failure::Refused(CodecFault::BadTag)),
+    }
+}
+
+fn handle(alloc: Global, reader: &mut Reader<'_>) -> Result<Text, CodecError>
+    ensures { Makes (λ text. (text, reader.new)) result (handle_at reader.old) }
+{
+    let handle = reader.handle()?;
+    Ok(Text::from_slice(alloc, handle)?)
+}
+
+#[tactic(auto, unfolding(crate::specs::Changes::handle_and_mask_at))]
+fn handle_and_mask(alloc: Global, reader: &mut Reader<'_>) -> Result<(Text, Text), CodecError>
+    ensures { Makes (λ pair. (pair, reader.new)) result (handle_and_mask_at reader.old) }
+{
+    let handle = reader.handle()?;
+    let mask = reader.hostmask()?;
+    Ok((
+        Text::from_slice(alloc, handle)?,
+        Text::from_slice(alloc, mask)?,
+    ))
+}
+
+#[tactic(auto, unfolding(crate::specs::Changes::handle_and_flags_at))]
+fn handle_and_flags(alloc: Global, reader: &mut Reader<'_>) -> Result<(Text, Flags), CodecError>
+    ensures { Makes (λ pair. (pair, reader.new)) result (handle_and_flags_at reader.old) }
+{
+    let handle = reader.handle()?;
+    let flags = reader.flags()?;
+    Ok((Text::from_slice(alloc, handle)?, flags))
+}
+
+#[tactic(auto, unfolding(crate::specs::Changes::channel_and_mask_at))]
+fn channel_and_mask(alloc: Global, reader: &mut Reader<'_>) -> Result<(Text, Text), CodecError>
+    ensures { Makes (λ pair. (pair, reader.new)) result (channel_and_mask_at reader.old) }
+{
+    let channel = reader.ban_channel()?;
+    let mask = reader.hostmask()?;
+    Ok((
+        Text::from_slice(alloc, channel)?,
+        Text::from_slice(alloc, mask)?,
+    ))
+}
+
+#[tactic(auto, unfolding(crate::specs::Changes::set_chan_at))]
+fn set_chan(alloc: Global, reader: &mut Reader<'_>) -> Result<Change, CodecError>
+    ensures { Makes (λ change. (change, reader.new)) result (set_chan_at reader.old) }
+{
+    let handle = reader.handle()?;
+    let channel = reader.channel()?;
+    let flags = reader.flags()?;
+    Ok(Change::SetChan {
+        handle: Text::from_slice(alloc, handle)?,
+        channel: Text::from_slice(alloc, channel)?,
+        flags,
+    })
+}
+
+#[tactic(auto, unfolding(crate::specs::Changes::add_ban_at))]
+fn add_ban(alloc: Global, reader: &mut Reader<'_>) -> Result<Change, CodecError>
+    ensures { Makes (λ change. (change, reader.new)) result (add_ban_at reader.old) }
+{
+    let ban = ban_fields(reader)?;
+    Ok(Change::AddBan {
+        channel: Text::from_slice(alloc, ban.channel)?,
+        mask: Text::from_slice(alloc, ban.mask)?,
+        creator: Text::from_slice(alloc, ban.creator)?,
+        expires: ban.expires,
+        comment: Text::from_slice(alloc, ban.comment)?,
+    })
+}

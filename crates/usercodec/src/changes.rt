@@ -1,0 +1,137 @@
+// Changes as bytes.
+ghost use Rattle.std.specs.Prelude.{◌≡◌, ℕ, List, ◌++◌, ◌∷◌, length, take, None, IfOk, OnOk};
+ghost use Rattle.std.specs.Int.{w64};
+ghost use Rattle.userfile.specs.Apply.{bad_shape};
+ghost use Rattle.usercodec.specs.Fields.{number, text, flags};
+ghost use Rattle.usercodec.specs.Lengths.{IsShort, ChangeIsShort};
+ghost use Rattle.userfile.specs.declared.change.Change.{Change};
+ghost use Rattle.usercodec.specs.Answers.{Decodes, Reads};
+ghost use Rattle.usercodec.specs.Changes.{change_bytes, IsGoodChange, change_at};
+
+use crate::change_fields::change;
+use crate::decoded::Decoded;
+use crate::fault::CodecError;
+use crate::reader::Reader;
+use crate::writer::{put_byte, put_flags, put_number, put_text};
+use bytetext::{NoMemory, Text};
+use flagexpr::Flags;
+use std::alloc::Global;
+use userfile::Change;
+
+/// The one spelling of a change. Its shape is to be good: `userfile::shape` tests that.
+///
+/// # Errors
+/// `NoMemory` where room for it is refused.
+pub fn write_change(alloc: Global, change: &Change) -> Result<Vec<u8>, NoMemory>
+    requires { bad_shape change.now ≡ None }
+    ensures { IfOk result (λ bytes. bytes.items ≡ change_bytes change.now) }
+{
+    let mut bytes = Vec::new(alloc);
+    put_change(&mut bytes, change)?;
+    Ok(bytes)
+}
+
+/// Writes the one spelling of a change after some bytes.
+///
+/// # Errors
+/// `NoMemory` where room for it is refused; a part of it may then stand after the bytes.
+pub fn put_change(out: &mut Vec<u8>, change: &Change) -> Result<(), NoMemory>
+    requires { bad_shape change.now ≡ None }
+    ensures { OnOk result (out.new.items ≡ out.old.items ++ change_bytes change.now) }
+{
+    put_fields(out, change)
+}
+
+// The same for any change whose texts have lengths of one byte.
+fn put_fields(out: &mut Vec<u8>, change: &Change) -> Result<(), NoMemory>
+    requires { ChangeIsShort change.now }
+    ensures { OnOk result (out.new.items ≡ out.old.items ++ change_bytes change.now) }
+{
+    match change {
+        Change::AddUser { handle } => put_one(out, 1, handle),
+        Change::DelUser { handle } => put_one(out, 2, handle),
+        Change::AddHost { handle, mask } => put_two(out, 3, handle, mask),
+        Change::DelHost { handle, mask } => put_two(out, 4, handle, mask),
+        Change::SetGlobal { handle, flags } => put_set(out, 5, handle, *flags),
+        Change::SetChan {
+            handle,
+            channel,
+            flags,
+        } => {
+            put_two(out, 6, handle, channel)?;
+            put_flags(out, *flags)
+        }
+        Change::SetBot { handle, flags } => put_set(out, 7, handle, *flags),
+        Change::AddBan {
+            channel,
+            mask,
+            creator,
+            expires,
+            comment,
+        } => {
+            put_two(out, 8, channel, mask)?;
+            put_text(out, creator.as_bytes())?;
+            put_number(out, *expires)?;
+            put_text(out, comment.as_bytes())
+        }
+        Change::DelBan { channel, mask } => put_two(out, 9, channel, mask),
+    }
+}
+
+// A tag and a text.
+fn put_one(out: &mut Vec<u8>, tag: u8, first: &Text) -> Result<(), NoMemory>
+    requires { IsShort first.now }
+    ensures { OnOk result (out.new.items ≡ out.old.items ++ tag ∷ text first.now) }
+{
+    put_byte(out, tag)?;
+    put_text(out, first.as_bytes())
+}
+
+// A tag and two texts.
+fn put_two(out: &mut Vec<u8>, tag: u8, first: &Text, second: &Text) -> Result<(), NoMemory>
+    requires first { IsShort first.now }
+    requires second { IsShort second.now }
+    ensures { OnOk result (out.new.items ≡ out.old.items ++ tag ∷ (text first.now ++ text second.now)) }
+{
+    put_one(out, tag, first)?;
+    put_text(out, second.as_bytes())
+}
+
+// A tag, a text and flags.
+fn put_set(out: &mut Vec<u8>, tag: u8, handle: &Text, letters: Flags) -> Result<(), NoMemory>
+    requires { IsShort handle.now }
+    ensures { OnOk result (out.new.items ≡ out.old.items ++ tag ∷ (text handle.now ++ flags letters)) }
+{
+    put_one(out, tag, handle)?;
+    put_flags(out, letters)
+}
+
+/// The change at the front of some bytes.
+///
+/// # Errors
+/// `Refused` with the first fault of the bytes from the left: [`CodecFault::Short`](crate::CodecFault::Short),
+/// `BadTag` or `NotCanonical`. `NoMemory` where there is none and room for the change's texts is refused.
+pub fn read_change(alloc: Global, bytes: &[u8]) -> Result<Decoded<Change>, CodecError>
+    ensures good { IfOk result (λ read. IsGoodChange read.value) }
+    // What is read is spelled at the front of the bytes.
+    ensures front { IfOk result (λ read. take read.used bytes.now ≡ change_bytes read.value) }
+    ensures used { IfOk result (λ read. read.used ≡ length (change_bytes read.value)) }
+    // What is spelled at the front of the bytes is read.
+    ensures only { (change : Change) (rest : List ℕ) → IsGoodChange change
+        → bytes.now ≡ change_bytes change ++ rest → Reads result change (length (change_bytes change)) }
+    // Which fault it is.
+    ensures exact { Decodes bytes.now result (change_at bytes.now) }
+{
+    decode(alloc, bytes)
+}
+
+fn decode(alloc: Global, bytes: &[u8]) -> Result<Decoded<Change>, CodecError>
+    ensures { Decodes bytes.now result (change_at bytes.now) }
+{
+    let mut reader = Reader::new(bytes);
+    let value = change(alloc, &mut reader)?;
+    Ok(Decoded {
+        value,
+        used: bytes.len() - reader.len(),
+    })
+}

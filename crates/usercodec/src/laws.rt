@@ -1,0 +1,36 @@
+// What the spellings promise to whoever frames or stores them, proved of the definitions.
+ghost use Rattle.std.specs.Prelude.{◌≡◌, ◌↔◌, ℕ, List, ◌∷◌, ◌++◌, Err};
+ghost use Rattle.userfile.specs.declared.change.Change.{Change};
+ghost use Rattle.usercodec.specs.declared.records.Record.{Record};
+ghost use Rattle.usercodec.specs.declared.fault.CodecFault.TheVariants.{Short, BadTag};
+ghost use Rattle.usercodec.specs.Changes.{change_bytes, IsGoodChange, is_change_tag, change_at};
+ghost use Rattle.usercodec.specs.Laws.{Stays, BeginsUnknown};
+ghost use Rattle.usercodec.specs.Records.{record_bytes, IsGoodRecord, is_record_tag, record_at};
+
+/// The laws of the spellings of changes. It does nothing: what it ensures holds of any changes and bytes.
+pub fn laws_of_changes()
+    // No spelling begins another, so each change has one, whatever follows it.
+    ensures apart { (a b : Change) (x y : List ℕ) → IsGoodChange a → IsGoodChange b
+        → change_bytes a ++ x ≡ change_bytes b ++ y → (a ≡ b) × (x ≡ y) }
+    // A spelling that is cut is too short.
+    ensures cut { (change : Change) (front : List ℕ) (next : ℕ) (rest : List ℕ) → IsGoodChange change
+        → change_bytes change ≡ front ++ next ∷ rest → change_at front ≡ Err Short }
+    // More bytes change nothing, unless bytes were missing.
+    ensures stays { (bytes more : List ℕ) → Stays (change_at bytes) (change_at (bytes ++ more)) more }
+    // Only the tag is told as a bad tag.
+    ensures tag { (bytes : List ℕ) → (change_at bytes ≡ Err BadTag) ↔ BeginsUnknown is_change_tag bytes }
+{}
+
+/// The laws of the spellings of records. It does nothing: what it ensures holds of any records and bytes.
+pub fn laws_of_records()
+    // No spelling begins another, so each record has one, whatever follows it.
+    ensures apart { (a b : Record) (x y : List ℕ) → IsGoodRecord a → IsGoodRecord b
+        → record_bytes a ++ x ≡ record_bytes b ++ y → (a ≡ b) × (x ≡ y) }
+    // A spelling that is cut is too short.
+    ensures cut { (value : Record) (front : List ℕ) (next : ℕ) (rest : List ℕ) → IsGoodRecord value
+        → record_bytes value ≡ front ++ next ∷ rest → record_at front ≡ Err Short }
+    // More bytes change nothing, unless bytes were missing.
+    ensures stays { (bytes more : List ℕ) → Stays (record_at bytes) (record_at (bytes ++ more)) more }
+    // Only the tag is told as a bad tag.
+    ensures tag { (bytes : List ℕ) → (record_at bytes ≡ Err BadTag) ↔ BeginsUnknown is_record_tag bytes }
+{}

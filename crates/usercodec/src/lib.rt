@@ -1,0 +1,58 @@
+//! Changes and records of a userfile as bytes, one spelling for each.
+//!
+//! A spelling is a byte that is the value's tag, and the value's fields one after the other. The format is our own.
+//!
+//! | field | bytes |
+//! |---|---|
+//! | a text (handle, mask, channel, comment) | a byte that is its length, and its bytes |
+//! | flags | eight bytes, the most significant first: bits 0 to 25 are `a` to `z`, bits 26 to 51 are `A` to `Z` |
+//! | a moment | eight bytes, the most significant first |
+//! | a list | a byte that is its count, and its items |
+//!
+//! | tag | change | fields |
+//! |---|---|---|
+//! | 1, 2 | adds, deletes a user | handle |
+//! | 3, 4 | adds, deletes a hostmask | handle, mask |
+//! | 5 | sets the flags that hold everywhere | handle, flags |
+//! | 6 | sets the flags on a channel | handle, channel, flags |
+//! | 7 | sets the flags as a bot | handle, flags |
+//! | 8 | adds a ban | channel (the empty text for all), mask, creator, moment of the end, comment |
+//! | 9 | deletes a ban | channel, mask |
+//!
+//! | tag | record | fields |
+//! |---|---|---|
+//! | 1 | a user | handle, list of masks, flags everywhere, list of channels with their flags, flags as a bot |
+//! | 2 | a ban | those of a change that adds one |
+//!
+//! Reading takes a value from the front of some bytes and says how many it used. It accepts nothing but the one
+//! spelling of a value that a userfile may hold, so what was read is written back byte for byte. [`laws_of_changes`]
+//! and [`laws_of_records`] say what follows for whoever frames or stores values: no spelling begins another.
+//!
+//! ```text
+//! let bytes = write_change(alloc, &Change::AddUser { handle })?;    // 01 05 a l i c e
+//! let read = read_change(alloc, &bytes)?;                           // the change, and 7 bytes used
+//! read_change(alloc, &bytes[..4])                                   // X1: read the rest and try again
+//! ```
+#![tactic(auto)]
+
+mod bans;
+mod change_fields;
+mod changes;
+mod decoded;
+mod fault;
+mod fault_byte;
+mod laws;
+mod reader;
+mod records;
+mod user_fields;
+mod users;
+mod writer;
+
+pub use crate::bans::put_ban;
+pub use crate::changes::{put_change, read_change, write_change};
+pub use crate::decoded::Decoded;
+pub use crate::fault::{CodecError, CodecFault};
+pub use crate::fault_byte::{byte_of_fault, fault_of_byte};
+pub use crate::laws::{laws_of_changes, laws_of_records};
+pub use crate::records::{Record, put_record, read_record, write_record};
+pub use crate::users::put_user;

@@ -1,0 +1,64 @@
+// Users, written as records.
+ghost use Rattle.std.specs.Prelude.{◌≡◌, ◌≤◌, ◌++◌, ◌∷◌, length, OnOk, true, false};
+ghost use Rattle.std.specs.List.{flat_map, list_all};
+ghost use Rattle.userfile.specs.Together.{is_user, is_over, is_entry};
+ghost use Rattle.usercodec.specs.Fields.{text, counted};
+ghost use Rattle.usercodec.specs.Records.{entry_bytes, user_bytes};
+
+use crate::writer::{put_byte, put_flags, put_text};
+use bytetext::NoMemory;
+use userfile::{ChannelFlags, Hostmask, User};
+
+/// Writes the one spelling of a user's record after some bytes.
+///
+/// # Errors
+/// `NoMemory` where room for it is refused; a part of it may then stand after the bytes.
+pub fn put_user(out: &mut Vec<u8>, user: &User) -> Result<(), NoMemory>
+    requires own { is_user user.now ≡ true }
+    requires few { is_over user.now ≡ false }
+    ensures { OnOk result (out.new.items ≡ out.old.items ++ 1 ∷ user_bytes user.now) }
+{
+    put_byte(out, 1)?;
+    put_text(out, user.handle.as_bytes())?;
+    put_masks(out, user.masks.as_slice())?;
+    put_flags(out, user.global)?;
+    put_entries(out, user.channels.as_slice())?;
+    put_flags(out, user.bot)
+}
+
+fn put_masks(out: &mut Vec<u8>, masks: &[Hostmask]) -> Result<(), NoMemory>
+    requires { length masks.now ≤ 16 }
+    ensures { OnOk result (out.new.items ≡ out.old.items ++ counted text masks.now) }
+{
+    put_byte(out, masks.len() as u8)?;
+    for mask in masks {
+        put_mask(out, mask)?;
+    }
+    Ok(())
+}
+
+fn put_mask(out: &mut Vec<u8>, mask: &Hostmask) -> Result<(), NoMemory>
+    ensures { OnOk result (out.new.items ≡ out.old.items ++ text mask.now) }
+{
+    put_text(out, mask.as_bytes())
+}
+
+fn put_entries(out: &mut Vec<u8>, entries: &[ChannelFlags]) -> Result<(), NoMemory>
+    requires few { length entries.now ≤ 16 }
+    requires good { list_all is_entry entries.now ≡ true }
+    ensures { OnOk result (out.new.items ≡ out.old.items ++ counted entry_bytes entries.now) }
+{
+    put_byte(out, entries.len() as u8)?;
+    for entry in entries {
+        put_entry(out, entry)?;
+    }
+    Ok(())
+}
+
+fn put_entry(out: &mut Vec<u8>, entry: &ChannelFlags) -> Result<(), NoMemory>
+    requires { is_entry entry.now ≡ true }
+    ensures { OnOk result (out.new.items ≡ out.old.items ++ entry_bytes entry.now) }
+{
+    put_text(out, entry.channel.as_bytes())?;
+    put_flags(out, entry.flags)
+}
