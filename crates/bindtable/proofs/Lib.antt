@@ -1,0 +1,10 @@
+pub mod WordLemmas
+pub mod MaskLemmas
+pub mod OnceLemmas
+pub mod KindLemmas
+pub mod ApartLemmas
+pub mod IndexLemmas
+pub mod SoundLemmas
+pub mod TableLemmas
+pub mod BehindLemmas
+pub mod CandidateLemmas

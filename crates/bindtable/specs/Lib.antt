@@ -1,0 +1,9 @@
+pub mod Kinds
+pub mod Tables
+pub mod Calls
+pub mod Words
+pub mod Masks
+pub mod Index
+pub mod Sound
+pub mod Wishes
+pub mod Behind

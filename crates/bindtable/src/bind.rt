@@ -1,0 +1,37 @@
+// One bind, as it was given.
+use bytetext::{NoMemory, Seq, Text, TryCopy};
+use procstore::Kind;
+use std::alloc::Global;
+
+/// A bind: a proc, and the events that it is called for.
+#[derive(Debug, Drop)]
+pub struct Bind {
+    /// From 1, rising in the order in which binds are made. A number is never used again.
+    pub number: u32,
+    /// The kind of event.
+    pub kind: Kind,
+    /// The flag expression that a person has to meet, as it was given last. A raw bind ignores it.
+    pub flags: Text,
+    /// The keyword of a msg or pub bind, and otherwise the mask, as it was first given.
+    pub mask: Text,
+    /// The name of the proc.
+    pub proc: Text,
+}
+
+impl TryCopy for Bind {
+    fn copy(&self, alloc: Global) -> Result<Bind, NoMemory> {
+        let flags = self.flags.copy(alloc)?;
+        let mask = self.mask.copy(alloc)?;
+        let proc = self.proc.copy(alloc)?;
+        Ok(Bind {
+            number: self.number,
+            kind: self.kind,
+            flags,
+            mask,
+            proc,
+        })
+    }
+}
+
+/// A list of binds.
+pub type Binds = Seq<Bind>;

@@ -1,0 +1,138 @@
+// The binds that an event calls, one after another.
+ghost use Rattle.std.specs.Prelude.{◌≡◌, ◌==◌, [], ◌∷◌, drop, find, slice_get, MatchOption, length, ◌<◌, ◌+◌};
+ghost use Rattle.std.specs.Option.{option_copied};
+ghost use Rattle.wildmask.specs.Signatures.{text_signature};
+ghost use Rattle.bindtable.specs.Calls.{called, seen};
+ghost use Rattle.bindtable.specs.Behind.{AreKnown, HaveRisen, Tells, behind, bind_of};
+
+use crate::bind::Bind;
+use crate::event::Event;
+use crate::held::Held;
+use crate::index::Entry;
+use std::marker::Model;
+use wildmask::Signature;
+
+/// The binds that an event calls and that are still to come, oldest first.
+#[derive(Drop)]
+pub struct Called<'t, 'e> {
+    held: &'t [Held],
+    entries: &'t [Entry],
+    event: Event<'e>,
+    // the pairs of bytes that the subject has
+    pairs: Signature,
+}
+
+impl<'t, 'e> Model for Called<'t, 'e> {
+    ghost use Rattle.std.specs.Prelude.{◌≡◌, List};
+    ghost use Rattle.wildmask.specs.Signatures.{text_signature};
+    ghost use Rattle.bindtable.specs.declared.bind.Bind.{Bind};
+    ghost use Rattle.bindtable.specs.Calls.{called, seen};
+    ghost use Rattle.bindtable.specs.Behind.{AreKnown, HaveRisen, behind};
+
+    ghost Value = { List Bind };
+
+    ghost view = { λ c. called (seen c.event) (behind c.held.now c.entries.now) };
+
+    ghost invariant = { λ c. HaveRisen c.held.now × AreKnown c.held.now c.entries.now
+        × (c.pairs ≡ text_signature c.event.subject.now) };
+}
+
+impl<'t, 'e> Called<'t, 'e> {
+    ghost use Rattle.std.specs.Prelude.{◌≡◌, drop, slice_get};
+    ghost use Rattle.std.specs.Option.{option_copied};
+    ghost use Rattle.bindtable.specs.Calls.{called, seen};
+    ghost use Rattle.bindtable.specs.Behind.{AreKnown, HaveRisen, behind};
+
+    // The binds behind these entries that an event calls.
+    pub(crate) fn of(held: &'t [Held], entries: &'t [Entry], event: &Event<'e>) -> Called<'t, 'e>
+        requires risen { HaveRisen held.now }
+        requires known { AreKnown held.now entries.now }
+        ensures { result ≡ called (seen event.now) (behind held.now entries.now) }
+    {
+        Called {
+            held,
+            entries,
+            event: Event {
+                kind: event.kind,
+                subject: event.subject,
+                global: event.global,
+                channel: event.channel,
+                bot: event.bot,
+            },
+            pairs: Signature::of(event.subject),
+        }
+    }
+
+    /// The next bind that is called, if there is one left.
+    pub fn next(&mut self) -> Option<&'t Bind>
+        ensures first { option_copied result ≡ slice_get self.old 0 }
+        ensures rest { self.new ≡ drop 1 self.old }
+    {
+        match first_called(self.held, self.entries, &self.event, self.pairs) {
+            Some((at, bind)) => {
+                self.entries = &self.entries[at + 1..];
+                Some(bind)
+            }
+            None => {
+                self.entries = &[];
+                None
+            }
+        }
+    }
+}
+
+// The first bind behind entries that an event calls, and the place of its entry.
+fn first_called<'a>(
+    held: &'a [Held],
+    entries: &[Entry],
+    event: &Event,
+    pairs: Signature,
+) -> Option<(usize, &'a Bind)>
+    requires risen { HaveRisen held.now }
+    requires known { AreKnown held.now entries.now }
+    requires pairs { pairs ≡ text_signature event.now.subject.now }
+    ensures { MatchOption result (called (seen event.now) (behind held.now entries.now) ≡ [])
+        (λ p. (p.0 < length entries.now) × (called (seen event.now) (behind held.now entries.now)
+        ≡ p.1.now ∷ called (seen event.now) (behind held.now (drop (p.0 + 1) entries.now)))) }
+{
+    for (at, entry) in entries.iter().enumerate() {
+        if let Some(bind) = if_called(held, entry, event, pairs) {
+            return Some((at, bind));
+        }
+    }
+    None
+}
+
+// The bind behind an entry, if the event calls it. A bind that needs what the subject lacks isn't looked at.
+fn if_called<'a>(
+    held: &'a [Held],
+    entry: &Entry,
+    event: &Event,
+    pairs: Signature,
+) -> Option<&'a Bind>
+    requires risen { HaveRisen held.now }
+    requires told { Tells entry.now.needs (bind_of entry.now.number held.now) }
+    requires pairs { pairs ≡ text_signature event.now.subject.now }
+    ensures { option_copied result ≡ slice_get (called (seen event.now) (behind held.now (entry.now ∷ []))) 0 }
+{
+    if !entry.needs.is_within(pairs) {
+        return None;
+    }
+    let one = held_of(held, entry.number)?;
+    if one.is_called(event) {
+        Some(one.bind())
+    } else {
+        None
+    }
+}
+
+// The bind of a number.
+pub(crate) fn held_of(held: &[Held], number: u32) -> Option<&Held>
+    requires { HaveRisen held.now }
+    ensures { option_copied result ≡ bind_of number held.now }
+{
+    match held.binary_search_by_key(&number, |one| one.number()) {
+        Ok(at) => Some(&held[at]),
+        Err(_) => None,
+    }
+}

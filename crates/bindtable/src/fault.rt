@@ -1,0 +1,40 @@
+// Why a table refuses a bind.
+ghost use Rattle.std.specs.Prelude.{◌≡◌};
+ghost use Rattle.bindtable.specs.Tables.{code_of};
+
+use bytetext::Failure;
+use thiserror::Error;
+
+/// Why a bind is not made or not taken away, in the order in which it is tested.
+#[derive(Clone, Copy, Debug, PartialEq, Eq, Error)]
+pub enum BindFault {
+    /// B1: the flags are no flag expression.
+    #[error("write the flags as *, or as letters with + - and | or & between parts")]
+    BadFlags,
+    /// B2: the mask is empty or has more than 120 bytes, or it holds a space though the kind goes by one word.
+    #[error("give a mask of 1 to 120 bytes, for msg and pub one word without a space")]
+    BadMask,
+    /// B4: 500 binds are held and none is replaced, or no number is left.
+    #[error("unbind something first: the table is full, or its numbers are spent")]
+    Full,
+    /// B5: no bind has this kind, mask and proc.
+    #[error("no such bind: give the kind, the mask and the proc of one that is held")]
+    NoSuchBind,
+}
+
+impl BindFault {
+    /// The short code that transcripts print: `B1`, `B2`, `B4` or `B5`.
+    pub fn code(self) -> &'static str
+        ensures { result.now ≡ code_of self }
+    {
+        match self {
+            BindFault::BadFlags => "B1",
+            BindFault::BadMask => "B2",
+            BindFault::Full => "B4",
+            BindFault::NoSuchBind => "B5",
+        }
+    }
+}
+
+/// Why [`BindTable::bind`](crate::BindTable::bind) made no bind: a fault, or out of memory where there is none.
+pub type BindError = Failure<BindFault>;

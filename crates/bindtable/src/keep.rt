@@ -1,0 +1,211 @@
+// The binds and the index of one kind, changed together.
+ghost use Rattle.std.specs.Prelude.{◌≡◌, ◌<◌, ◌≤◌, true, false, not, [], ◌∷◌, ◌++◌, count_by, position};
+ghost use Rattle.std.specs.Prelude.{slice_index_or, find, OnOk, OnErr, IfOk};
+ghost use Rattle.std.specs.Option.{option_map};
+ghost use Rattle.std.specs.List.{remove, list_any};
+ghost use Rattle.std.specs.Vec.{vec_len, vec_capacity};
+ghost use Rattle.indexmap.specs.IndexSet.{spare};
+ghost use Rattle.bindtable.specs.declared.bind.Bind.{Bind};
+ghost use Rattle.bindtable.specs.Kinds.{is_kind, is_single};
+ghost use Rattle.bindtable.specs.Index.{IsIndexOf, AreIndexed};
+ghost use Rattle.bindtable.specs.Sound.{AreApart};
+ghost use Rattle.bindtable.specs.Tables.{count_left, is_replaced, is_such, without_replaced, without_such};
+
+use crate::held::Held;
+use crate::index::KindIndex;
+use crate::kinds::{KINDS, is_kind, is_single, place_of};
+use bytetext::{NoMemory, TryCopy};
+use procstore::Kind;
+use rfccase::fold_text;
+use std::alloc::Global;
+
+// The place of the bind of this kind, mask and proc.
+pub(crate) fn place_of_such(held: &[Held], kind: Kind, mask: &[u8], proc: &[u8]) -> Option<usize>
+    ensures { result ≡ position (is_such kind mask.now proc.now) held.now }
+{
+    held.iter().position(|one| one.is_such(kind, mask, proc))
+}
+
+// The place of the bind that one of this kind and mask replaces.
+fn place_of_replaced(held: &[Held], kind: Kind, mask: &[u8]) -> Option<usize>
+    ensures { result ≡ position (is_replaced kind mask.now) held.now }
+{
+    held.iter().position(|one| one.is_replaced(kind, mask))
+}
+
+// How many binds are of this kind.
+fn count_of_kind(held: &[Held], kind: Kind) -> usize
+    ensures { result ≡ count_by (λ b. is_kind kind b.kind) held.now }
+{
+    held.iter().filter(|one| is_kind(kind, one.kind())).count()
+}
+
+// Takes away the bind at a place, and gives its number. Takes no memory.
+pub(crate) fn take_out(held: &mut Vec<Held>, index: &mut KindIndex, kind: Kind, at: usize) -> u32
+    requires within { at < vec_len held.old }
+    requires kind { (b : Bind) → is_kind kind (slice_index_or held.old.items at b).kind ≡ true }
+    requires indexed { IsIndexOf kind held.old.items index.old }
+    ensures indexed { IsIndexOf kind held.new.items index.new }
+    ensures removed { held.new.items ≡ remove held.old.items at }
+    ensures number { (b : Bind) → result ≡ (slice_index_or held.old.items at b).number }
+    ensures len { vec_len held.new ≤ vec_len held.old }
+    ensures capacity { vec_capacity held.new ≡ vec_capacity held.old }
+    ensures entries { vec_len index.new.entries ≤ vec_len index.old.entries }
+    ensures entry_room { vec_capacity index.new.entries ≡ vec_capacity index.old.entries }
+    ensures word_room { spare index.old.words ≤ spare index.new.words }
+{
+    let place = count_of_kind(&held[..at], kind);
+    index.remove(place);
+    let one = held.remove(at);
+    one.bind().number
+}
+
+// Takes away the bind that one of this kind and mask replaces, if there is one. Takes no memory.
+fn drop_replaced(held: &mut Vec<Held>, index: &mut KindIndex, kind: Kind, mask: &[u8])
+    requires apart { AreApart held.old.items }
+    requires indexed { IsIndexOf kind held.old.items index.old }
+    ensures indexed { IsIndexOf kind held.new.items index.new }
+    ensures without { held.new.items ≡ without_replaced kind mask.now held.old.items }
+    ensures len { vec_len held.new ≤ vec_len held.old }
+    ensures capacity { vec_capacity held.new ≡ vec_capacity held.old }
+    ensures entries { vec_len index.new.entries ≤ vec_len index.old.entries }
+    ensures entry_room { vec_capacity index.new.entries ≡ vec_capacity index.old.entries }
+    ensures word_room { spare index.old.words ≤ spare index.new.words }
+{
+    if let Some(at) = place_of_replaced(held, kind, mask) {
+        let _number = take_out(held, index, kind, at);
+    }
+}
+
+// Puts a bind last that goes by its mask, and so replaces none.
+fn add_mask(held: &mut Vec<Held>, index: &mut KindIndex, one: Held) -> Result<(), NoMemory>
+    requires kind { is_single one.kind ≡ false }
+    requires indexed { IsIndexOf one.kind held.old.items index.old }
+    ensures indexed { IsIndexOf one.kind held.new.items index.new }
+    ensures ok { OnOk result (held.new.items ≡ without_replaced one.kind one.mask held.old.items ++ one ∷ []) }
+    ensures err { OnErr result (held.new.items ≡ held.old.items) }
+{
+    held.reserve(1)?;
+    index.reserve()?;
+    index.push(one.entry());
+    held.push_reserved(one);
+    Ok(())
+}
+
+// Puts a bind last that goes by its keyword, and takes away the one that it replaces.
+fn add_word(
+    held: &mut Vec<Held>,
+    index: &mut KindIndex,
+    alloc: Global,
+    one: Held,
+) -> Result<(), NoMemory>
+    requires kind { is_single one.kind ≡ true }
+    requires apart { AreApart held.old.items }
+    requires indexed { IsIndexOf one.kind held.old.items index.old }
+    ensures indexed { IsIndexOf one.kind held.new.items index.new }
+    ensures ok { OnOk result (held.new.items ≡ without_replaced one.kind one.mask held.old.items ++ one ∷ []) }
+    ensures err { OnErr result (held.new.items ≡ held.old.items) }
+{
+    let kind = one.kind();
+    let mask = one.mask();
+    let word = fold_text(alloc, mask)?;
+    held.reserve(1)?;
+    index.reserve()?;
+    index.reserve_word()?;
+    drop_replaced(held, index, kind, mask);
+    index.push_word(word);
+    index.push(one.entry());
+    held.push_reserved(one);
+    Ok(())
+}
+
+// Puts a bind last, and takes away the one that it replaces.
+pub(crate) fn put(
+    held: &mut Vec<Held>,
+    indexes: &mut [KindIndex; KINDS],
+    alloc: Global,
+    one: Held,
+) -> Result<(), NoMemory>
+    requires apart { AreApart held.old.items }
+    requires indexed { AreIndexed held.old.items indexes.old }
+    ensures indexed { AreIndexed held.new.items indexes.new }
+    ensures ok { OnOk result (held.new.items ≡ without_replaced one.kind one.mask held.old.items ++ one ∷ []) }
+    ensures err { OnErr result (held.new.items ≡ held.old.items) }
+{
+    let kind = one.kind();
+    let index = &mut indexes[place_of(kind)];
+    if is_single(kind) {
+        add_word(held, index, alloc, one)
+    } else {
+        add_mask(held, index, one)
+    }
+}
+
+// Takes away the bind of this kind, mask and proc, and tells its number. Takes no memory.
+pub(crate) fn take_such(
+    held: &mut Vec<Held>,
+    indexes: &mut [KindIndex; KINDS],
+    kind: Kind,
+    mask: &[u8],
+    proc: &[u8],
+) -> Option<u32>
+    requires apart { AreApart held.old.items }
+    requires indexed { AreIndexed held.old.items indexes.old }
+    ensures indexed { AreIndexed held.new.items indexes.new }
+    ensures number { result ≡ option_map (λ b. b.number) (find (is_such kind mask.now proc.now) held.old.items) }
+    ensures without { held.new.items ≡ without_such kind mask.now proc.now held.old.items }
+{
+    match place_of_such(held, kind, mask, proc) {
+        Some(at) => {
+            let index = &mut indexes[place_of(kind)];
+            Some(take_out(held, index, kind, at))
+        }
+        None => None,
+    }
+}
+
+// Whether there is a bind of this kind, mask and proc.
+pub(crate) fn has_such(held: &[Held], kind: Kind, mask: &[u8], proc: &[u8]) -> bool
+    ensures { result ≡ list_any (is_such kind mask.now proc.now) held.now }
+{
+    held.iter().any(|one| one.is_such(kind, mask, proc))
+}
+
+// How many binds stay when one of this kind and mask comes.
+pub(crate) fn count_left(held: &[Held], kind: Kind, mask: &[u8]) -> usize
+    ensures { result ≡ count_left kind mask.now held.now }
+{
+    held.iter()
+        .filter(|one| !one.is_replaced(kind, mask))
+        .count()
+}
+
+// The indexes of no binds.
+pub(crate) fn no_indexes(alloc: Global) -> [KindIndex; KINDS]
+    ensures { AreIndexed [] result }
+{
+    [
+        KindIndex::new(alloc),
+        KindIndex::new(alloc),
+        KindIndex::new(alloc),
+        KindIndex::new(alloc),
+        KindIndex::new(alloc),
+        KindIndex::new(alloc),
+    ]
+}
+
+// A copy of each bind, in order, with indexes of their own.
+pub(crate) fn copy_of(
+    alloc: Global,
+    held: &[Held],
+) -> Result<(Vec<Held>, [KindIndex; KINDS]), NoMemory>
+    requires { AreApart held.now }
+    ensures { IfOk result (λ p. (p.0.items ≡ held.now) × AreIndexed held.now p.1) }
+{
+    let mut copies = Vec::with_capacity(alloc, held.len())?;
+    let mut indexes = no_indexes(alloc);
+    for one in held {
+        put(&mut copies, &mut indexes, alloc, one.copy(alloc)?)?;
+    }
+    Ok((copies, indexes))
+}

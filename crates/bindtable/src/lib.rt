@@ -1,0 +1,49 @@
+//! Binds: which procs of a bot an event calls.
+//!
+//! A bind names a kind of event, a flag expression, a mask and a proc, as Eggdrop's command `bind` does (its Tcl
+//! commands document). An event calls the binds of its kind, oldest first, whose mask matches its subject and whose
+//! expression the person's flags meet:
+//!
+//! | kind | its mask | matched against |
+//! |---|---|---|
+//! | raw | wildcards | the command of a line; flags are ignored |
+//! | msg, pub | one keyword, in either case | the first word of a text |
+//! | msgm, notc | wildcards | the whole text |
+//! | pubm | wildcards | the channel, a space and the whole text |
+//!
+//! A keyword has one bind of its kind at most: a new one takes the old one's part and stands last. The same kind, mask
+//! and proc again changes the flags alone. That order is by age is our own choice.
+//!
+//! [`BindTable`] holds up to [`MAX_BINDS`] binds. [`bind`](BindTable::bind) and [`unbind`](BindTable::unbind) change
+//! it, [`called`](BindTable::called) goes through the binds that an [`Event`] calls without taking memory,
+//! [`find`](BindTable::find) gives their numbers, [`get`](BindTable::get) the bind of a number, and
+//! [`list`](BindTable::list) all of them.
+//!
+//! ```text
+//! let mut table = BindTable::new(alloc);
+//! table.bind(alloc, Kind::Pub, b"o", b"!hi", b"greet")?;       // 1
+//! table.bind(alloc, Kind::Pubm, b"*", b"% !hi*", b"log")?;     // 2
+//! table.find(alloc, &event)                                    // 1, where someone with global o says `!HI`
+//! table.unbind(Kind::Pubm, b"% !HI*", b"log")                  // Ok(2)
+//! ```
+#![tactic(auto)]
+
+mod bind;
+mod called;
+mod event;
+mod fault;
+mod held;
+mod index;
+mod keep;
+mod kinds;
+mod limits;
+mod shapes;
+mod table;
+mod wish;
+
+pub use crate::bind::{Bind, Binds};
+pub use crate::called::Called;
+pub use crate::event::Event;
+pub use crate::fault::{BindError, BindFault};
+pub use crate::limits::{MAX_BINDS, MAX_MASK, MAX_NUMBER};
+pub use crate::table::BindTable;

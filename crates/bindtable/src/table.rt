@@ -1,0 +1,237 @@
+// The table of a bot's binds.
+
+use crate::bind::{Bind, Binds};
+use crate::called::{Called, held_of};
+use crate::event::Event;
+use crate::fault::{BindError, BindFault};
+use crate::held::{Held, binds_of};
+use crate::index::KindIndex;
+use crate::keep::{copy_of, count_left, has_such, no_indexes, place_of_such, take_such};
+use crate::kinds::{KINDS, place_of};
+use crate::limits::{MAX_BINDS, MAX_NUMBER};
+use crate::shapes::is_bad_mask;
+use crate::wish::{Wish, add, renew};
+use bytetext::{Failure, NoMemory, Seq, TryCopy};
+use flagexpr::FlagExpr;
+use procstore::Kind;
+use std::alloc::Global;
+use std::marker::Model;
+
+/// The binds of a bot. Contracts see the list of its binds, oldest first, and the last number given.
+///
+/// ```text
+/// let mut table = BindTable::new(alloc);
+/// table.bind(alloc, Kind::Pub, b"*", b"!x", b"p")?;                // 1
+/// table.bind(alloc, Kind::Pub, b"*", b"!X", b"q")?;                // 2: it replaces the first
+/// table.bind(alloc, Kind::Pub, b"o", b"!x", b"q")?;                // 2 again: only its flags change
+/// table.unbind(Kind::Pub, b"!x", b"p")                             // Err(NoSuchBind)
+///
+/// let mut called = table.called(&event);
+/// while let Some(bind) = called.next() {
+///     // bind.proc is the name of the next proc to call
+/// }
+/// ```
+#[derive(Drop)]
+pub struct BindTable {
+    held: Vec<Held>,
+    indexes: [KindIndex; KINDS],
+    last: u32,
+}
+
+impl Model for BindTable {
+    ghost use Rattle.bindtable.specs.Tables.{Table};
+    ghost use Rattle.bindtable.specs.Sound.{IsSound};
+    ghost use Rattle.bindtable.specs.Index.{AreIndexed};
+
+    ghost Value = { Table };
+
+    ghost view = { λ t. record { binds = t.held.items; last = t.last } };
+
+    ghost invariant = { λ t. IsSound (record { binds = t.held.items; last = t.last })
+        × AreIndexed t.held.items t.indexes };
+}
+
+impl BindTable {
+    ghost use Rattle.std.specs.Prelude.{◌≡◌, ◌↔◌, true, ◌+◌, None, false, true, find, map, IfOk, OnOk, OnErr};
+    ghost use Rattle.std.specs.List.{list_any};
+    ghost use Rattle.flagexpr.specs.Expression.{expression_of};
+    ghost use Rattle.flagexpr.specs.Faults.{expression_fault};
+    ghost use Rattle.bindtable.specs.Tables.{Asked, no_binds, is_full, later_refusal, bound, number_of, Binds, Unbinds};
+    ghost use Rattle.bindtable.specs.Sound.{IsSound};
+    ghost use Rattle.bindtable.specs.Wishes.{IsWish, asked_of};
+    ghost use Rattle.bindtable.specs.Calls.{Calls, called, is_called, numbers_of, seen};
+    ghost use Rattle.bindtable.specs.Behind.{bind_of};
+    ghost use Rattle.std.specs.Option.{option_copied};
+
+    /// The table without binds. Takes no memory.
+    pub fn new(alloc: Global) -> BindTable
+        ensures { result ≡ no_binds }
+    {
+        BindTable {
+            held: Vec::new(alloc),
+            indexes: no_indexes(alloc),
+            last: 0,
+        }
+    }
+
+    /// What always holds of a table: its numbers rise from 1 and none is above the last one given; no two binds have one
+    /// kind, mask and proc, nor one keyword of a single kind; each has flags that parse and a mask that is none too long;
+    /// and there are at most 500. There is nothing to run: who relies on it calls it for its clause.
+    pub fn are_sound(&self)
+        ensures { IsSound self.now }
+    {
+        let _ = &self.held;
+    }
+
+    /// Makes a bind, and gives its number.
+    ///
+    /// The same kind, mask by casemapping and proc byte for byte again gets the new flags, and keeps its number, its
+    /// place and its mask's first spelling. Any other bind stands last under the next number. One of a single kind, msg
+    /// or pub, replaces the one of its kind with an equal keyword. Numbers rise from 1 and are never used again.
+    ///
+    /// # Errors
+    /// In this order: `BadFlags` where the flags are no flag expression; `BadMask` where the mask is empty or has more
+    /// than 120 bytes, or holds a space though the kind is single; `Full`, for a bind that is new, where 500 others would
+    /// stay beside it or the last number, 4,294,967,295, is given; `NoMemory` where a growth is refused. None changes the
+    /// table.
+    pub fn bind(
+        &mut self,
+        alloc: Global,
+        kind: Kind,
+        flags: &[u8],
+        mask: &[u8],
+        proc: &[u8],
+    ) -> Result<u32, BindError>
+        ensures binds { let asked : Asked = record { kind = kind; flags = flags.now; mask = mask.now; proc = proc.now } in
+            Binds self.old asked result self.new }
+    {
+        let expression = match FlagExpr::parse(flags) {
+            Ok(expression) => expression,
+            Err(_) => return Err(Failure::Refused(BindFault::BadFlags)),
+        };
+        if let Some(fault) = self.later_refusal(kind, mask, proc) {
+            return Err(Failure::Refused(fault));
+        }
+        let wish = Wish {
+            kind,
+            flags,
+            mask,
+            proc,
+            expression,
+        };
+        match self.make(alloc, &wish) {
+            Ok(number) => Ok(number),
+            Err(NoMemory) => Err(Failure::NoMemory),
+        }
+    }
+
+    // Makes a bind that isn't refused, and gives its number.
+    fn make(&mut self, alloc: Global, wish: &Wish) -> Result<u32, NoMemory>
+        requires wish { IsWish wish.now }
+        requires allowed { later_refusal self.old wish.now.kind wish.now.mask.now wish.now.proc.now ≡ None }
+        ensures number { IfOk result (λ number. number ≡ number_of self.old (asked_of wish.now)) }
+        ensures ok { OnOk result (self.new ≡ bound self.old (asked_of wish.now)) }
+        ensures err { OnErr result (self.new ≡ self.old) }
+    {
+        match place_of_such(&self.held, wish.kind, wish.mask, wish.proc) {
+            Some(at) => renew(&mut self.held, alloc, at, wish),
+            None => {
+                let number = self.last + 1;
+                add(&mut self.held, &mut self.indexes, alloc, wish, number)?;
+                self.last = number;
+                Ok(number)
+            }
+        }
+    }
+
+    /// Takes away the bind of this kind, mask by casemapping and proc byte for byte, and gives its number. Takes no
+    /// memory.
+    ///
+    /// # Errors
+    /// `NoSuchBind` where there is none; the table is as before.
+    pub fn unbind(&mut self, kind: Kind, mask: &[u8], proc: &[u8]) -> Result<u32, BindFault>
+        ensures { Unbinds self.old kind mask.now proc.now result self.new }
+    {
+        take_such(&mut self.held, &mut self.indexes, kind, mask, proc).ok_or(BindFault::NoSuchBind)
+    }
+
+    /// The binds that an event calls, oldest first. Takes no memory.
+    pub fn called<'t, 'e>(&'t self, event: &Event<'e>) -> Called<'t, 'e>
+        ensures binds { result ≡ called (seen event.now) self.now.binds }
+        ensures meaning { (b : Bind) → (is_called (seen event.now) b ≡ true) ↔ Calls (seen event.now) b }
+    {
+        let index = &self.indexes[place_of(event.kind)];
+        let entries = index.candidates(event.kind, event.subject);
+        Called::of(&self.held, entries, event)
+    }
+
+    /// The numbers of the binds that an event calls, oldest first.
+    ///
+    /// # Errors
+    /// `NoMemory` where room for the list is refused.
+    pub fn find(&self, alloc: Global, event: &Event) -> Result<Seq<u32>, NoMemory>
+        ensures { IfOk result (λ numbers. numbers ≡ numbers_of (called (seen event.now) self.now.binds)) }
+    {
+        let mut numbers = Seq::empty(alloc);
+        let mut called = self.called(event);
+        while let Some(bind) = called.next() {
+            numbers.push(bind.number)?;
+        }
+        Ok(numbers)
+    }
+
+    /// The bind of a number, if it is held.
+    pub fn get(&self, number: u32) -> Option<&Bind>
+        ensures { option_copied result ≡ bind_of number self.now.binds }
+    {
+        match held_of(&self.held, number) {
+            Some(one) => Some(one.bind()),
+            None => None,
+        }
+    }
+
+    /// A copy of all binds, oldest first.
+    ///
+    /// # Errors
+    /// `NoMemory` where room for the copies is refused.
+    pub fn list(&self, alloc: Global) -> Result<Binds, NoMemory>
+        ensures { IfOk result (λ binds. binds ≡ self.now.binds) }
+    {
+        Ok(Seq::new(binds_of(alloc, &self.held)?))
+    }
+
+    // Why a bind whose flags parse can't be made.
+    #[tactic(auto, unfolding(crate::specs::Tables::later_refusal))]
+    fn later_refusal(&self, kind: Kind, mask: &[u8], proc: &[u8]) -> Option<BindFault>
+        ensures { result ≡ later_refusal self.now kind mask.now proc.now }
+    {
+        if is_bad_mask(kind, mask) {
+            return Some(BindFault::BadMask);
+        }
+        if has_such(&self.held, kind, mask, proc) {
+            return None;
+        }
+        if self.is_full(kind, mask) {
+            return Some(BindFault::Full);
+        }
+        None
+    }
+
+    // Whether there is no room or no number for a new bind.
+    fn is_full(&self, kind: Kind, mask: &[u8]) -> bool
+        ensures { result ≡ is_full self.now kind mask.now }
+    {
+        self.last >= MAX_NUMBER || count_left(&self.held, kind, mask) >= MAX_BINDS
+    }
+}
+
+impl TryCopy for BindTable {
+    fn copy(&self, alloc: Global) -> Result<BindTable, NoMemory> {
+        let (held, indexes) = copy_of(alloc, &self.held)?;
+        Ok(BindTable {
+            held,
+            indexes,
+            last: self.last,
+        })
+    }
+}

@@ -1,0 +1,85 @@
+// A bind that is asked for, and how it is made.
+ghost use Rattle.std.specs.Prelude.{◌≡◌, ℕ, ◌++◌, ◌∷◌, [], map, IfOk, OnOk, OnErr};
+ghost use Rattle.bindtable.specs.Tables.{number_of, with_flags, with_number, without_replaced};
+ghost use Rattle.bindtable.specs.Sound.{AreApart};
+ghost use Rattle.bindtable.specs.Index.{AreIndexed};
+ghost use Rattle.bindtable.specs.Wishes.{asked_of, IsWish, IsFound};
+
+use crate::bind::Bind;
+use crate::held::Held;
+use crate::index::KindIndex;
+use crate::keep::put;
+use crate::kinds::KINDS;
+use bytetext::{NoMemory, Text};
+use flagexpr::FlagExpr;
+use procstore::Kind;
+use std::alloc::Global;
+
+// What a bind is to be, with what its flags say.
+#[derive(Drop)]
+pub struct Wish<'a> {
+    pub kind: Kind,
+    pub flags: &'a [u8],
+    pub mask: &'a [u8],
+    pub proc: &'a [u8],
+    pub expression: FlagExpr,
+}
+
+// Gives the bind at a place the flags that are asked for, and tells its number.
+pub(crate) fn renew(
+    held: &mut Vec<Held>,
+    alloc: Global,
+    at: usize,
+    wish: &Wish,
+) -> Result<u32, NoMemory>
+    requires wish { IsWish wish.now }
+    requires apart { AreApart held.old.items }
+    requires found { IsFound wish.now held.old.items at }
+    ensures ok { OnOk result (held.new.items ≡ map (with_flags (asked_of wish.now)) held.old.items) }
+    ensures err { OnErr result (held.new.items ≡ held.old.items) }
+    ensures number { (last : ℕ) → IfOk result (λ number.
+        number ≡ number_of (record { binds = held.old.items; last = last }) (asked_of wish.now)) }
+{
+    let text = Text::from_slice(alloc, wish.flags)?;
+    let one = &mut held[at];
+    one.set_flags(text, wish.expression);
+    Ok(one.bind().number)
+}
+
+// Puts the bind that is asked for last, under a number, and takes away the one that it replaces.
+pub(crate) fn add(
+    held: &mut Vec<Held>,
+    indexes: &mut [KindIndex; KINDS],
+    alloc: Global,
+    wish: &Wish,
+    number: u32,
+) -> Result<(), NoMemory>
+    requires wish { IsWish wish.now }
+    requires apart { AreApart held.old.items }
+    requires indexed { AreIndexed held.old.items indexes.old }
+    ensures indexed { AreIndexed held.new.items indexes.new }
+    ensures ok { OnOk result (held.new.items ≡ without_replaced wish.now.kind wish.now.mask.now held.old.items
+        ++ with_number (asked_of wish.now) number ∷ []) }
+    ensures err { OnErr result (held.new.items ≡ held.old.items) }
+{
+    let one = held_of(alloc, wish, number)?;
+    put(held, indexes, alloc, one)
+}
+
+// The bind that is asked for, under a number.
+fn held_of(alloc: Global, wish: &Wish, number: u32) -> Result<Held, NoMemory>
+    requires { IsWish wish.now }
+    ensures { IfOk result (λ held. held ≡ with_number (asked_of wish.now) number) }
+{
+    let flags = Text::from_slice(alloc, wish.flags)?;
+    let mask = Text::from_slice(alloc, wish.mask)?;
+    let proc = Text::from_slice(alloc, wish.proc)?;
+    let bind = Bind {
+        number,
+        kind: wish.kind,
+        flags,
+        mask,
+        proc,
+    };
+    Held::new(alloc, bind, wish.expression)
+}

@@ -1,0 +1,92 @@
+// What a bot is told before it is made.
+ghost use Rattle.std.specs.Prelude.{◌≡◌, IfSome, IfNone, true};
+ghost use Rattle.std.specs.List.{list_all};
+ghost use Rattle.rfccase.specs.Channels.{is_channel_name};
+ghost use Rattle.botcore.specs.Configs.{IsGood, is_nick, is_nick_byte};
+
+use crate::fault::BotFault;
+use crate::limits::MAX_NICK;
+use bottimers::MAX_OFFSET;
+use bytetext::{NoMemory, Text, Texts, TryCopy};
+use rfccase::is_channel_name;
+use sharelink::MAX_LEAVES;
+use std::alloc::Global;
+
+/// What a bot is told before it is made.
+#[derive(Debug, Drop)]
+pub struct Config {
+    /// Its number among the bots: 0 is the hub, and the leaves are 1 to `leaves`.
+    pub number: u16,
+    /// How many leaves the hub has, at most 1,000.
+    pub leaves: u16,
+    /// The nick under which it connects: 1 to 30 bytes above 32, none of them one of `! @ , * ?`, the first no colon.
+    pub nick: Text,
+    /// The channels that it joins, in order. Each is a channel name.
+    pub channels: Texts,
+    /// Whether a text for which a `msgm` or `pubm` proc was called is no event for `msg` or `pub` binds.
+    pub exclusive: bool,
+    /// How many whole minutes its clock is ahead of UTC, -1,439 to 1,439.
+    pub offset: i32,
+}
+
+impl Config {
+    /// Why no bot can be made so: `BadConfig` (G1) where a field is out of its range.
+    pub fn refusal(&self) -> Option<BotFault>
+        ensures good { IfNone result (IsGood self.now) }
+        ensures bad { IfSome result (λ _. ¬ IsGood self.now) }
+    {
+        if self.leaves > MAX_LEAVES || self.number > self.leaves {
+            return Some(BotFault::BadConfig);
+        }
+        if self.offset < -MAX_OFFSET || self.offset > MAX_OFFSET {
+            return Some(BotFault::BadConfig);
+        }
+        if !is_nick(self.nick.as_bytes()) || !are_channels(self.channels.as_slice()) {
+            return Some(BotFault::BadConfig);
+        }
+        None
+    }
+}
+
+impl TryCopy for Config {
+    fn copy(&self, alloc: Global) -> Result<Config, NoMemory> {
+        let nick = self.nick.copy(alloc)?;
+        let channels = self.channels.copy(alloc)?;
+        Ok(Config {
+            number: self.number,
+            leaves: self.leaves,
+            nick,
+            channels,
+            exclusive: self.exclusive,
+            offset: self.offset,
+        })
+    }
+}
+
+// Whether a bot can connect under this nick.
+fn is_nick(nick: &[u8]) -> bool
+    ensures { result ≡ is_nick nick.now }
+{
+    if nick.is_empty() || nick.len() > MAX_NICK || nick[0] == b':' {
+        return false;
+    }
+    are_nick_bytes(nick)
+}
+
+fn are_nick_bytes(nick: &[u8]) -> bool
+    ensures { result ≡ list_all is_nick_byte nick.now }
+{
+    nick.iter().all(|byte| is_nick_byte(*byte))
+}
+
+fn is_nick_byte(byte: u8) -> bool
+    ensures { result ≡ is_nick_byte byte }
+{
+    byte > b' ' && byte != b'!' && byte != b'@' && byte != b',' && byte != b'*' && byte != b'?'
+}
+
+fn are_channels(channels: &[Text]) -> bool
+    ensures { result ≡ list_all is_channel_name channels.now }
+{
+    channels.iter().all(|name| is_channel_name(name.as_bytes()))
+}

@@ -1,0 +1,102 @@
+// What follows an event.
+ghost use Rattle.std.specs.Prelude.{◌≡◌, ◌&&◌, not, ◌==◌, map, length};
+ghost use Rattle.std.specs.List.{list_any};
+ghost use Rattle.botcore.specs.Dispatching.{is_one, is_raw, is_whole, is_word, is_logged, is_silencing, next_of};
+ghost use Rattle.botcore.specs.Made.{entry_of};
+
+use crate::made_call::MadeCall;
+use procstore::{Code, Kind};
+
+// What follows an event of a message.
+#[derive(Clone, Copy, Debug)]
+pub(crate) enum Next {
+    // Nothing: a raw proc has answered 1.
+    Stop,
+    // The next event.
+    Go {
+        // Whether a proc was called for the whole of a text, which its first word may follow.
+        taken: bool,
+    },
+}
+
+// What follows an event of this kind and these calls.
+#[tactic(auto, using(crate::proofs::NextLemmas::has_one_entries, crate::proofs::NextLemmas::length_entries))]
+pub(crate) fn next_of(kind: Kind, calls: &[MadeCall]) -> Next
+    ensures { result ≡ next_of kind (map entry_of calls.now) }
+{
+    if is_raw(kind) && has_one(calls) {
+        return Next::Stop;
+    }
+    Next::Go {
+        taken: is_whole(kind) && !calls.is_empty(),
+    }
+}
+
+// Whether a call has code 1.
+fn has_one(calls: &[MadeCall]) -> bool
+    ensures { result ≡ list_any (λ m. is_one m.reply.code) calls.now }
+{
+    calls.iter().any(|made| is_one(made.reply.code))
+}
+
+fn is_one(code: Code) -> bool
+    ensures { result ≡ is_one code }
+{
+    match code {
+        Code::Zero => false,
+        Code::One => true,
+    }
+}
+
+fn is_raw(kind: Kind) -> bool
+    ensures { result ≡ is_raw kind }
+{
+    match kind {
+        Kind::Raw => true,
+        Kind::Msg | Kind::Msgm | Kind::Notc | Kind::Pub | Kind::Pubm => false,
+    }
+}
+
+fn is_whole(kind: Kind) -> bool
+    ensures { result ≡ is_whole kind }
+{
+    match kind {
+        Kind::Msgm | Kind::Pubm => true,
+        Kind::Raw | Kind::Msg | Kind::Notc | Kind::Pub => false,
+    }
+}
+
+// Whether a kind goes by a text's first word.
+pub(crate) fn is_word(kind: Kind) -> bool
+    ensures { result ≡ is_word kind }
+{
+    match kind {
+        Kind::Msg | Kind::Pub => true,
+        Kind::Raw | Kind::Msgm | Kind::Notc | Kind::Pubm => false,
+    }
+}
+
+// Whether a line of these calls is logged.
+#[tactic(auto, using(crate::proofs::NextLemmas::is_logged_entries))]
+pub(crate) fn is_logged(calls: &[MadeCall]) -> bool
+    ensures { result ≡ is_logged (map entry_of calls.now) }
+{
+    !has_silencer(calls)
+}
+
+// Whether a call keeps its line out of the log.
+fn has_silencer(calls: &[MadeCall]) -> bool
+    ensures { result ≡ list_any (λ m. is_silencing m.call.kind && is_one m.reply.code) calls.now }
+{
+    calls.iter().any(|made| is_silencing(made.call.kind) && is_one(made.reply.code))
+}
+
+// Whether a code 1 of this kind keeps a line out of the log.
+fn is_silencing(kind: Kind) -> bool
+    ensures { result ≡ is_silencing kind }
+{
+    match kind {
+        Kind::Raw | Kind::Msgm | Kind::Notc | Kind::Pubm => true,
+        Kind::Msg | Kind::Pub => false,
+    }
+}

@@ -1,0 +1,14 @@
+-- What putting an action into a reply does.
+use Rattle.std.specs.Prelude.{◌≡◌, ◌<◌, ◌≤◌, List, [], ◌∷◌, ◌++◌, length, Result, Ok, Err}
+use Rattle.bytetext.specs.declared.failure.Failure.{Failure}
+use Rattle.bytetext.specs.declared.failure.Failure.TheVariants.{Refused, NoMemory}
+use Rattle.procstore.specs.declared.action.Action.{Action}
+use Rattle.procstore.specs.declared.fault.ActionsFault.{ActionsFault}
+use Rattle.procstore.specs.declared.fault.ActionsFault.TheVariants.{TooMany}
+use Rattle.procstore.specs.declared.limits.TheConstants.{MAX_ACTIONS}
+
+-- It stands last, or there are eight, or memory ran out, and what is then. Memory comes last.
+abbrev pub Pushes : {T : Type 0} → List Action → Action → Result T (Failure ActionsFault) → List Action → Type 0
+Pushes old action (Ok _) new = (length old < MAX_ACTIONS) × (new ≡ old ++ action ∷ [])
+Pushes old action (Err (Refused TooMany)) new = (MAX_ACTIONS ≤ length old) × (new ≡ old)
+Pushes old action (Err NoMemory) new = (length old < MAX_ACTIONS) × (new ≡ old)

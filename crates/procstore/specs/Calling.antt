@@ -1,0 +1,44 @@
+-- What a store of procs answers. It is the list of the names of its procs, in the order in which they were added.
+use Rattle.std.specs.Prelude.{◌≡◌, ℕ, nat_le, List, length, Bool, true, false, if◌then◌else◌, Option, Some, None, Result, Ok, Err}
+use Rattle.std.specs.List.{list_any}
+use Rattle.std.specs.Str.{bytes_eq}
+use Rattle.bytetext.specs.declared.failure.Failure.{Failure}
+use Rattle.bytetext.specs.declared.failure.Failure.TheVariants.{Refused, NoMemory as no_memory}
+use Rattle.bytetext.specs.declared.memory.NoMemory.{NoMemory}
+use Rattle.procstore.specs.declared.action.Action.{Action}
+use Rattle.procstore.specs.declared.call.Call.{Call}
+use Rattle.procstore.specs.declared.fault.AddFault.{AddFault}
+use Rattle.procstore.specs.declared.fault.AddFault.TheVariants.{NameTaken, Full}
+use Rattle.procstore.specs.declared.fault.CallFault.{CallFault}
+use Rattle.procstore.specs.declared.fault.CallFault.TheVariants.{NoSuchProc}
+use Rattle.procstore.specs.declared.limits.TheConstants.{MAX_PROCS}
+use Rattle.procstore.specs.declared.reply.Code.{Code}
+use Rattle.procstore.specs.declared.reply.Reply.{Reply}
+use Rattle.procstore.specs.Promises.{IsKept}
+
+-- whether a store of these names has a proc of this one, byte for byte
+abbrev pub holds : List (List ℕ) → List ℕ → Bool
+holds names name = list_any (bytes_eq name) names
+
+-- why no proc of this name can be added
+abbrev pub refusal : List (List ℕ) → List ℕ → Option AddFault
+refusal names name =
+    if holds names name then Some NameTaken
+    else (if nat_le MAX_PROCS (length names) then Some Full else None)
+
+-- a refusal is told as it is; out of memory only if there is none
+abbrev pub IsWhy : Option AddFault → Failure AddFault → Type 0
+IsWhy refusal (Refused fault) = refusal ≡ Some fault
+IsWhy refusal no_memory = refusal ≡ None
+
+-- What a call by name answers: a reply that keeps the promise, that no proc has the name, or that the proc lacks memory.
+abbrev pub IsCalled : (List ℕ → Call → Code) → (List ℕ → Call → List Action → Type 0) → (List ℕ → Call → Type 0)
+    → List (List ℕ) → List ℕ → Call → Result Reply (Failure CallFault) → Type 0
+IsCalled code_of may may_lack names name call (Ok reply) = (holds names name ≡ true) × IsKept code_of may name call reply
+IsCalled code_of may may_lack names name call (Err (Refused NoSuchProc)) = holds names name ≡ false
+IsCalled code_of may may_lack names name call (Err no_memory) = (holds names name ≡ true) × may_lack name call
+
+-- what a proc answered, as the answer to a call by name
+abbrev pub as_called : Result Reply NoMemory → Result Reply (Failure CallFault)
+as_called (Ok reply) = Ok reply
+as_called (Err lack) = Err no_memory

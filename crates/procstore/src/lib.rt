@@ -1,0 +1,52 @@
+//! Procs: the code that a bot's user writes, each under a name and with a promise that its every answer keeps.
+//!
+//! A proc is called with a [`Call`], which is the [`Kind`] of an event and its arguments. It answers a [`Reply`]: a
+//! [`Code`] and at most eight [`Actions`]. It changes nothing itself: what it wants done stands in its actions, and its
+//! bot does it.
+//!
+//! A [`Promise`] says what procs answer. It is written for contracts alone: for each proc name and `Call` the code, a
+//! relation that the actions lie in, and whether the proc may lack memory. [`Proc::new`] asks that a body keeps the
+//! promise of its name, so nothing above has to ask it again. [`ProcStore`] holds at most 200 procs and calls them by
+//! name: what [`ProcStore::call`] answers is what the promise says of that name and `Call`, whatever closure stands
+//! there. Contracts see a store as the list of its names.
+//!
+//! A body is anything that [`Run`]s. A program's `main` boxes closures ([`Body`]), and one function that is generic in
+//! its bodies makes the store:
+//!
+//! ```text
+//! struct Ours;
+//! impl Promise for Ours {
+//!     ghost code_of = { λ name call. Zero };               // every proc answers 0
+//!     ghost may = { λ name call actions. actions ≡ [] };   // and asks for nothing
+//! }
+//!
+//! let mut store: ProcStore<Ours, B> = ProcStore::new(alloc);
+//! store.add(alloc, Proc::new(Text::from_slice(alloc, b"quiet")?, quiet));
+//! store.call(b"quiet", &call)    // Ok(Reply { code: Code::Zero, actions: none })
+//! store.call(b"other", &call)    // Err(Refused(NoSuchProc)): P3
+//! ```
+#![tactic(auto)]
+
+mod action;
+mod actions;
+mod call;
+mod fault;
+mod kind;
+mod limits;
+mod proc;
+mod promise;
+mod reply;
+mod run;
+mod store;
+
+pub use crate::action::Action;
+pub use crate::actions::Actions;
+pub use crate::call::Call;
+pub use crate::fault::{ActionsFault, AddError, AddFault, CallError, CallFault, PushError};
+pub use crate::kind::Kind;
+pub use crate::limits::{MAX_ACTIONS, MAX_PROCS};
+pub use crate::proc::Proc;
+pub use crate::promise::Promise;
+pub use crate::reply::{Code, Reply};
+pub use crate::run::{Body, Run};
+pub use crate::store::{NotAdded, ProcStore};

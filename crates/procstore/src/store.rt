@@ -1,0 +1,156 @@
+// Procs by name.
+ghost use Rattle.std.specs.Prelude.{◌≡◌};
+ghost use Rattle.procstore.specs.Calling.{as_called};
+
+use crate::call::Call;
+use crate::fault::{AddError, AddFault, CallError, CallFault};
+use crate::limits::MAX_PROCS;
+use crate::proc::Proc;
+use crate::promise::Promise;
+use crate::reply::Reply;
+use crate::run::{Body, Run};
+use bytetext::{Failure, NoMemory, Text, TryCopy};
+use indexmap::IndexMap;
+use std::alloc::Global;
+use std::marker::Model;
+
+/// At most 200 procs, each found by its name, byte for byte. Contracts see the list of the names, in the order in which
+/// the procs were added.
+///
+/// ```text
+/// let mut store: ProcStore<Ours, Body> = ProcStore::new(alloc);
+/// store.add(alloc, Proc::new(name, body))?;
+/// let reply = store.call(b"greet", &call)?;
+/// ```
+#[derive(Drop)]
+pub struct ProcStore<P: Promise, B: Run = Body> {
+    procs: IndexMap<Vec<u8>, Proc<P, B>>,
+}
+
+impl<P: Promise, B: Run> Model for ProcStore<P, B> {
+    ghost use Rattle.std.specs.Prelude.{List, ℕ, ◌≤◌, length};
+    ghost use Rattle.procstore.specs.Named.{names_of, AreKeyed};
+    ghost use Rattle.procstore.specs.declared.limits.TheConstants.{MAX_PROCS};
+
+    ghost Value = { List (List ℕ) };
+
+    ghost view = { λ s. names_of s.procs.entries };
+
+    ghost invariant = { λ s. AreKeyed s.procs.entries × (length (names_of s.procs.entries) ≤ MAX_PROCS) };
+}
+
+/// A proc that was not added, and why.
+#[derive(Drop)]
+pub struct NotAdded<P: Promise, B: Run = Body> {
+    /// The proc, as it was handed in.
+    pub proc: Proc<P, B>,
+    /// Why the store does not take it.
+    pub why: AddError,
+}
+
+impl<P: Promise, B: Run> ProcStore<P, B> {
+    ghost use Rattle.std.specs.Prelude.{◌≡◌, ◌≤◌, ◌++◌, ◌∷◌, [], None, length, slice_get, OnOk, OnErr, IfErr};
+    ghost use Rattle.std.specs.Option.{option_copied};
+    ghost use Rattle.procstore.specs.Calling.{holds, refusal, IsWhy, IsCalled};
+
+    /// A store without procs. Takes no memory.
+    pub fn new(alloc: Global) -> ProcStore<P, B>
+        ensures { result ≡ [] }
+    {
+        ProcStore {
+            procs: IndexMap::new(alloc),
+        }
+    }
+
+    /// How many procs there are.
+    pub fn len(&self) -> usize
+        ensures count { result ≡ length self.now }
+        ensures few { result ≤ MAX_PROCS }
+    {
+        self.procs.len()
+    }
+
+    /// Whether there is a proc of this name, byte for byte.
+    pub fn holds(&self, name: &[u8]) -> bool
+        ensures { result ≡ holds self.now name.now }
+    {
+        self.procs.contains_key(name)
+    }
+
+    /// The name of the proc that was added at this place, from 0; none after the last.
+    pub fn name_at(&self, place: usize) -> Option<&[u8]>
+        ensures { option_copied result ≡ slice_get self.now place }
+    {
+        match self.procs.get_index(place) {
+            Some((name, _)) => Some(name.as_slice()),
+            None => None,
+        }
+    }
+
+    /// Adds a proc after the others.
+    ///
+    /// # Errors
+    /// `NameTaken` (P1) where there is a proc of its name, `Full` (P2) where there are 200 procs, and `NoMemory` where
+    /// neither holds and room is refused. The store is as before then, and the proc is handed back.
+    pub fn add(&mut self, alloc: Global, proc: Proc<P, B>) -> Result<(), NotAdded<P, B>>
+        ensures added { OnOk result (self.new ≡ self.old ++ proc.name ∷ []) }
+        ensures allowed { OnOk result (refusal self.old proc.name ≡ None) }
+        ensures why { IfErr result (λ refused. IsWhy (refusal self.old proc.name) refused.why) }
+        ensures handed_back { IfErr result (λ refused. refused.proc ≡ proc) }
+        ensures unchanged { OnErr result (self.new ≡ self.old) }
+    {
+        if let Some(fault) = self.refusal_of(proc.name()) {
+            let why = Failure::Refused(fault);
+            return Err(NotAdded { proc, why });
+        }
+        let why = Failure::NoMemory;
+        let name = match Vec::from_slice(alloc, proc.name()) {
+            Ok(name) => name,
+            Err(_) => return Err(NotAdded { proc, why }),
+        };
+        match self.procs.insert(name, proc) {
+            Ok(_) => Ok(()),
+            Err(refused) => Err(NotAdded {
+                proc: refused.value.1,
+                why,
+            }),
+        }
+    }
+
+    // Why no proc of this name can be added.
+    fn refusal_of(&self, name: &[u8]) -> Option<AddFault>
+        ensures { result ≡ refusal self.now name.now }
+    {
+        if self.holds(name) {
+            return Some(AddFault::NameTaken);
+        }
+        if self.len() >= MAX_PROCS {
+            return Some(AddFault::Full);
+        }
+        None
+    }
+
+    /// Calls the proc of this name. The store itself takes no memory.
+    ///
+    /// # Errors
+    /// `NoSuchProc` (P3) where no proc has this name, and only there. `NoMemory` (P4) where the proc lacks memory and its
+    /// promise allows that for this call.
+    pub fn call(&self, name: &[u8], call: &Call) -> Result<Reply, CallError>
+        ensures { IsCalled P.code_of P.may P.may_lack self.now name.now call.now result }
+    {
+        match self.procs.get(name) {
+            Some(proc) => as_called(proc.call(call)),
+            None => Err(Failure::Refused(CallFault::NoSuchProc)),
+        }
+    }
+}
+
+// What a proc answered, as the answer to a call by name.
+fn as_called(answer: Result<Reply, NoMemory>) -> Result<Reply, CallError>
+    ensures { result ≡ as_called answer }
+{
+    match answer {
+        Ok(reply) => Ok(reply),
+        Err(NoMemory) => Err(Failure::NoMemory),
+    }
+}
