@@ -9,7 +9,7 @@ use Rattle.sharelink.specs.Meets.{Row, noted, refused}
 use Rattle.sharelink.specs.HubRules.{Hub, own, acceptance, ask_served, hub_pumped_at}
 use Rattle.sharelink.specs.LeafRules.{Leaf, with_next, leaf_received}
 use Rattle.sharelink.specs.declared.accepted.AcceptedChange.{AcceptedChange}
-use Rattle.sharelink.specs.declared.packet.Packet.TheVariants.{Change as change_packet}
+use Rattle.sharewire.specs.declared.packet.Packet.TheVariants.{Change as change_packet}
 use Rattle.sharelink.specs.declared.answer.Note.TheVariants.{Accepted, Applied}
 use Rattle.sharelink.specs.declared.error.LinkFault.TheVariants.{NumbersSpent, Diverged}
 use Rattle.botworld.specs.declared.sent.Sent.{Sent}

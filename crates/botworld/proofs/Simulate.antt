@@ -17,8 +17,8 @@ use Rattle.sharelink.specs.HubRules.{hub_received, is_no_leaf}
 use Rattle.sharelink.specs.declared.TheConstants.{MAX_ASKS}
 use Rattle.sharelink.specs.LeafRules.{Leaf, ask_fault, leaf_pumped, with_next, next_applied, leaf_received}
 use Rattle.sharelink.specs.declared.accepted.AcceptedChange.{AcceptedChange}
-use Rattle.sharelink.specs.declared.packet.Packet.{Packet}
-use Rattle.sharelink.specs.declared.packet.Packet.TheVariants.{Hello, Change as change_packet}
+use Rattle.sharewire.specs.declared.packet.Packet.{Packet}
+use Rattle.sharewire.specs.declared.packet.Packet.TheVariants.{Hello, Change as change_packet}
 use Rattle.sharelink.specs.declared.answer.Note.{Note}
 use Rattle.sharelink.specs.declared.answer.Note.TheVariants.{Queued, Idle, Refused, Applied, Old, Early, Stray}
 use Rattle.sharelink.specs.declared.error.LinkFault.{LinkFault}
@@ -142,13 +142,13 @@ or_right true b e = cc
 or_right false b e = e
 
 hub_receives : (s : State) → IsSound s → (p : Packet) → Sim s (hub_stepped (net_of s) (hub_received (net_of s).hub p))
-hub_receives s sound (change_packet number origin request change) = hub_notes s sound Stray s.waiting refl
 hub_receives s sound (Hello leaf v) = by (is_no_leaf (length s.versions) leaf || nat_lt (length s.accepted) v) refl
   where
     by : (b : Bool) → (is_no_leaf (length s.versions) leaf || nat_lt (length s.accepted) v) ≡ b
         → Sim s (hub_stepped (net_of s) (if b then noted Stray (net_of s).hub else hello_served (net_of s).hub leaf v))
     by true e = hub_notes s sound Stray s.waiting refl
     by false e = hub_serves s sound leaf v (ltb-false (length s.accepted) v (or_right (is_no_leaf (length s.versions) leaf) (nat_lt (length s.accepted) v) e))
+hub_receives s sound other = hub_notes s sound Stray s.waiting refl
 
 -- a leaf ----------------------------------------------------------------------------------------------------------------
 
@@ -243,7 +243,6 @@ leaf_nexts s sound place v entry None e at h = leaf_applies s sound place v (v +
 
 leaf_receives : (s : State) → IsSound s → (place v : ℕ) (p : Packet) → slice_get s.versions place ≡ Some v → IsTrueChange s.accepted p
     → Sim s (leaf_stepped (net_of s) place (leaf_received (leaf_of s.accepted (1 + place) v) p))
-leaf_receives s sound place v (Hello leaf version) e h = leaf_notes s sound place v Stray e refl
 leaf_receives s sound place v (change_packet number origin request change) e h = by (nat_le number v)
   where
     next : (b : Bool) → (number == (v + 1)) ≡ b
@@ -260,6 +259,7 @@ leaf_receives s sound place v (change_packet number origin request change) e h =
         (refusal (records_of s.accepted v) change) else noted Early (leaf_of s.accepted (1 + place) v)))
     by true = leaf_notes s sound place v Old e refl
     by false = next (number == (v + 1)) refl
+leaf_receives s sound place v other e h = leaf_notes s sound place v Stray e refl
 
 ask_fault-other : (shape : Option ChangeFault) → ask_fault shape ≢ Diverged
 ask_fault-other (Some fault) e = cc

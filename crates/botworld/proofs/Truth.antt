@@ -7,8 +7,8 @@ use Rattle.userfile.specs.Records.{Records}
 use Rattle.userfile.specs.Apply.{refusal}
 use Rattle.sharelink.specs.HubRules.{to_each, numbered_from, packet_of}
 use Rattle.sharelink.specs.declared.accepted.AcceptedChange.{AcceptedChange}
-use Rattle.sharelink.specs.declared.packet.Packet.{Packet}
-use Rattle.sharelink.specs.declared.packet.Packet.TheVariants.{Hello, Change as change_packet}
+use Rattle.sharewire.specs.declared.packet.Packet.{Packet}
+use Rattle.sharewire.specs.declared.packet.Packet.TheVariants.{Hello, Change as change_packet}
 use Rattle.botworld.specs.declared.sent.Sent.{Sent}
 use Rattle.botworld.specs.Net.{posted}
 use Rattle.botworld.specs.Network.{records_of}
@@ -21,8 +21,8 @@ IsNumbered-extended xs ys zero e h = absurd h
 IsNumbered-extended xs ys (suc n) e h = slice_get-front xs ys n e h
 
 IsTrueChange-extended : (xs ys : List AcceptedChange) (p : Packet) → IsTrueChange xs p → IsTrueChange (xs ++ ys) p
-IsTrueChange-extended xs ys (Hello leaf version) h = tt
 IsTrueChange-extended xs ys (change_packet number origin request change) h = IsNumbered-extended xs ys number _ h
+IsTrueChange-extended xs ys other h = tt
 
 pub AllTrue-extended : (xs ys : List AcceptedChange) (ps : List Sent) → AllTrue xs ps → AllTrue (xs ++ ys) ps
 AllTrue-extended xs ys [] h = tt

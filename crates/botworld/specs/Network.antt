@@ -10,7 +10,7 @@ use Rattle.sharelink.specs.LeafRules.{Leaf}
 use Rattle.sharelink.specs.declared.accepted.AcceptedChange.{AcceptedChange}
 use Rattle.sharelink.specs.declared.answer.Note.{Note}
 use Rattle.sharelink.specs.declared.answer.Note.TheVariants.{Queued, Idle, Accepted, Refused, Served, Old, Early, Applied, Stray}
-use Rattle.sharelink.specs.declared.packet.Packet.TheVariants.{Change as change_packet}
+use Rattle.sharewire.specs.declared.packet.Packet.TheVariants.{Change as change_packet}
 use Rattle.sharelink.specs.declared.error.LinkFault.TheVariants.{Diverged}
 use Rattle.botworld.specs.declared.sent.Sent.{Sent}
 use Rattle.botworld.specs.declared.step.Step.{Step}

@@ -5,8 +5,8 @@ use Rattle.userfile.specs.Records.{Records}
 use Rattle.userfile.specs.Apply.{refusal}
 use Rattle.sharelink.specs.LeafRules.{Leaf}
 use Rattle.sharelink.specs.declared.accepted.AcceptedChange.{AcceptedChange}
-use Rattle.sharelink.specs.declared.packet.Packet.{Packet}
-use Rattle.sharelink.specs.declared.packet.Packet.TheVariants.{Hello, Change as change_packet}
+use Rattle.sharewire.specs.declared.packet.Packet.{Packet}
+use Rattle.sharewire.specs.declared.packet.Packet.TheVariants.{Hello, Change as change_packet}
 use Rattle.botworld.specs.declared.sent.Sent.{Sent}
 use Rattle.botworld.specs.declared.step.Step.{Step}
 use Rattle.botworld.specs.declared.outcome.Outcome.{Outcome}
@@ -20,8 +20,8 @@ IsNumbered accepted (suc place) entry = slice_get accepted place ≡ Some entry
 
 -- a change that was sent is the accepted change of its number
 abbrev pub IsTrueChange : List AcceptedChange → Packet → Type 0
-IsTrueChange accepted (Hello leaf version) = Unit {0}
 IsTrueChange accepted (change_packet number origin request change) = IsNumbered accepted number (record { origin = origin; request = request; change = change })
+IsTrueChange accepted other = Unit {0}
 
 -- each packet ever sent tells the truth
 abbrev pub AllTrue : List AcceptedChange → List Sent → Type 0

@@ -15,7 +15,7 @@ use Rattle.botworld.proofs.Start.{start_stands}
 use Rattle.botworld.proofs.Made.{leads_made, outcomes_from-made, runs_from}
 use Rattle.botworld.specs.Standing.{shown_version, shown_records}
 use Rattle.replay.specs.Text.{outcome_text, shown_text}
-use Rattle.replay.specs.Transcript.{command_text, after_command, commands_text, steps_of, IsRun, IsTranscript, transcript_of}
+use Rattle.replay.specs.Transcript.{command_text, commands_text, steps_of, IsRun, IsTranscript, transcript_of}
 use Rattle.replay.specs.Doing.{StepDone, CommandDone}
 
 -- a run of one step has one outcome

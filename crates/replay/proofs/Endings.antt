@@ -1,15 +1,14 @@
 -- How a replay ends.
-use Rattle.std.proofs.Common.{◌≡◌, ℕ, ◌+◌, List, [], ◌++◌, take, sym, ap, subst, refl, ◌∙◌, Option, None, Some, Result, Ok, Err, IfOk, IfErr, IfSome}
+use Rattle.std.proofs.Common.{◌≡◌, ℕ, ◌+◌, List, [], ◌++◌, take, ap, subst, ◌∙◌, Option, None, Some, Result, Ok, Err, IfOk, IfErr, IfSome}
 use Rattle.std.specs.declared.vec.Vec.{Vec}
 use Rattle.std.specs.declared.alloc.Global.{Global}
 use Rattle.std.specs.Option.{option_map}
 use Rattle.bytetext.specs.declared.failure.Failure.{Failure}
 use Rattle.bytetext.specs.declared.failure.Failure.TheVariants.{Refused, NoMemory as failed_no_memory}
 use Rattle.script.specs.declared.TheConstants.{MAX_SCRIPT}
-use Rattle.script.specs.declared.reading.Script.{Script}
 use Rattle.script.specs.declared.error.ScriptFault.{ScriptFault}
 use Rattle.script.specs.Outcomes.{ReadsAs}
-use Rattle.script.specs.Reading.{Spells, HasFault}
+use Rattle.script.specs.Reading.{HasFault}
 use Rattle.script.proofs.Faults.{HasFault-not_spelled, HasFault-same, Spells-take, HasFault-take}
 use Rattle.replay.specs.declared.error.ReplayError.{ReplayError}
 use Rattle.replay.specs.declared.error.ReplayError.TheVariants.{Script as script_fault, Read, Write, NoMemory}

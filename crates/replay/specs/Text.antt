@@ -10,8 +10,8 @@ use Rattle.userfile.specs.declared.ban.Ban.{Ban}
 use Rattle.sharelink.specs.Codes.{link_code}
 use Rattle.sharelink.specs.declared.answer.Note.{Note}
 use Rattle.sharelink.specs.declared.answer.Note.TheVariants.{Queued, Idle, Accepted, Refused, Served, Old, Early, Applied, Stray}
-use Rattle.sharelink.specs.declared.packet.Packet.{Packet}
-use Rattle.sharelink.specs.declared.packet.Packet.TheVariants.{Hello, Change as change_packet}
+use Rattle.sharewire.specs.declared.packet.Packet.{Packet}
+use Rattle.sharewire.specs.declared.packet.Packet.TheVariants.{Hello, Change as change_packet, Request, Accepted as accepted_packet, Refused as refused_packet, BotText}
 use Rattle.botworld.specs.declared.sent.Sent.{Sent}
 use Rattle.botworld.specs.declared.outcome.End.{End}
 use Rattle.botworld.specs.declared.outcome.End.TheVariants.{Note as ended, Refused as ended_refused, NoMemory as ended_no_memory}
@@ -41,6 +41,10 @@ end_line bot ended_no_memory = []
 abbrev pub packet_text : Packet → List ℕ
 packet_text (Hello leaf version) = codes "Hello " ++ decimal version
 packet_text (change_packet number origin request change) = codes "Change " ++ decimal number
+packet_text (Request leaf request change) = codes "Request " ++ decimal request
+packet_text (accepted_packet leaf request number) = codes "Accepted " ++ decimal request ++ codes " " ++ decimal number
+packet_text (refused_packet leaf request fault) = codes "Refused " ++ decimal request ++ codes " " ++ fault_code fault
+packet_text (BotText from to text) = codes "BotText " ++ decimal from ++ codes " " ++ decimal to ++ codes " " ++ text
 
 -- send K A>B KIND DETAIL
 abbrev pub sent_line : ℕ → Sent → List ℕ

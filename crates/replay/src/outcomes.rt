@@ -72,13 +72,27 @@ fn put_packet(out: &mut Vec<u8>, packet: &Packet) -> Result<(), NoMemory>
     ensures { OnOk result (out.new.items ≡ out.old.items ++ packet_text packet.now) }
 {
     match packet {
-        Packet::Hello { version, .. } => {
-            put(out, b"Hello ")?;
-            put_number(out, u64::from(*version))
+        Packet::Hello { version, .. } => put_counted(out, b"Hello ", u64::from(*version)),
+        Packet::Change { number, .. } => put_counted(out, b"Change ", u64::from(*number)),
+        Packet::Request { request, .. } => put_counted(out, b"Request ", u64::from(*request)),
+        Packet::Accepted {
+            request,
+            number,
+            ..
+        } => {
+            put_counted(out, b"Accepted ", u64::from(*request))?;
+            put_counted(out, b" ", u64::from(*number))
         }
-        Packet::Change { number, .. } => {
-            put(out, b"Change ")?;
-            put_number(out, u64::from(*number))
+        Packet::Refused { request, fault, .. } => {
+            put_counted(out, b"Refused ", u64::from(*request))?;
+            put(out, b" ")?;
+            put(out, fault.code().as_bytes())
+        }
+        Packet::BotText { from, to, text } => {
+            put_counted(out, b"BotText ", u64::from(*from))?;
+            put_counted(out, b" ", u64::from(*to))?;
+            put(out, b" ")?;
+            put(out, text.as_bytes())
         }
     }
 }

@@ -1,5 +1,5 @@
 // From a script's bytes to its transcript.
-ghost use Rattle.std.specs.Prelude.{◌≡◌, ◌<◌, [], ◌∷◌, ◌++◌, ℕ, Err, length, IfOk, OnOk};
+ghost use Rattle.std.specs.Prelude.{◌≡◌, ◌<◌, ◌≤◌, [], ◌∷◌, ◌++◌, ℕ, Err, length, IfOk, OnOk};
 ghost use Rattle.script.specs.Reading.{HasFault};
 ghost use Rattle.script.specs.declared.TheConstants.{MAX_SCRIPT};
 ghost use Rattle.botworld.specs.Network.{State};
@@ -9,9 +9,10 @@ ghost use Rattle.replay.specs.Doing.{CommandDone, StepDone};
 
 use crate::outcomes::put_outcome;
 use crate::shows::put_shown;
-use botworld::{Outcome, Step, World};
+use botworld::{Outcome, Step, World, WorldError};
 use bytetext::{Failure, NoMemory};
 use script::{Command, Script, ScriptError};
+use sharelink::MAX_LEAVES;
 use std::alloc::Global;
 use std::slice;
 
@@ -35,11 +36,14 @@ pub fn transcript(alloc: Global, script: &[u8]) -> Result<Vec<u8>, ScriptError>
 
 // The transcript of a script.
 fn text_of(alloc: Global, script: &Script) -> Result<Vec<u8>, NoMemory>
+    requires { script.now.leaves ≤ MAX_LEAVES }
     ensures { IfOk result (λ text. text.items ≡ transcript_of script.now) }
 {
-    // A script has no more leaves than a world may have.
-    let Ok(mut world) = World::new(alloc, script.leaves) else {
-        return Err(NoMemory);
+    let mut world = match World::new(alloc, script.leaves) {
+        Ok(world) => world,
+        // A script has no more leaves than a world may have.
+        Err(WorldError::Refused(_)) => unreachable!(),
+        Err(WorldError::NoMemory) => return Err(NoMemory),
     };
     let mut text = Vec::new(alloc);
     put_commands(alloc, &mut text, &mut world, script.commands.as_slice())?;

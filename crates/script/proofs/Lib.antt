@@ -2,3 +2,4 @@ pub mod Values
 pub mod Rests
 pub mod Sayings
 pub mod Faults
+pub mod Fewness

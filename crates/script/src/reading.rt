@@ -9,6 +9,7 @@ use crate::error::{ScriptError, ScriptFault};
 use crate::pieces::pieces_of;
 use crate::saying::{Saying, saying_of};
 use bytetext::{Failure, NoMemory, TryCopy};
+use sharelink::MAX_LEAVES;
 use std::alloc::Global;
 
 /// A script: how many leaves the botnet has, and what is done with it.
@@ -21,7 +22,7 @@ pub struct Script {
 }
 
 impl Script {
-    ghost use Rattle.std.specs.Prelude.{◌≡◌, ◌<◌, length};
+    ghost use Rattle.std.specs.Prelude.{◌≡◌, ◌<◌, ◌≤◌, length, IfOk};
     ghost use Rattle.script.specs.Outcomes.{ReadsAs};
 
     /// The script that these bytes spell.
@@ -31,6 +32,7 @@ impl Script {
     /// there is no command; `NoMemory` where room is refused before a broken rule is seen, which is not for the length.
     pub fn read(alloc: Global, bytes: &[u8]) -> Result<Script, ScriptError>
         ensures reads { ReadsAs bytes.now result }
+        ensures few { IfOk result (λ script. script.leaves ≤ MAX_LEAVES) }
         ensures too_long { MAX_SCRIPT < length bytes.now → result ≡ Err (Failure.Refused (record { line = 0 })) }
     {
         if bytes.len() > MAX_SCRIPT {

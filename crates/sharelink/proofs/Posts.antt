@@ -2,7 +2,7 @@
 use Rattle.std.proofs.Common.{◌≡◌, ℕ, ◌+◌, ◌-◌, ◌<◌, suc, List, [], ◌∷◌, ◌++◌, drop, refl, ap, sym, ◌∙◌, arith, append_assoc, length, get_or}
 use Rattle.std.proofs.lemmas.List.{drop_more}
 use Rattle.sharelink.specs.HubRules.{to_each, numbered_from, packet_of}
-use Rattle.sharelink.specs.declared.packet.Packet.{Packet}
+use Rattle.sharewire.specs.declared.packet.Packet.{Packet}
 use Rattle.sharelink.specs.declared.answer.Outgoing.{Outgoing}
 use Rattle.sharelink.specs.declared.accepted.AcceptedChange.{AcceptedChange}
 

@@ -5,8 +5,8 @@ use Rattle.userfile.specs.Records.{Records, no_records}
 use Rattle.userfile.specs.Apply.{bad_shape, refusal, changed}
 use Rattle.userfile.specs.declared.change.Change.{Change}
 use Rattle.userfile.specs.declared.error.ChangeFault.{ChangeFault}
-use Rattle.sharelink.specs.declared.packet.Packet.{Packet}
-use Rattle.sharelink.specs.declared.packet.Packet.TheVariants.{Hello, Change as change_packet}
+use Rattle.sharewire.specs.declared.packet.Packet.{Packet}
+use Rattle.sharewire.specs.declared.packet.Packet.TheVariants.{Hello, Change as change_packet}
 use Rattle.sharelink.specs.declared.answer.Outgoing.{Outgoing}
 use Rattle.sharelink.specs.declared.answer.Note.TheVariants.{Queued, Idle, Accepted, Refused, Served, Stray}
 use Rattle.sharelink.specs.declared.error.LinkFault.TheVariants.{BadChange, AsksFull, NumbersSpent}
@@ -119,4 +119,4 @@ abbrev pub hub_received : Hub → Packet → Row Hub
 hub_received old (Hello leaf version) =
     if is_no_leaf old.leaves leaf || nat_lt (version_of old) version then noted Stray old
     else hello_served old leaf version
-hub_received old (change_packet number origin request change) = noted Stray old
+hub_received old other = noted Stray old

@@ -4,8 +4,8 @@ use Rattle.userfile.specs.Records.{Records, no_records}
 use Rattle.userfile.specs.Apply.{bad_shape, refusal, changed}
 use Rattle.userfile.specs.declared.change.Change.{Change}
 use Rattle.userfile.specs.declared.error.ChangeFault.{ChangeFault}
-use Rattle.sharelink.specs.declared.packet.Packet.{Packet}
-use Rattle.sharelink.specs.declared.packet.Packet.TheVariants.{Hello, Change as change_packet}
+use Rattle.sharewire.specs.declared.packet.Packet.{Packet}
+use Rattle.sharewire.specs.declared.packet.Packet.TheVariants.{Hello, Change as change_packet}
 use Rattle.sharelink.specs.declared.answer.Note.TheVariants.{Idle, Old, Early, Applied, Stray}
 use Rattle.sharelink.specs.declared.error.LinkFault.{LinkFault}
 use Rattle.sharelink.specs.declared.error.LinkFault.TheVariants.{BadChange, AsksFull, Diverged}
@@ -44,8 +44,8 @@ next_applied old change None = noted (Applied (old.version + 1)) (with_next old 
 
 -- the change numbered one above the version is applied; a lower one is old, and a higher one early
 abbrev pub leaf_received : Leaf → Packet → Row Leaf
-leaf_received old (Hello leaf version) = noted Stray old
 leaf_received old (change_packet number origin request change) =
     if nat_le number old.version then noted Old old
     else if number == (old.version + 1) then next_applied old change (refusal old.records change)
     else noted Early old
+leaf_received old other = noted Stray old

@@ -1,8 +1,8 @@
 // What a call of a link answers.
 ghost use Rattle.std.specs.Prelude.{◌≡◌, []};
 
-use crate::packet::Packet;
 use bytetext::{NoMemory, Seq, TryCopy};
+use sharewire::Packet;
 use std::alloc::Global;
 use userfile::ChangeFault;
 

@@ -1,8 +1,8 @@
 // A leaf's end of the link.
 use crate::answer::{Answer, Note, Outgoing};
 use crate::error::{LinkError, LinkFault};
-use crate::packet::Packet;
 use bytetext::{NoMemory, Seq, TryCopy};
+use sharewire::Packet;
 use std::alloc::Global;
 use std::marker::Model;
 use userfile::{Change, Userfile, shape};

@@ -19,14 +19,13 @@ mod answer;
 mod error;
 mod hub;
 mod leaf;
-mod packet;
 
 pub use crate::accepted::AcceptedChange;
 pub use crate::answer::{Answer, Note, Outgoing, Outgoings};
 pub use crate::error::{LinkError, LinkFault};
 pub use crate::hub::HubLink;
 pub use crate::leaf::LeafLink;
-pub use crate::packet::Packet;
+pub use sharewire::Packet;
 
 /// The most leaves that a hub has.
 pub const MAX_LEAVES: u16 = 1000;

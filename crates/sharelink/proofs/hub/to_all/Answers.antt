@@ -1,5 +1,5 @@
 use Rattle.std.proofs.Common.{vec_len, ◌≡◌, ◌+◌, arith}
-use Rattle.sharelink.specs.declared.packet.Packet.TheVariants.{Change as change_packet}
+use Rattle.sharewire.specs.declared.packet.Packet.TheVariants.{Change as change_packet}
 use Rattle.sharelink.proofs.Posts.{to_each-more}
 use Rattle.sharelink.proofs.hub.to_all.Goals as goal
 

@@ -1,6 +1,6 @@
 use Rattle.std.proofs.Common.{vec_len, ◌≡◌, ◌++◌, ◌+◌, ◌-◌}
 use Rattle.sharelink.specs.HubRules.{to_each}
-use Rattle.sharelink.specs.declared.packet.Packet.TheVariants.{Change as change_packet}
+use Rattle.sharewire.specs.declared.packet.Packet.TheVariants.{Change as change_packet}
 use Rattle.sharelink.proofs.hub.to_all.Given as goal
 
 -- the packets so far and those to the leaves that are left are all of them
