@@ -1,4 +1,4 @@
-//! Tests of the libraries, of what no clause says and no line of `vectors` shows: each public call once where it does its
+//! Tests of the pure parts, of what no clause says and no line of `vectors` shows: each public call once where it does its
 //! work, with whole values, and worked examples that need more than one line. A module is the tests of one library.
 #![tactic(auto)]
 
@@ -13,18 +13,10 @@ mod folding;
 #[cfg(test)]
 mod lines;
 #[cfg(test)]
-mod links;
-#[cfg(test)]
 mod masks;
 #[cfg(test)]
 mod queues;
 #[cfg(test)]
-mod scripts;
-#[cfg(test)]
 mod texts;
 #[cfg(test)]
-mod transcripts;
-#[cfg(test)]
 mod users;
-#[cfg(test)]
-mod worlds;

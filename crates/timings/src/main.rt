@@ -7,7 +7,9 @@
 //! | `channels` | 100,000 lines for a bot on 200 channels of 1,000 people, 1,000 who quit; 8,000 who quit and come back |
 //! | `timers` | 200 timers over ten minutes, and 500 cron masks over a day |
 //! | `lines` | a stream of about 10 MB, to its lines |
-//! | `all` | each of these |
+//! | `frames` | three packets, each written 100,000 times, and the stream of these frames, which is read |
+//! | `journal FILE FILE` | 1,000 appends to a journal in these files; 100,000 to one in memory, which is opened again |
+//! | `all` | each of these, but for a journal in files |
 //! | `small`, or no word | each of these at a small size, in less than a second |
 //!
 //! A line of what it prints is what was timed, in two words, how many calls there were, the milliseconds that they took
@@ -19,6 +21,8 @@
 
 mod channels;
 mod crowd;
+mod frames;
+mod journals;
 mod lines;
 mod masks;
 mod netsplit;
@@ -32,8 +36,9 @@ mod timers;
 use crate::sizes::{FULL, SMALL, Sizes};
 use crate::stop::Stop;
 use std::env;
+use std::fs::File;
 use std::process::ExitCode;
-use std::rt::Env;
+use std::rt::{Env, Files};
 use std::time::Clock;
 
 fn main(rt: HostRuntime) -> ExitCode {
@@ -47,7 +52,10 @@ fn main(rt: HostRuntime) -> ExitCode {
 }
 
 // Times what the command line asks for.
-fn measured<R: AllocGlobal + Clock + Eprint + Env>(rt: &R) -> Result<(), Stop> {
+fn measured<R>(rt: &R) -> Result<(), Stop>
+where
+    R: AllocGlobal + Clock + Eprint + Env + Files<File = File>,
+{
     match env::args(rt)?.nth(1) {
         Some(word) => timed(rt, word.as_bytes()),
         None => all(rt, &SMALL),
@@ -62,22 +70,29 @@ enum Part {
     Channels,
     Timers,
     Lines,
+    Frames,
+    Journal,
     All,
     Small,
 }
 
-const PARTS: [(&[u8], Part); 7] = [
+const PARTS: [(&[u8], Part); 9] = [
     (b"persons", Part::Persons),
     (b"masks", Part::Masks),
     (b"channels", Part::Channels),
     (b"timers", Part::Timers),
     (b"lines", Part::Lines),
+    (b"frames", Part::Frames),
+    (b"journal", Part::Journal),
     (b"all", Part::All),
     (b"small", Part::Small),
 ];
 
 // Times what the word stands for.
-fn timed<R: AllocGlobal + Clock + Eprint>(rt: &R, word: &[u8]) -> Result<(), Stop> {
+fn timed<R>(rt: &R, word: &[u8]) -> Result<(), Stop>
+where
+    R: AllocGlobal + Clock + Eprint + Env + Files<File = File>,
+{
     let Some((_, part)) = PARTS.iter().find(|(name, _)| *name == word) else {
         return Err(Stop::Unknown);
     };
@@ -87,6 +102,8 @@ fn timed<R: AllocGlobal + Clock + Eprint>(rt: &R, word: &[u8]) -> Result<(), Sto
         Part::Channels => channels::measure(rt, &FULL),
         Part::Timers => timers::measure(rt),
         Part::Lines => lines::measure(rt, &FULL),
+        Part::Frames => frames::measure(rt, &FULL),
+        Part::Journal => both_journals(rt),
         Part::All => all(rt, &FULL),
         Part::Small => all(rt, &SMALL),
     }
@@ -98,5 +115,16 @@ fn all<R: AllocGlobal + Clock + Eprint>(rt: &R, sizes: &Sizes) -> Result<(), Sto
     masks::measure(rt, sizes)?;
     channels::measure(rt, sizes)?;
     timers::measure(rt)?;
-    lines::measure(rt, sizes)
+    lines::measure(rt, sizes)?;
+    frames::measure(rt, sizes)?;
+    journals::measure(rt, sizes)
+}
+
+// Times a journal in files, and one in memory.
+fn both_journals<R>(rt: &R) -> Result<(), Stop>
+where
+    R: AllocGlobal + Clock + Eprint + Env + Files<File = File>,
+{
+    journals::measure_files(rt)?;
+    journals::measure(rt, &FULL)
 }

@@ -17,6 +17,10 @@ pub struct Sizes {
     pub split: u32,
     /// How many times five lines the stream has, of about 300 bytes.
     pub fives: u32,
+    /// How many entries are appended to a journal in memory.
+    pub entries: u64,
+    /// How often each packet is written.
+    pub frames: u64,
 }
 
 /// The size of a large botnet.
@@ -28,6 +32,8 @@ pub const FULL: Sizes = Sizes {
     rounds: 125,
     split: 8_000,
     fives: 30_000,
+    entries: 100_000,
+    frames: 100_000,
 };
 
 /// A size that takes less than a second.
@@ -39,4 +45,6 @@ pub const SMALL: Sizes = Sizes {
     rounds: 4,
     split: 100,
     fives: 200,
+    entries: 1_000,
+    frames: 200,
 };

@@ -3,7 +3,8 @@ use crate::civil::Form;
 use crate::sink::Sink;
 use crate::stop::{CaseError, NO_SUCH_CASE};
 use crate::{
-    casemapping, channels, civil, clock, cron, events, flags, lines, masks, persons, queues, timers,
+    binds, casemapping, channels, civil, clock, cron, events, flags, frames, journals, lines,
+    masks, persons, queues, spellings, timers,
 };
 use bytetext::Text;
 use std::alloc::Global;
@@ -12,7 +13,9 @@ use std::alloc::Global;
 #[derive(Clone, Copy)]
 enum Asked {
     Ban,
+    Binds,
     Chan,
+    Change,
     Civil,
     Clock,
     Cron,
@@ -20,6 +23,9 @@ enum Asked {
     Events,
     Flags,
     Fold,
+    Frame,
+    Frames,
+    Journal,
     Line,
     Literals,
     Mask,
@@ -27,7 +33,10 @@ enum Asked {
     Prefix,
     Print,
     Queues,
+    Record,
+    Respell,
     Same,
+    Spell,
     Stream,
     Time,
     TimeArgs,
@@ -35,9 +44,11 @@ enum Asked {
     UserFlags,
 }
 
-const ASKED: [(&[u8], Asked); 22] = [
+const ASKED: [(&[u8], Asked); 30] = [
     (b"ban", Asked::Ban),
+    (b"binds", Asked::Binds),
     (b"chan", Asked::Chan),
+    (b"change", Asked::Change),
     (b"civil", Asked::Civil),
     (b"clock", Asked::Clock),
     (b"cron", Asked::Cron),
@@ -45,6 +56,9 @@ const ASKED: [(&[u8], Asked); 22] = [
     (b"events", Asked::Events),
     (b"flags", Asked::Flags),
     (b"fold", Asked::Fold),
+    (b"frame", Asked::Frame),
+    (b"frames", Asked::Frames),
+    (b"journal", Asked::Journal),
     (b"line", Asked::Line),
     (b"literals", Asked::Literals),
     (b"mask", Asked::Mask),
@@ -52,7 +66,10 @@ const ASKED: [(&[u8], Asked); 22] = [
     (b"prefix", Asked::Prefix),
     (b"print", Asked::Print),
     (b"queues", Asked::Queues),
+    (b"record", Asked::Record),
+    (b"respell", Asked::Respell),
     (b"same", Asked::Same),
+    (b"spell", Asked::Spell),
     (b"stream", Asked::Stream),
     (b"time", Asked::Time),
     (b"timeargs", Asked::TimeArgs),
@@ -79,7 +96,9 @@ fn asked_by(word: &[u8]) -> Option<Asked> {
 fn answer_to(asked: Asked, alloc: Global, words: &[Text], out: &mut Sink) -> Result<(), CaseError> {
     match asked {
         Asked::Ban => persons::ban(alloc, words, out),
+        Asked::Binds => binds::binds(alloc, words, out),
         Asked::Chan => channels::chan(alloc, words, out),
+        Asked::Change => spellings::change(alloc, words, out),
         Asked::Civil => civil::civil(alloc, Form::Numbers, words, out),
         Asked::Clock => clock::clock(alloc, words, out),
         Asked::Cron => cron::cron(words, out),
@@ -87,6 +106,9 @@ fn answer_to(asked: Asked, alloc: Global, words: &[Text], out: &mut Sink) -> Res
         Asked::Events => events::events(alloc, words, out),
         Asked::Flags => flags::met(words, out),
         Asked::Fold => casemapping::fold(alloc, words, out),
+        Asked::Frame => frames::frame(alloc, words, out),
+        Asked::Frames => frames::frames(alloc, words, out),
+        Asked::Journal => journals::journal(alloc, words, out),
         Asked::Line => lines::line(alloc, words, out),
         Asked::Literals => masks::literals(alloc, words, out),
         Asked::Mask => masks::mask(alloc, words, out),
@@ -94,7 +116,10 @@ fn answer_to(asked: Asked, alloc: Global, words: &[Text], out: &mut Sink) -> Res
         Asked::Prefix => lines::prefix(words, out),
         Asked::Print => lines::print(alloc, words, out),
         Asked::Queues => queues::queues(alloc, words, out),
+        Asked::Record => spellings::record(alloc, words, out),
+        Asked::Respell => spellings::respell(alloc, words, out),
         Asked::Same => casemapping::same(words, out),
+        Asked::Spell => spellings::spell(alloc, words, out),
         Asked::Stream => lines::stream(alloc, words, out),
         Asked::Time => civil::civil(alloc, Form::Time, words, out),
         Asked::TimeArgs => civil::civil(alloc, Form::TimeArgs, words, out),

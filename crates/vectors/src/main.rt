@@ -17,6 +17,13 @@
 //! | `clock READING..` | for each reading the seconds that it runs, `none` or the code; for `last` the last second |
 //! | `timers STEP..` | what each step answers |
 //! | `queues STEP..` | what each step answers |
+//! | `journal STEP..` | what each step answers |
+//! | `binds STEP..` | what each step answers |
+//! | `spell CHANGE` | the bytes that spell the change, or the code of its shape |
+//! | `change BYTES`, `record BYTES` | how many bytes spell a change or record, and what they spell, or the code |
+//! | `respell change\|record BYTES` | the bytes that spell what was read, or the code |
+//! | `frame PACKET` | the bytes that spell the packet |
+//! | `frames PIECE..` | of each piece of a stream the packets that end in it and the code of the fault, or `none` |
 //! | `line TEXT` | what the line reads as, or the code of its fault |
 //! | `stream PIECE..` | the lines of a stream in these pieces, with ` ; ` between them |
 //! | `print PREFIX COMMAND PARAM..` | the line, or the code of why there is none |
@@ -45,6 +52,19 @@
 //! answer a number. QUEUE is `mode`, `server` or `help`, for the last two `all` too. Each step is one word, and ` ; `
 //! stands between the answers.
 //!
+//! `journal` makes a journal with the base `base` on two empty disks in memory. Its steps are `append ENTRY` and `rebase
+//! BASE`, which answer `ok` or the code; `fail DISK CALL TEAR`, by which the stated write or sync of the `first` or
+//! `second` disk, counted from now on, fails and all later ones of it, until a restart, which then finds what TEAR says in
+//! the ranges that weren't kept: `old` or `new` bytes, or this number in each byte; and `restart`, which answers the base
+//! and the entries, with `, ` between, or the code.
+//!
+//! The steps of `binds` are `bind KIND FLAGS PROC MASK` and `unbind KIND PROC MASK`, which answer the bind's number or the
+//! code; `find KIND GLOBAL CHANNEL BOT SUBJECT`, which answers the numbers of the binds that are called; and `list`,
+//! which answers `NUMBER KIND FLAGS PROC MASK` of each bind. The last two answer `none` where there is none.
+//!
+//! A PACKET is words: `hello LEAF VERSION`, `change NUMBER ORIGIN REQUEST CHANGE`, `request LEAF REQUEST CHANGE`,
+//! `accepted LEAF REQUEST NUMBER`, `refused LEAF REQUEST CODE` or `text FROM TO TEXT`.
+//!
 //! In `chan` and `events` the bot has connected under NICK and reads the LINEs in order; the answer is the code of the
 //! first that is no message, if one is. Before a member's nick stand `@` for op, `%` for half-op and `+` for voice;
 //! `!user@host` is left out where both are empty. An event that is on no channel has `-` in its place.
@@ -58,6 +78,7 @@
 //! states, by hand, and those of civil time by an independent calendar.
 #![tactic(auto)]
 
+mod binds;
 mod case;
 mod casemapping;
 mod changes;
@@ -67,13 +88,17 @@ mod clock;
 mod cron;
 mod events;
 mod flags;
+mod frames;
+mod journals;
 mod lines;
 mod masks;
 mod persons;
 mod queues;
 mod sink;
+mod spellings;
 mod stop;
 mod timers;
+mod values;
 mod words;
 
 use crate::sink::Sink;

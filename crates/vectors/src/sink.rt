@@ -42,6 +42,13 @@ impl Sink {
         self.put(buffer.format(value).as_bytes());
     }
 
+    /// Writes bytes as two hexadecimal digits each.
+    pub fn hex(&mut self, bytes: &[u8]) {
+        for byte in bytes {
+            self.push_digits(*byte);
+        }
+    }
+
     /// Writes a text where this holds.
     pub fn put_if(&mut self, holds: bool, text: &[u8]) {
         if holds {
@@ -73,6 +80,10 @@ impl Sink {
     fn push_hex(&mut self, byte: u8) {
         self.push(b'\\');
         self.push(b'x');
+        self.push_digits(byte);
+    }
+
+    fn push_digits(&mut self, byte: u8) {
         self.push(digit(byte / 16));
         self.push(digit(byte % 16));
     }

@@ -1,0 +1,41 @@
+//! Appends numbered entries to a journal in two files, and prints each number once it is acknowledged.
+//!
+//! ```text
+//! keeper FILE FILE [COUNT]
+//! ```
+//!
+//! The files are made where they are missing. `held N` tells that the journal held the entries up to N; then come the
+//! numbers that are appended, a line each, COUNT of them, or for ever without it. After each 50 entries the journal gets
+//! another base, which is the last number. `benchmarks/kill` ends this program at random moments and looks whether an
+//! entry that was told is missing.
+//!
+//! The program ends with status 0; 1 where the files hold something else or a disk fails; 2 for other words; 3 where
+//! the files or standard output can't be used; 4 where memory runs out.
+#![tactic(auto)]
+
+mod keeping;
+mod stop;
+mod words;
+
+use crate::keeping::keep;
+use crate::stop::Stop;
+use crate::words::asked_of;
+use std::fs::File;
+use std::process::ExitCode;
+use std::rt::{Env, Files};
+
+fn main(rt: HostRuntime) -> ExitCode {
+    match run(&rt) {
+        Ok(()) => ExitCode::from(0),
+        Err(stop) => {
+            let _ = eprintln!(rt; "keeper: {stop}");
+            ExitCode::from(stop.status())
+        }
+    }
+}
+
+// Does what the command line asks for.
+fn run<R: AllocGlobal + Env + Files<File = File> + Print>(rt: &R) -> Result<(), Stop> {
+    let asked = asked_of(rt)?;
+    keep(rt, asked.first.as_str(), asked.second.as_str(), asked.count)
+}

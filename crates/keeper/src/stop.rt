@@ -1,0 +1,79 @@
+// Why the program ends early.
+use bytejournal::JournalError;
+use bytetext::NoMemory;
+use disks::FileDiskError;
+use std::alloc::AllocError;
+use std::io;
+use std::io::ErrorKind;
+use thiserror::Error;
+
+/// Why the program ends early.
+#[derive(Clone, Copy, Debug, Error)]
+pub enum Stop {
+    /// The journal refused a call.
+    #[error("{0}: the files hold another journal, or a disk failed")]
+    Journal(&'static str),
+    /// What the journal holds is not the numbers from 1.
+    #[error("the journal doesn't hold the numbers from 1: give other files")]
+    OtherEntries,
+    /// The command line is not understood.
+    #[error("say keeper FILE FILE [COUNT]")]
+    Words,
+    /// A file or standard output can't be used.
+    #[error("a file or standard output can't be used")]
+    Stream,
+    /// A growth was refused.
+    #[error("out of memory: free some and try again")]
+    NoMemory,
+}
+
+impl Stop {
+    /// The status that the program ends with.
+    pub fn status(self) -> u8 {
+        match self {
+            Stop::Journal(_) | Stop::OtherEntries => 1,
+            Stop::Words => 2,
+            Stop::Stream => 3,
+            Stop::NoMemory => 4,
+        }
+    }
+}
+
+impl From<JournalError> for Stop {
+    fn from(error: JournalError) -> Stop {
+        match error {
+            JournalError::Refused(fault) => Stop::Journal(fault.code()),
+            JournalError::NoMemory => Stop::NoMemory,
+        }
+    }
+}
+
+impl From<FileDiskError> for Stop {
+    fn from(error: FileDiskError) -> Stop {
+        match error {
+            FileDiskError::Refused(_) => Stop::Stream,
+            FileDiskError::NoMemory => Stop::NoMemory,
+        }
+    }
+}
+
+impl From<NoMemory> for Stop {
+    fn from(_refused: NoMemory) -> Stop {
+        Stop::NoMemory
+    }
+}
+
+impl From<AllocError> for Stop {
+    fn from(_refused: AllocError) -> Stop {
+        Stop::NoMemory
+    }
+}
+
+impl From<io::Error> for Stop {
+    fn from(error: io::Error) -> Stop {
+        match error.kind() {
+            ErrorKind::OutOfMemory => Stop::NoMemory,
+            _ => Stop::Stream,
+        }
+    }
+}

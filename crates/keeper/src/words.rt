@@ -1,0 +1,31 @@
+// The words of the command line.
+use crate::stop::Stop;
+use std::env;
+use std::rt::Env;
+
+/// What the command line asks for.
+#[derive(Drop)]
+pub struct Asked {
+    pub first: String,
+    pub second: String,
+    /// How many entries to append.
+    pub count: u64,
+}
+
+/// What the command line asks for.
+pub fn asked_of<R: AllocGlobal + Env>(rt: &R) -> Result<Asked, Stop> {
+    let mut words = env::args(rt)?;
+    let _program = words.next();
+    let (Some(first), Some(second)) = (words.next(), words.next()) else {
+        return Err(Stop::Words);
+    };
+    let count = match words.next() {
+        Some(word) => word.as_str().parse::<u64>().map_err(|_| Stop::Words)?,
+        None => u64::MAX,
+    };
+    Ok(Asked {
+        first,
+        second,
+        count,
+    })
+}

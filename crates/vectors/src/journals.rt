@@ -1,0 +1,190 @@
+// A journal on two disks in memory, whose faults are planned.
+ghost use Rattle.std.specs.Prelude.{◌≡◌, ◌<◌, ◌^◌, length, IfOk, IfSome};
+ghost use Rattle.disks.specs.Memory.{state_of};
+ghost use Rattle.bytejournal.specs.Journal.{IsSound};
+
+use crate::sink::Sink;
+use crate::stop::{BAD_NUMBER, BAD_WORDS, CaseError};
+use crate::words::{cut, number};
+use bytejournal::{Disks, Journal, JournalError};
+use bytetext::Text;
+use disks::{MemDisk, Tear};
+use std::alloc::Global;
+
+/// `journal STEP..`: what each step answers, with ` ; ` between. A step is one word: `append ENTRY`, `rebase BASE`,
+/// `fail DISK CALL TEAR` or `restart`.
+pub fn journal(alloc: Global, words: &[Text], out: &mut Sink) -> Result<(), CaseError> {
+    let Ok(made) = Journal::create(alloc, MemDisk::new(alloc), MemDisk::new(alloc), b"base") else {
+        return Err(CaseError::NoMemory);
+    };
+    let mut journal = made;
+    for (i, step) in words.iter().enumerate() {
+        out.between(b" ; ", i);
+        journal = match make(alloc, journal, step.as_bytes(), out)? {
+            Some(journal) => journal,
+            None => return Ok(()),
+        };
+    }
+    Ok(())
+}
+
+// What a step does.
+#[derive(Clone, Copy)]
+enum Step {
+    Append,
+    Fail,
+    Rebase,
+    Restart,
+}
+
+const STEPS: [(&[u8], Step); 4] = [
+    (b"append", Step::Append),
+    (b"fail", Step::Fail),
+    (b"rebase", Step::Rebase),
+    (b"restart", Step::Restart),
+];
+
+// Makes a step of a journal, and gives the journal to go on with, if there is one.
+fn make(
+    alloc: Global,
+    journal: Journal<MemDisk>,
+    step: &[u8],
+    out: &mut Sink,
+) -> Result<Option<Journal<MemDisk>>, CaseError>
+    requires { IsSound state_of journal }
+    ensures { IfOk result (λ next. IfSome next (λ journal. IsSound state_of journal)) }
+{
+    let mut journal = journal;
+    let (name, rest) = cut(step, b' ');
+    let Some((_, step)) = STEPS.iter().find(|(word, _)| *word == name) else {
+        return Err(BAD_WORDS);
+    };
+    match *step {
+        Step::Append => {
+            let answer = journal.append(alloc, short(rest)?);
+            tell(answer, out)?;
+            Ok(Some(journal))
+        }
+        Step::Rebase => {
+            let answer = journal.rebase(alloc, short(rest)?);
+            tell(answer, out)?;
+            Ok(Some(journal))
+        }
+        Step::Fail => planned(alloc, journal, rest, out),
+        Step::Restart => restarted(alloc, journal, out),
+    }
+}
+
+// A text that is short enough for a journal.
+fn short(text: &[u8]) -> Result<&[u8], CaseError>
+    ensures { IfOk result (λ same. length same.now < 2 ^ 32) }
+{
+    match u32::try_from(text.len()) {
+        Ok(_) => Ok(text),
+        Err(_) => Err(BAD_WORDS),
+    }
+}
+
+// Tells how an append or a rebase ended.
+fn tell(answer: Result<(), JournalError>, out: &mut Sink) -> Result<(), CaseError> {
+    match answer {
+        Ok(()) => out.put(b"ok"),
+        Err(JournalError::Refused(fault)) => out.put(fault.code().as_bytes()),
+        Err(JournalError::NoMemory) => return Err(CaseError::NoMemory),
+    }
+    Ok(())
+}
+
+// DISK CALL TEAR
+fn planned(
+    alloc: Global,
+    journal: Journal<MemDisk>,
+    rest: &[u8],
+    out: &mut Sink,
+) -> Result<Option<Journal<MemDisk>>, CaseError>
+    ensures { IfOk result (λ next. IfSome next (λ journal. IsSound state_of journal)) }
+{
+    let (disk, rest) = cut(rest, b' ');
+    let (call, tear) = cut(rest, b' ');
+    let Ok(opened) = journal.restart(alloc) else {
+        return Err(BAD_WORDS);
+    };
+    if !opened.whole {
+        return Err(BAD_WORDS);
+    }
+    let mut disks = opened.journal.into_disks();
+    plan(&mut disks, disk, call_of(call)?, tear_of(tear)?)?;
+    let Ok(opened) = Journal::open(alloc, disks.first, disks.second) else {
+        return Err(BAD_WORDS);
+    };
+    if !opened.whole {
+        return Err(BAD_WORDS);
+    }
+    out.put(b"ok");
+    Ok(Some(opened.journal))
+}
+
+fn plan(disks: &mut Disks<MemDisk>, disk: &[u8], call: u64, tear: Tear) -> Result<(), CaseError>
+    requires { 0 < call }
+    ensures first { disks.new.first ≡ disks.old.first }
+    ensures second { disks.new.second ≡ disks.old.second }
+{
+    match disk {
+        b"first" => disks.first.plan(call, tear),
+        b"second" => disks.second.plan(call, tear),
+        _ => return Err(BAD_WORDS),
+    }
+    Ok(())
+}
+
+fn call_of(word: &[u8]) -> Result<u64, CaseError>
+    ensures { IfOk result (λ call. 0 < call) }
+{
+    let call = number::<u64>(word)?;
+    if call == 0 {
+        return Err(BAD_NUMBER);
+    }
+    Ok(call)
+}
+
+fn tear_of(word: &[u8]) -> Result<Tear, CaseError> {
+    match word {
+        b"old" => Ok(Tear::Old),
+        b"new" => Ok(Tear::New),
+        _ => Ok(Tear::Fill(number(word)?)),
+    }
+}
+
+// Opens a journal on what a crash leaves, and tells what it holds.
+fn restarted(
+    alloc: Global,
+    journal: Journal<MemDisk>,
+    out: &mut Sink,
+) -> Result<Option<Journal<MemDisk>>, CaseError>
+    ensures { IfOk result (λ next. IfSome next (λ journal. IsSound state_of journal)) }
+{
+    match journal.restart(alloc) {
+        Ok(opened) => {
+            put_held(&opened.base, opened.entries.as_slice(), out);
+            if opened.whole {
+                Ok(Some(opened.journal))
+            } else {
+                out.put(b", a gate is missing");
+                Ok(None)
+            }
+        }
+        Err(returned) => {
+            tell(Err(returned.error), out)?;
+            Ok(None)
+        }
+    }
+}
+
+// A base and the entries after it.
+fn put_held(base: &Text, entries: &[Text], out: &mut Sink) {
+    out.put(base.as_bytes());
+    for entry in entries {
+        out.put(b", ");
+        out.put(entry.as_bytes());
+    }
+}

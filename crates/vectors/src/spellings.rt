@@ -1,0 +1,104 @@
+// Values as bytes.
+use crate::sink::Sink;
+use crate::stop::{BAD_WORDS, CaseError};
+use crate::values::{put_change, put_record};
+use bytetext::Text;
+use std::alloc::Global;
+use usercodec::{CodecError, read_change, read_record, write_change, write_record};
+use userfile::{Change, shape};
+
+/// `spell CHANGE`: the bytes that spell a change, or the code of what is wrong with its shape.
+pub fn spell(alloc: Global, words: &[Text], out: &mut Sink) -> Result<(), CaseError> {
+    let [word] = words else {
+        return Err(BAD_WORDS);
+    };
+    let Some(change) = script::change_of(alloc, word.as_bytes())? else {
+        return Err(BAD_WORDS);
+    };
+    spell_change(alloc, &change, out)
+}
+
+fn spell_change(alloc: Global, change: &Change, out: &mut Sink) -> Result<(), CaseError> {
+    match shape(change) {
+        Some(fault) => out.put(fault.code().as_bytes()),
+        None => out.hex(&write_change(alloc, change)?),
+    }
+    Ok(())
+}
+
+/// `change BYTES`: how many bytes spell a change, and the change, or the code.
+pub fn change(alloc: Global, words: &[Text], out: &mut Sink) -> Result<(), CaseError> {
+    let [bytes] = words else {
+        return Err(BAD_WORDS);
+    };
+    match read_change(alloc, bytes.as_bytes()) {
+        Ok(read) => {
+            out.number(read.used as u64);
+            out.put(b" ");
+            put_change(alloc, &read.value, out)?;
+            Ok(())
+        }
+        Err(error) => tell(error, out),
+    }
+}
+
+/// `record BYTES`: how many bytes spell a record, and the record, or the code.
+pub fn record(alloc: Global, words: &[Text], out: &mut Sink) -> Result<(), CaseError> {
+    let [bytes] = words else {
+        return Err(BAD_WORDS);
+    };
+    match read_record(alloc, bytes.as_bytes()) {
+        Ok(read) => {
+            out.number(read.used as u64);
+            out.put(b" ");
+            put_record(alloc, &read.value, out)?;
+            Ok(())
+        }
+        Err(error) => tell(error, out),
+    }
+}
+
+/// `respell change|record BYTES`: the bytes that spell what these spell, or the code.
+pub fn respell(alloc: Global, words: &[Text], out: &mut Sink) -> Result<(), CaseError> {
+    let [sort, bytes] = words else {
+        return Err(BAD_WORDS);
+    };
+    if sort.is_same(b"change") {
+        respell_change(alloc, bytes.as_bytes(), out)
+    } else if sort.is_same(b"record") {
+        respell_record(alloc, bytes.as_bytes(), out)
+    } else {
+        Err(BAD_WORDS)
+    }
+}
+
+fn respell_change(alloc: Global, bytes: &[u8], out: &mut Sink) -> Result<(), CaseError> {
+    match read_change(alloc, bytes) {
+        Ok(read) => {
+            out.hex(&write_change(alloc, &read.value)?);
+            Ok(())
+        }
+        Err(error) => tell(error, out),
+    }
+}
+
+fn respell_record(alloc: Global, bytes: &[u8], out: &mut Sink) -> Result<(), CaseError> {
+    match read_record(alloc, bytes) {
+        Ok(read) => {
+            out.hex(&write_record(alloc, &read.value)?);
+            Ok(())
+        }
+        Err(error) => tell(error, out),
+    }
+}
+
+// Tells why bytes spell nothing.
+fn tell(error: CodecError, out: &mut Sink) -> Result<(), CaseError> {
+    match error {
+        CodecError::Refused(fault) => {
+            out.put(fault.code().as_bytes());
+            Ok(())
+        }
+        CodecError::NoMemory => Err(CaseError::NoMemory),
+    }
+}
