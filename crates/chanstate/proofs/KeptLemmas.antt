@@ -1,28 +1,29 @@
 -- Changes that leave a list as it is, and which names and members a change leaves.
-use Rattle.std.proofs.Common.{◌≡◌, ℕ, ◌<◌, suc, zero, Bool, true, false, cond, not, ◌||◌, List, [], ◌∷◌, length, get_or, map, filter, refl, sym, ap, ◌∙◌}
-use Rattle.std.proofs.Common.{Some, arith}
-use Rattle.std.specs.Prelude.{find}
+use Rattle.std.proofs.Common.{◌≡◌, ℕ, ◌<◌, suc, zero, Bool, true, false, cond, not, ◌||◌, ◌&&◌, List, [], ◌∷◌, ◌++◌, length, get_or, map, filter, refl, sym, ap, ◌∙◌}
+use Rattle.std.proofs.Common.{Option, None, Some, arith}
+use Rattle.std.specs.Prelude.{find, is_some}
 use Rattle.std.specs.List.{list_any}
 use Rattle.std.proofs.lemmas.Bool.{cond-true, cond-false}
 use Rattle.chanstate.specs.declared.member.Member.{Member}
 use Rattle.chanstate.specs.declared.channel.Channel.{Channel}
+use Rattle.chanstate.specs.declared.member.Mark.{Mark}
 use Rattle.chanstate.specs.declared.state.ChanState.{ChanState}
 use Rattle.rfccase.specs.Casemapping.{is_same}
 use Rattle.chanstate.specs.Firsts.{first_changed}
 use Rattle.chanstate.specs.Members.{is_called, has_member, with_marks_of, listed, listed_each, shown_each, arrived, unmarked, renamed}
 use Rattle.chanstate.specs.Channels.{is_named, is_held, with_members, on_channel, all_renamed}
 use Rattle.chanstate.specs.Views.{channel_in, member_in, members_of}
-use Rattle.chanstate.specs.Items.{Item, Joined, Listed, Renamed}
+use Rattle.chanstate.specs.Items.{Item, Single, Joined, Left, Listed, Renamed, marking, markings, mark_of}
 use Rattle.chanstate.specs.Steps.{joined, step, steps}
-use Rattle.chanstate.specs.Memory.{adds, any_adds, lacks, readdresses, retitles}
+use Rattle.chanstate.specs.Memory.{adds, any_adds, lacks, readdresses, respells, retitles}
 use Rattle.std.specs.Prelude.{nat_eq}
 use Rattle.std.specs.Cmp.Lexicographic.{pointwise}
 use Rattle.std.proofs.lemmas.Slice.Eq.{bytes_eq-Decides}
-use Rattle.chanstate.specs.Members.{with_address}
+use Rattle.chanstate.specs.Members.{with_address, with_nick}
 use Rattle.chanstate.specs.Channels.{with_topic}
-use Rattle.chanstate.proofs.BoolLemmas.{or-parts, or-left, or-right, not-false}
+use Rattle.chanstate.proofs.BoolLemmas.{or-parts, or-left, not-false}
 use Rattle.chanstate.proofs.FirstsLemmas.{first_changed-nowhere}
-use Rattle.chanstate.proofs.FindLemmas.{any-agree}
+use Rattle.chanstate.proofs.FindLemmas.{any-agree, list_any-find}
 
 -- ---- a change that changes nothing
 
@@ -37,22 +38,18 @@ first_changed-kept p f (x ∷ xs) kept =
     (λ is. kept x (cond-true (p x) _ _ is))
     (λ is. first_changed-kept p f xs (λ y found. kept y (cond-false (p x) _ _ is ∙ found)))
 
--- nobody has the old nick
-pub renamed-nobody : (old new : List ℕ) (ms : List Member) → has_member old ms ≡ false → renamed old new ms ≡ ms
-renamed-nobody old new ms none = cond-false _ _ _ none
+-- two changes that agree on what they find
+same_change : {X : Type 0} (b : Bool) (x y z : X) (xs ys zs : List X) → (b ≡ true → y ≡ z) → (b ≡ false → ys ≡ zs) → cond b (y ∷ xs) (x ∷ ys) ≡ cond b (z ∷ xs) (x ∷ zs)
+same_change true x y z xs ys zs here there = ap (λ w. w ∷ xs) (here refl)
+same_change false x y z xs ys zs here there = ap (λ ws. x ∷ ws) (there refl)
 
-pub all_renamed-nobody : (old new : List ℕ) (cs : List Channel) → list_any (λ c. has_member old c.members) cs ≡ false → all_renamed old new cs ≡ cs
-all_renamed-nobody old new [] none = refl
-all_renamed-nobody old new (c ∷ cs) none =
-    let parts = or-parts (has_member old c.members) (list_any (λ c. has_member old c.members) cs) none in
-    ap (λ ms. record c { members = ms } ∷ all_renamed old new cs) (renamed-nobody old new c.members parts.0)
-    ∙ ap (λ ds. c ∷ ds) (all_renamed-nobody old new cs parts.1)
-
-pub renamed_unknown : (old new : List ℕ) (s : ChanState) → adds (Renamed old new) s ≡ false → step (Renamed old new) s ≡ s
-renamed_unknown old new s none =
-    let parts = or-parts (is_same old s.nick) (list_any (λ c. has_member old c.members) s.channels) none in
-    ap (λ nick. record s { nick = nick; channels = all_renamed old new s.channels }) (cond-false (is_same old s.nick) new s.nick parts.0)
-    ∙ ap (λ cs. record s { channels = cs }) (all_renamed-nobody old new s.channels parts.1)
+first_changed-agree : {X : Type 0} (p : X → Bool) (f g : X → X) (xs : List X) → ((x : X) → find p xs ≡ Some x → f x ≡ g x)
+    → first_changed p f xs ≡ first_changed p g xs
+first_changed-agree p f g [] same = refl
+first_changed-agree p f g (x ∷ xs) same =
+    same_change (p x) x (f x) (g x) xs (first_changed p f xs) (first_changed p g xs)
+    (λ is. same x (cond-true (p x) _ _ is))
+    (λ is. first_changed-agree p f g xs (λ y found. same y (cond-false (p x) _ _ is ∙ found)))
 
 -- ---- what a change leaves
 
@@ -65,29 +62,12 @@ pub any-kept : {X : Type 0} (p q : X → Bool) (f : X → X) → ((x : X) → p 
 any-kept p q f keeps [] = refl
 any-kept p q f keeps (x ∷ xs) = any_step (q x) p x (f x) xs (first_changed q f xs) (keeps x) (any-kept p q f keeps xs)
 
--- a join of someone else leaves which channels are held
-pub is_held-joined : (nick user host channel name : List ℕ) (s : ChanState) → is_same nick s.nick ≡ false
-    → is_held name (joined nick user host channel s).channels ≡ is_held name s.channels
-is_held-joined nick user host channel name s other =
-    ap (λ (t : ChanState). is_held name t.channels) (cond-false _ _ _ other)
-    ∙ any-kept (is_named name) (is_named channel) (with_members (arrived (unmarked nick user host))) (λ c. refl) s.channels
-
 -- a join of a channel that isn't held
 pub joined-nowhere : (nick user host channel : List ℕ) (s : ChanState) → is_same nick s.nick ≡ false → is_held channel s.channels ≡ false
     → joined nick user host channel s ≡ s
 joined-nowhere nick user host channel s other none =
     cond-false _ _ _ other
     ∙ ap (λ cs. record s { channels = cs }) (first_changed-nowhere (is_named channel) (with_members (arrived (unmarked nick user host))) s.channels none)
-
-joined_nick : (nick user host channel : List ℕ) (s : ChanState) → is_same nick s.nick ≡ false → (joined nick user host channel s).nick ≡ s.nick
-joined_nick nick user host channel s other = ap (λ (t : ChanState). t.nick) (cond-false _ _ _ other)
-
-pub is_held-joins : (nick user host : List ℕ) (names : List (List ℕ)) (name : List ℕ) (s : ChanState) → is_same nick s.nick ≡ false
-    → is_held name (steps (map (Joined nick user host) names) s).channels ≡ is_held name s.channels
-is_held-joins nick user host [] name s other = refl
-is_held-joins nick user host (n ∷ ns) name s other =
-    is_held-joins nick user host ns name (joined nick user host n s) (ap (is_same nick) (joined_nick nick user host n s other) ∙ other)
-    ∙ is_held-joined nick user host n name s other
 
 -- a topic or an address that is there already
 same_text : (xs ys : List ℕ) → not (pointwise nat_eq xs ys) ≡ false → ys ≡ xs
@@ -113,6 +93,46 @@ same_address channel nick user host s same =
     (λ m there. readdressed user host m (ap (readdresses user host) (sym there)
     ∙ (ap (λ o. readdresses user host (find (is_called nick) (members_of o))) (sym found) ∙ same)))))
 
+-- a nick that is there already, wherever the old one is
+pub some_same : {X : Type 0} {x y : X} → Some x ≡ Some y → x ≡ y
+some_same e = cc
+
+passes_step : {X : Type 0} (b : Bool) (p : X → Bool) (x y : X) (o : Option X) → p x ≡ b → (o ≡ Some y → p y ≡ true) → cond b (Some x) o ≡ Some y → p y ≡ true
+passes_step true p x y o is rest found = ap p (sym (some_same found)) ∙ is
+passes_step false p x y o is rest found = rest found
+
+find-passes : {X : Type 0} (p : X → Bool) (xs : List X) (y : X) → find p xs ≡ Some y → p y ≡ true
+find-passes p [] y found = cc
+find-passes p (x ∷ xs) y found = passes_step (p x) p x y (find p xs) refl (find-passes p xs y) found
+
+renamed_there : (old new : List ℕ) (ms : List Member) (o : Option Member) → find (is_called old) ms ≡ o → respells new o ≡ false → renamed old new ms ≡ ms
+renamed_there old new ms None is same = cond-false _ _ _ (list_any-find (is_called old) ms ∙ ap is_some is)
+renamed_there old new ms (Some m) is same =
+    let spelled : new ≡ m.nick = same_text m.nick new same in
+    let called : is_same old new ≡ true = ap (is_same old) spelled ∙ find-passes (is_called old) ms m is in
+    cond-true _ _ _ (list_any-find (is_called old) ms ∙ ap is_some is)
+    ∙ ap (first_changed (is_called old) (with_nick new)) (cond-true _ _ _ called)
+    ∙ first_changed-kept (is_called old) (with_nick new) ms
+    (λ x found. ap (λ nick. record x { nick = nick }) (spelled ∙ ap (λ (y : Member). y.nick) (some_same (sym is ∙ found))))
+
+all_renamed_there : (old new : List ℕ) (cs : List Channel) → list_any (λ c. respells new (find (is_called old) c.members)) cs ≡ false
+    → all_renamed old new cs ≡ cs
+all_renamed_there old new [] none = refl
+all_renamed_there old new (c ∷ cs) none =
+    let parts = or-parts (respells new (find (is_called old) c.members)) (list_any (λ c. respells new (find (is_called old) c.members)) cs) none in
+    ap (λ ms. record c { members = ms } ∷ all_renamed old new cs) (renamed_there old new c.members (find (is_called old) c.members) refl parts.0)
+    ∙ ap (λ ds. c ∷ ds) (all_renamed_there old new cs parts.1)
+
+own_there : (b : Bool) (new nick : List ℕ) → (b && not (pointwise nat_eq nick new)) ≡ false → cond b new nick ≡ nick
+own_there true new nick same = same_text nick new same
+own_there false new nick same = refl
+
+pub same_nick : (old new : List ℕ) (s : ChanState) → adds (Renamed old new) s ≡ false → step (Renamed old new) s ≡ s
+same_nick old new s none =
+    let parts = or-parts (is_same old s.nick && not (pointwise nat_eq s.nick new)) (list_any (λ c. respells new (find (is_called old) c.members)) s.channels) none in
+    ap (λ nick. record s { nick = nick; channels = all_renamed old new s.channels }) (own_there (is_same old s.nick) new s.nick parts.0)
+    ∙ ap (λ cs. record s { channels = cs }) (all_renamed_there old new s.channels parts.1)
+
 -- ---- those who are listed while all of them are members
 
 none_new_step : (one : Member) (more ms : List Member) → has_member one.nick ms ≡ true
@@ -132,25 +152,6 @@ listed-members (one ∷ more) ms none =
 
 -- ---- a piece of a list that names what takes memory
 
-named_step : (b : Bool) (f : List ℕ → Item) (s : ChanState) (x : List ℕ) (xs : List (List ℕ)) → any_adds (map f xs) s ≡ true
-    → any_adds (map f (cond b (x ∷ xs) xs)) s ≡ true
-named_step true f s x xs is = or-right (adds (f x) s) (any_adds (map f xs) s) is
-named_step false f s x xs is = is
-
-pub any_adds-piece : (p : List ℕ → Bool) (f : List ℕ → Item) (s : ChanState) (xs : List (List ℕ)) (i : ℕ) (x : List ℕ) → i < length xs → x ≡ get_or xs i x
-    → p x ≡ true → adds (f x) s ≡ true → any_adds (map f (filter p xs)) s ≡ true
-any_adds-piece p f s [] i x less at is one = absurd (let less : i < 0 = less in omega arith)
-any_adds-piece p f s (y ∷ ys) zero x less at is one =
-    let passes : p y ≡ true = ap p (sym at) ∙ is in
-    ap (λ ns. any_adds (map f ns) s) (cond-true _ (y ∷ filter p ys) (filter p ys) passes)
-    ∙ or-left (adds (f y) s) (any_adds (map f (filter p ys)) s) (ap (λ z. adds (f z) s) (sym at) ∙ one)
-any_adds-piece p f s (y ∷ ys) (suc i) x less at is one =
-    let less : suc i < suc (length ys) = less in
-    named_step (p y) f s y (filter p ys) (any_adds-piece p f s ys i x (omega arith) at is one)
-
-pub any_adds-one : (item : Item) (s : ChanState) → adds item s ≡ true → any_adds (item ∷ []) s ≡ true
-any_adds-one item s is = or-left (adds item s) false is
-
 -- a piece that names a channel makes the list of them longer
 pub named-piece : (p : List ℕ → Bool) (xs : List (List ℕ)) (i : ℕ) (x : List ℕ) → i < length xs → x ≡ get_or xs i x → p x ≡ true → 0 < length (filter p xs)
 named-piece p [] i x less at is = absurd (let less : i < 0 = less in omega arith)
@@ -167,9 +168,6 @@ named-piece p (y ∷ ys) (suc i) x less at is =
     step true more = omega arith
     step false more = more
 
-pub adds-held : (nick user host channel : List ℕ) (s : ChanState) → is_held channel s.channels ≡ true → adds (Joined nick user host channel) s ≡ true
-adds-held nick user host channel s held = or-right (is_same nick s.nick) (is_held channel s.channels) held
-
 pub any_adds-listed : (channel : List ℕ) (names : List Member) (s : ChanState)
     → any_adds (map (Listed channel) names) s ≡ list_any (λ one. lacks one.nick (channel_in channel s)) names
 any_adds-listed channel [] s = refl
@@ -182,3 +180,39 @@ any_adds-own nick user host [] s own some = absurd (let some : 0 < 0 = some in o
 any_adds-own nick user host (n ∷ ns) s own some =
     or-left (is_same nick s.nick || is_held n s.channels) (any_adds (map (Joined nick user host) ns) s) (or-left (is_same nick s.nick) (is_held
     n s.channels) own)
+
+-- ---- items that take no memory
+
+pub adds-none : (item : Item) (s : ChanState) → any_adds (item ∷ []) s ≡ false → adds item s ≡ false
+adds-none item s none = (or-parts (adds item s) false none).0
+
+pub joins_none : (nick user host : List ℕ) (names : List (List ℕ)) (s : ChanState) → any_adds (map (Joined nick user host) names) s ≡ false
+    → steps (map (Joined nick user host) names) s ≡ s
+joins_none nick user host [] s none = refl
+joins_none nick user host (n ∷ ns) s none =
+    let parts = or-parts (adds (Joined nick user host n) s) (any_adds (map (Joined nick user host) ns) s) none in
+    let apart = or-parts (is_same nick s.nick) (is_held n s.channels) parts.0 in
+    ap (steps (map (Joined nick user host) ns)) (joined-nowhere nick user host n s apart.0 apart.1) ∙ joins_none nick user host ns s parts.1
+
+pub shown_none : (channel : List ℕ) (names : List Member) (s : ChanState) → any_adds (map (Listed channel) names) s ≡ false
+    → on_channel channel (shown_each names) s.channels ≡ on_channel channel (listed_each names) s.channels
+shown_none channel names s none =
+    first_changed-agree (is_named channel) (with_members (shown_each names)) (with_members (listed_each names)) s.channels
+    (λ c found. ap (λ ms. record c { members = ms }) (sym (listed-members names c.members
+    (ap (λ o. list_any (λ one. lacks one.nick o) names) (sym found) ∙ sym (any_adds-listed channel names s) ∙ none))))
+
+pub any_adds-left : (nick : List ℕ) (names : List (List ℕ)) (s : ChanState) → any_adds (map (Left nick) names) s ≡ false
+any_adds-left nick [] s = refl
+any_adds-left nick (n ∷ ns) s = any_adds-left nick ns s
+
+pub any_adds-marks : (channel : List ℕ) (modes : List Single) (s : ChanState) → any_adds (markings channel modes) s ≡ false
+any_adds-marks channel [] s = refl
+any_adds-marks channel (one ∷ more) s = by (mark_of one.letter) (any_adds-marks channel more s)
+  where
+    by : (o : Option Mark) → any_adds (markings channel more) s ≡ false → any_adds (marking channel one.on one.argument o ++ markings channel more) s ≡ false
+    by None rest = rest
+    by (Some mark) rest = rest
+
+pub lacks_none : (names : List Member) → list_any (λ one. lacks one.nick None) names ≡ false
+lacks_none [] = refl
+lacks_none (one ∷ more) = lacks_none more

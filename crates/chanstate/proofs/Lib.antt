@@ -11,6 +11,6 @@ pub mod ItemLemmas
 pub mod PartLemmas
 pub mod HistoryLemmas
 pub mod SeatLemmas
-pub mod TakenLemmas
+pub mod TakeLemmas
+pub mod ComeLemmas
 pub mod OrderLemmas
-pub mod UndoLemmas

@@ -1,9 +1,9 @@
 -- The state after several items, one after the other.
-use Rattle.std.proofs.Common.{◌≡◌, ℕ, ◌<◌, ◌+◌, Bool, true, false, cond, Option, List, [], ◌∷◌, ◌++◌, length, get_or, take, drop, map, refl, sym, ap, ◌∙◌}
+use Rattle.std.proofs.Common.{◌≡◌, ℕ, ◌<◌, ◌+◌, Bool, true, false, cond, Option, List, [], ◌∷◌, ◌++◌, length, get_or, drop, map, refl, sym, ap, ◌∙◌}
 use Rattle.std.specs.List.{filter_map, cons_option}
 use Rattle.std.specs.Option.{option_to_list}
 use Rattle.std.proofs.Common.{None, Some, filter, append_assoc, append-nil, arith}
-use Rattle.std.proofs.lemmas.List.{take_more, map-append, at_drop_more}
+use Rattle.std.proofs.lemmas.List.{map-append, at_drop_more}
 use Rattle.std.proofs.lemmas.List.Elements.{filter-append}
 use Rattle.std.proofs.lemmas.Bool.Decides.{nat_tests}
 use Rattle.std.proofs.lemmas.Bool.{cond-true, cond-false}
@@ -19,13 +19,6 @@ use Rattle.chanstate.specs.Steps.{step, steps}
 pub steps-append : (xs ys : List Item) (s : ChanState) → steps (xs ++ ys) s ≡ steps ys (steps xs s)
 steps-append [] ys s = refl
 steps-append (x ∷ xs) ys s = steps-append xs ys (step x s)
-
--- one more of a list, by what each of it stands for
-pub steps_more : {X : Type 0} (f : X → Item) (xs : List X) (i : ℕ) (d : X) (s : ChanState) → i < length xs
-    → step (f (get_or xs i d)) (steps (map f (take i xs)) s) ≡ steps (map f (take (i + 1) xs)) s
-steps_more f xs i d s less =
-    let front : map f (take (i + 1) xs) ≡ map f (take i xs) ++ f (get_or xs i d) ∷ [] = ap (map f) (take_more xs i d less) ∙ map-append f (take i xs) _ in
-    sym (ap (λ items. steps items s) front ∙ steps-append (map f (take i xs)) (f (get_or xs i d) ∷ []) s)
 
 -- what each of a list stands for, read through a view of it
 pub map-by : {X Y Z : Type 0} (g : Y → Z) (v : X → Y) (xs : List X) → map (λ x. g (v x)) xs ≡ map g (map v xs)

@@ -42,3 +42,8 @@ all_without nick channels = map (with_members (first_removed (is_called nick))) 
 -- everywhere the member of the old nick has the new one
 abbrev pub all_renamed : List ℕ → List ℕ → List Channel → List Channel
 all_renamed old new channels = map (with_members (renamed old new)) channels
+
+-- each of these channels is put last, in their order
+abbrev pub put_each_last : List Channel → List Channel → List Channel
+put_each_last [] channels = channels
+put_each_last (one ∷ more) channels = put_each_last more (put_last one channels)

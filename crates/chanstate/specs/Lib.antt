@@ -9,6 +9,8 @@ pub mod EventShape
 pub mod Events
 pub mod History
 pub mod Seats
-pub mod Renamings
-pub mod Undos
 pub mod Memory
+pub mod Tasks
+pub mod Takes
+pub mod Plans
+pub mod Updates

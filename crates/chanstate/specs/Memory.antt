@@ -1,5 +1,5 @@
 -- Which messages take memory: those that may add a text or a member to what is known. No other message takes any.
-use Rattle.std.specs.Prelude.{ℕ, Bool, true, false, not, ◌||◌, List, Option, None, Some, nat_eq}
+use Rattle.std.specs.Prelude.{ℕ, Bool, true, false, not, ◌||◌, ◌&&◌, List, Option, None, Some, nat_eq, find}
 use Rattle.std.specs.Cmp.Lexicographic.{pointwise}
 use Rattle.chanstate.specs.declared.member.Member.{Member}
 use Rattle.std.specs.List.{list_any}
@@ -7,7 +7,7 @@ use Rattle.ircline.specs.declared.message.Message.{Message}
 use Rattle.chanstate.specs.declared.channel.Channel.{Channel}
 use Rattle.chanstate.specs.declared.state.ChanState.{ChanState}
 use Rattle.rfccase.specs.Casemapping.{is_same}
-use Rattle.chanstate.specs.Members.{has_member}
+use Rattle.chanstate.specs.Members.{is_called, has_member}
 use Rattle.chanstate.specs.Channels.{is_held}
 use Rattle.chanstate.specs.Views.{channel_in, member_in}
 use Rattle.chanstate.specs.Items.{Item, Welcomed, Joined, Left, Departed, Renamed, Marked, Titled, Listed, Addressed, items_of}
@@ -27,13 +27,18 @@ abbrev pub readdresses : List ℕ → List ℕ → Option Member → Bool
 readdresses user host None = false
 readdresses user host (Some m) = not (pointwise nat_eq m.user user) || not (pointwise nat_eq m.host host)
 
+-- whether the member is there, and has a nick that is spelled in another way
+abbrev pub respells : List ℕ → Option Member → Bool
+respells nick None = false
+respells nick (Some m) = not (pointwise nat_eq m.nick nick)
+
 -- whether an item concerns a held channel or the bot's own nick, and brings a text that has to be kept
 abbrev pub adds : Item → ChanState → Bool
 adds (Welcomed nick) s = true
 adds (Joined nick user host channel) s = is_same nick s.nick || is_held channel s.channels
 adds (Left nick channel) s = false
 adds (Departed nick) s = false
-adds (Renamed old new) s = is_same old s.nick || list_any (λ channel. has_member old channel.members) s.channels
+adds (Renamed old new) s = (is_same old s.nick && not (pointwise nat_eq s.nick new)) || list_any (λ c. respells new (find (is_called old) c.members)) s.channels
 adds (Marked channel mark on nick) s = false
 adds (Titled channel topic) s = retitles topic (channel_in channel s)
 adds (Listed channel one) s = lacks one.nick (channel_in channel s)

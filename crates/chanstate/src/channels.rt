@@ -1,27 +1,32 @@
 // The channels that the bot is on.
-ghost use Rattle.std.specs.Prelude.{◌≡◌, ◌+◌, ◌<◌, ◌≤◌, [], true, IfOk, OnErr, MatchResult, position, length, map, filter, find};
+ghost use Rattle.std.specs.Prelude.{◌≡◌, ◌+◌, ◌<◌, ◌≤◌, [], true, IfOk, IfSome, Some, is_some, OnOk, OnErr, MatchResult, position, length, map, filter, find};
 ghost use Rattle.std.specs.Option.{option_copied};
 ghost use Rattle.std.specs.List.{list_any};
 ghost use Rattle.chanstate.specs.Items.{names_in};
-ghost use Rattle.chanstate.specs.Memory.{lacks};
+ghost use Rattle.chanstate.specs.Memory.{lacks, respells};
 ghost use Rattle.std.specs.Vec.{vec_len, vec_capacity};
-ghost use Rattle.chanstate.specs.Undos.{put_each_last};
+ghost use Rattle.chanstate.specs.Tasks.{IsKeyed};
+ghost use Rattle.chanstate.specs.Takes.{Holds, on_place, given};
 ghost use Rattle.chanstate.specs.Firsts.{first_removed, first_changed};
-ghost use Rattle.chanstate.specs.Members.{is_called, with_mark, with_address, arrived, listed_each, has_member};
-ghost use Rattle.chanstate.specs.Channels.{is_named, is_held, with_topic, on_channel, put_last, all_without, all_renamed};
+ghost use Rattle.chanstate.specs.Members.{is_called, with_mark, with_address, shown_each, has_member};
+ghost use Rattle.chanstate.specs.Channels.{is_named, is_held, with_topic, on_channel, put_last, put_each_last, all_without};
 
 use crate::channel::Channel;
 use crate::member::{Mark, Member};
 use crate::names::is_same;
-use crate::renames::rename_all;
+use crate::plan::Opening;
+use crate::roster::Roster;
+use crate::take::Take;
+use crate::task::Task;
 use bytetext::{NoMemory, Text, TryCopy, copies_of};
 use std::alloc::Global;
 use std::marker::Model;
+use std::mem;
 
 /// The channels that the bot is on, in the order in which it joined them. Contracts see the list of them.
 #[derive(Debug, Drop)]
 pub struct Channels {
-    items: Vec<Channel>,
+    pub(crate) items: Vec<Channel>,
 }
 
 impl Model for Channels {
@@ -82,23 +87,38 @@ impl Channels {
         names_with(alloc, self.items.as_slice(), nick)
     }
 
-    // Whether a channel has a member of this nick.
-    pub(crate) fn have(&self, nick: &[u8]) -> bool
-        ensures { result ≡ list_any (λ channel. has_member nick.now channel.members) self.now }
+    // Whether a channel has a member of the old nick who spells it in another way than the new one.
+    pub(crate) fn respell(&self, old: &[u8], new: &[u8]) -> bool
+        ensures { result ≡ list_any (λ c. respells new.now (find (is_called old.now) c.members)) self.now }
     {
-        self.items.iter().any(|channel| channel.members.holds(nick))
+        self.items
+            .iter()
+            .any(|channel| channel.members.respells(old, new))
     }
 
-    // The members of a channel are listed, in words with marks before the nicks.
-    pub(crate) fn list(&mut self, alloc: Global, name: &[u8], names: &[u8]) -> Result<(), NoMemory>
-        ensures memory { OnErr result (list_any (λ one. lacks one.nick (find (is_named name.now) self.old)) (names_in names.now) ≡ true) }
-        ensures listed { MatchResult result (λ _. self.new ≡ on_channel name.now (listed_each (names_in names.now)) self.old) (λ _. self.new ≡ self.old) }
+    // The place of the channel of this name, if it lacks one of those whom a list of names names.
+    pub(crate) fn place_lacking(&self, name: &[u8], names: &[u8]) -> Option<usize>
+        ensures some { IfSome result (λ at. position (is_named name.now) self.now ≡ Some at) }
+        ensures lacking { is_some result ≡ list_any (λ one. lacks one.nick (find (is_named name.now) self.now)) (names_in names.now) }
+    {
+        let Some(at) = self.place(name) else {
+            return None;
+        };
+        let channel = &self.items[at];
+        if !channel.members.lacks_any(names) {
+            return None;
+        }
+        Some(at)
+    }
+
+    // Those members of a channel whom a list of names names are listed.
+    pub(crate) fn show(&mut self, alloc: Global, name: &[u8], names: &[u8])
+        ensures { self.new ≡ on_channel name.now (shown_each (names_in names.now)) self.old }
     {
         if let Some(at) = self.place(name) {
             let channel = &mut self.items[at];
-            channel.members.list_all(alloc, names)?;
+            channel.members.show_all(alloc, names);
         }
-        Ok(())
     }
 
     // Takes the channel of this name out.
@@ -110,14 +130,57 @@ impl Channels {
         }
     }
 
-    // Puts each of these channels last, anew where it is held, in their order.
-    pub(crate) fn put_each_last(&mut self, channels: Vec<Channel>) -> Result<(), NoMemory>
-        ensures memory { OnErr result (0 < length channels.items) }
-        ensures put { MatchResult result (λ _. self.new ≡ put_each_last channels.items self.old) (λ _. self.new ≡ self.old) }
+    // Takes all channels out, with room for those that the bot joins.
+    pub(crate) fn ready_opening(
+        &mut self,
+        alloc: Global,
+        opened: Vec<Channel>,
+    ) -> Result<Opening, NoMemory>
+        ensures memory { OnErr result (0 < length opened.items) }
+        ensures ready { MatchResult result (λ o. o ≡ (self.old, put_each_last opened.items self.old)) (λ _. self.new ≡ self.old) }
     {
-        self.items.reserve(channels.len())?;
-        put_each(&mut self.items, channels);
+        self.items.reserve(opened.len())?;
+        let held = mem::replace(&mut self.items, Vec::new(alloc));
+        Ok(Opening { held, opened })
+    }
+
+    // Takes the members of the channel at a place out of it, with what is to be done with them.
+    pub(crate) fn take(
+        &mut self,
+        alloc: Global,
+        at: usize,
+        task: Task,
+        takes: &mut Vec<Take>,
+    ) -> Result<(), NoMemory>
+        requires keyed { IsKeyed task }
+        requires within { at < length self.old }
+        ensures taken { OnOk result (Holds at task self.old takes.old.items self.new takes.new.items) }
+        ensures err { OnErr result ((self.new ≡ self.old) × (takes.new.items ≡ takes.old.items)) }
+    {
+        takes.reserve(1)?;
+        let channel = &mut self.items[at];
+        let seating = channel.members.take(alloc, task)?;
+        takes.push_reserved(Take { at, seating });
         Ok(())
+    }
+
+    // The channel at a place gets these members.
+    fn put_at(&mut self, at: usize, members: Roster)
+        ensures { self.new ≡ on_place at (λ ms. members) self.old }
+    {
+        if at < self.items.len() {
+            let channel = &mut self.items[at];
+            channel.members = members;
+        }
+    }
+
+    // Gives back what was taken, the last first: the members as they will be, or as they are.
+    pub(crate) fn give(&mut self, mut takes: Vec<Take>, done: bool)
+        ensures { self.new ≡ given done takes.items self.old }
+    {
+        while let Some(take) = takes.pop() {
+            self.put_at(take.at, take.seating.into_roster(done));
+        }
     }
 
     // Takes every channel out.
@@ -125,17 +188,6 @@ impl Channels {
         ensures { self.new ≡ [] }
     {
         self.items.clear();
-    }
-
-    // Someone joins a channel.
-    pub(crate) fn arrive(&mut self, alloc: Global, name: &[u8], one: Member) -> Result<(), NoMemory>
-        ensures { MatchResult result (λ _. self.new ≡ on_channel name.now (arrived one) self.old) (λ _. self.new ≡ self.old) }
-    {
-        if let Some(at) = self.place(name) {
-            let channel = &mut self.items[at];
-            channel.members.arrive(alloc, one)?;
-        }
-        Ok(())
     }
 
     // Someone leaves a channel.
@@ -186,13 +238,6 @@ impl Channels {
             channel.depart(nick);
         }
     }
-
-    // Someone takes another nick everywhere.
-    pub(crate) fn rename(&mut self, alloc: Global, old: &[u8], new: &[u8]) -> Result<(), NoMemory>
-        ensures { MatchResult result (λ _. self.new ≡ all_renamed old.now new.now self.old) (λ _. self.new ≡ self.old) }
-    {
-        rename_all(self.items.as_mut_slice(), alloc, old, new)
-    }
 }
 
 impl TryCopy for Channels {
@@ -226,7 +271,7 @@ fn put(items: &mut Vec<Channel>, channel: Channel)
 }
 
 // Puts each of these channels last, in their order. There is room for each.
-fn put_each(items: &mut Vec<Channel>, channels: Vec<Channel>)
+pub(crate) fn put_each(items: &mut Vec<Channel>, channels: Vec<Channel>)
     requires { vec_len items.old + length channels.items ≤ vec_capacity items.old }
     ensures { items.new.items ≡ put_each_last channels.items items.old.items }
 {

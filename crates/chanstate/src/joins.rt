@@ -5,122 +5,115 @@ ghost use Rattle.chanstate.specs.Channels.{is_held, opened};
 ghost use Rattle.chanstate.specs.Memory.{any_adds};
 ghost use Rattle.chanstate.specs.Seen.{joins_in};
 ghost use Rattle.chanstate.specs.Items.{Joined, channels_in};
-ghost use Rattle.chanstate.specs.Members.{unmarked};
+ghost use Rattle.chanstate.specs.Members.{arrived, unmarked};
+ghost use Rattle.std.specs.List.{list_any};
+ghost use Rattle.chanstate.specs.Takes.{AreKept, IsTaken, came_each, given};
 ghost use Rattle.rfccase.specs.Casemapping.{is_same};
-ghost use Rattle.chanstate.specs.Steps.{joined, steps};
-ghost use Rattle.chanstate.specs.Undos.{undone};
+ghost use Rattle.chanstate.specs.Plans.{IsPlanFor};
 
 use crate::channel::Channel;
+use crate::channels::Channels;
 use crate::member::Member;
 use crate::names::is_same;
+use crate::plan::Plan;
 use crate::state::ChanState;
-use crate::undo::Undo;
+use crate::take::{Take, is_taken};
+use crate::task::Task;
 use bytetext::NoMemory;
 use ircline::Person;
 use rfccase::is_channel_name;
 use std::alloc::Global;
 
-impl ChanState {
-    // Another person joins one channel.
-    fn join(&mut self, alloc: Global, person: Person<'_>, channel: &[u8]) -> Result<(), NoMemory>
-        requires { is_same person.nick.now self.old.nick ≡ false }
-        ensures { MatchResult result (λ _. self.new ≡ joined person.entry.nick.now person.entry.user.now person.entry.host.now channel.now self.old)
-            (λ _. self.new ≡ self.old) }
-    {
-        let one = Member::new(alloc, person.nick, person.user, person.host)?;
-        self.channels.arrive(alloc, channel, one)
-    }
-
-    // Another person joins one channel, and what takes it back is noted.
-    fn join_noted<'a>(
+impl Channels {
+    // Makes the join of another person ready on the channel that a piece of a list names, if it names one that is held.
+    fn ready_arrival(
         &mut self,
         alloc: Global,
         person: Person<'_>,
-        channel: &'a [u8],
-        undos: &mut Vec<Undo<'a>>,
+        piece: &[u8],
+        takes: &mut Vec<Take>,
     ) -> Result<(), NoMemory>
-        requires { is_same person.nick.now self.old.nick ≡ false }
-        ensures joined { MatchResult result (λ _. self.new ≡ joined person.entry.nick.now person.entry.user.now person.entry.host.now channel.now self.old)
-            (λ _. self.new ≡ self.old) }
-        ensures noted { undone person.entry.nick.now undos.new.items self.new ≡ undone person.entry.nick.now undos.old.items self.old }
-    {
-        let before = self.before(alloc, person.nick, channel)?;
-        undos.reserve(1)?;
-        self.join(alloc, person, channel)?;
-        undos.push_reserved(Undo { channel, before });
-        Ok(())
-    }
-
-    // Another person joins the channel that a piece of a list names, if it names one that is held.
-    fn join_piece<'a>(
-        &mut self,
-        alloc: Global,
-        person: Person<'_>,
-        piece: &'a [u8],
-        undos: &mut Vec<Undo<'a>>,
-    ) -> Result<(), NoMemory>
-        requires { is_same person.nick.now self.old.nick ≡ false }
-        ensures joined { MatchResult result (λ _. self.new
-            ≡ steps (map (Joined person.entry.nick.now person.entry.user.now person.entry.host.now) (filter is_channel_name (piece.now ∷ []))) self.old)
-            (λ _. self.new ≡ self.old) }
-        ensures noted { undone person.entry.nick.now undos.new.items self.new ≡ undone person.entry.nick.now undos.old.items self.old }
+        requires { AreKept (arrived (unmarked person.nick.now person.user.now person.host.now)) takes.old.items }
+        ensures kept { AreKept (arrived (unmarked person.entry.nick.now person.entry.user.now person.entry.host.now)) takes.new.items }
+        ensures back { given false takes.new.items self.new ≡ given false takes.old.items self.old }
+        ensures done { OnOk result (given true takes.new.items self.new
+            ≡ came_each (unmarked person.entry.nick.now person.entry.user.now person.entry.host.now) (filter is_channel_name (piece.now ∷ []))
+            (given true takes.old.items self.old)) }
         ensures named { OnErr result (is_channel_name piece.now ≡ true) }
-        ensures held { OnErr result (is_held piece.now self.old.channels ≡ true) }
+        ensures held { OnErr result (is_held piece.now self.old ≡ true) }
     {
         if !is_channel_name(piece) {
             return Ok(());
         }
-        if !self.holds(piece) {
+        let Some(at) = self.place(piece) else {
+            return Ok(());
+        };
+        if is_taken(takes.as_slice(), at) {
             return Ok(());
         }
-        self.join_noted(alloc, person, piece, undos)
-    }
-
-    // Another person joins the channels of a list, in their order. A refusal takes the joins before it back.
-    fn join_each(&mut self, alloc: Global, person: Person<'_>, list: &[u8]) -> Result<(), NoMemory>
-        requires { is_same person.nick.now self.old.nick ≡ false }
-        ensures memory { OnErr result (any_adds (joins_in person.entry list.now) self.old ≡ true) }
-        ensures joined { MatchResult result (λ _. self.new ≡ steps (joins_in person.entry list.now) self.old) (λ _. self.new ≡ self.old) }
-    {
-        let mut undos = Vec::new(alloc);
-        for piece in list.split(|byte| *byte == b',') {
-            match self.join_piece(alloc, person, piece, &mut undos) {
-                Ok(()) => {}
-                Err(refused) => {
-                    self.take_back_all(person.nick, undos);
-                    return Err(refused);
-                }
-            }
-        }
+        let task = Task::arrive(alloc, person)?;
+        self.take(alloc, at, task, takes)?;
         Ok(())
     }
 
-    // The bot joins the channels of a list, in their order.
-    fn join_own(&mut self, alloc: Global, person: Person<'_>, list: &[u8]) -> Result<(), NoMemory>
-        requires { is_same person.nick.now self.old.nick ≡ true }
-        ensures memory { OnErr result (any_adds (joins_in person.entry list.now) self.old ≡ true) }
-        ensures joined { MatchResult result (λ _. self.new ≡ steps (joins_in person.entry list.now) self.old) (λ _. self.new ≡ self.old) }
-    {
-        let opened = opened_each(alloc, person, list)?;
-        self.channels.put_each_last(opened)?;
-        Ok(())
-    }
-
-    // A person joins the channels of a list.
-    pub(crate) fn join_all(
+    // Makes the joins of another person ready on the channels of a list.
+    pub(crate) fn ready_arrivals(
         &mut self,
         alloc: Global,
         person: Person<'_>,
         list: &[u8],
-    ) -> Result<(), NoMemory>
+    ) -> Result<Vec<Take>, NoMemory>
+        ensures memory { OnErr result (list_any (λ name. is_held name self.old) (channels_in list.now) ≡ true) }
+        ensures ready { MatchResult result (λ takes. IsTaken
+            (came_each (unmarked person.entry.nick.now person.entry.user.now person.entry.host.now) (channels_in list.now)) takes.items self.new self.old)
+            (λ _. self.new ≡ self.old) }
+    {
+        let mut takes = Vec::new(alloc);
+        for piece in list.split(|byte| *byte == b',') {
+            match self.ready_arrival(alloc, person, piece, &mut takes) {
+                Ok(()) => {}
+                Err(refused) => {
+                    self.give(takes, false);
+                    return Err(refused);
+                }
+            }
+        }
+        Ok(takes)
+    }
+}
+
+impl ChanState {
+    // Makes the joins of the bot on the channels of a list ready.
+    fn ready_own_join(
+        &mut self,
+        alloc: Global,
+        person: Person<'_>,
+        list: &[u8],
+    ) -> Result<Plan, NoMemory>
+        requires { is_same person.nick.now self.old.nick ≡ true }
         ensures memory { OnErr result (any_adds (joins_in person.entry list.now) self.old ≡ true) }
-        ensures joined { MatchResult result (λ _. self.new ≡ steps (joins_in person.entry list.now) self.old) (λ _. self.new ≡ self.old) }
+        ensures ready { MatchResult result (λ plan. IsPlanFor (joins_in person.entry list.now) plan self.new self.old) (λ _. self.new ≡ self.old) }
+    {
+        let opened = opened_each(alloc, person, list)?;
+        let opening = self.channels.ready_opening(alloc, opened)?;
+        Ok(Plan::Open(opening))
+    }
+
+    // Makes the joins of a person on the channels of a list ready.
+    pub(crate) fn ready_join(
+        &mut self,
+        alloc: Global,
+        person: Person<'_>,
+        list: &[u8],
+    ) -> Result<Plan, NoMemory>
+        ensures memory { OnErr result (any_adds (joins_in person.entry list.now) self.old ≡ true) }
+        ensures ready { MatchResult result (λ plan. IsPlanFor (joins_in person.entry list.now) plan self.new self.old) (λ _. self.new ≡ self.old) }
     {
         if is_same(person.nick, self.nick.as_bytes()) {
-            self.join_own(alloc, person, list)
-        } else {
-            self.join_each(alloc, person, list)
+            return self.ready_own_join(alloc, person, list);
         }
+        let takes = self.channels.ready_arrivals(alloc, person, list)?;
+        Ok(Plan::Seat { own: None, takes })
     }
 }
 

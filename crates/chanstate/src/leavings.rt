@@ -1,27 +1,14 @@
-// The bot is welcomed, and people leave (RFC 2812 sections 3.1.7, 3.2.2 and 3.2.8).
-ghost use Rattle.std.specs.Prelude.{◌≡◌, MatchResult, map, filter, [], ◌∷◌};
-ghost use Rattle.chanstate.specs.Items.{Left, Welcomed, channels_in};
-ghost use Rattle.chanstate.specs.Steps.{left, departed, step, steps};
+// People leave (RFC 2812 sections 3.1.7, 3.2.2 and 3.2.8).
+ghost use Rattle.std.specs.Prelude.{◌≡◌, map, filter, [], ◌∷◌};
+ghost use Rattle.chanstate.specs.Items.{Left, channels_in};
+ghost use Rattle.chanstate.specs.Steps.{left, departed, steps};
 ghost use Rattle.rfccase.specs.Channels.{is_channel_name};
 
-use crate::channels::Channels;
 use crate::names::is_same;
 use crate::state::ChanState;
-use bytetext::{NoMemory, Text};
 use rfccase::is_channel_name;
-use std::alloc::Global;
 
 impl ChanState {
-    // The server welcomes the bot.
-    pub(crate) fn welcome(&mut self, alloc: Global, nick: &[u8]) -> Result<(), NoMemory>
-        ensures { MatchResult result (λ _. self.new ≡ step (Welcomed nick.now) self.old) (λ _. self.new ≡ self.old) }
-    {
-        let nick = Text::from_slice(alloc, nick)?;
-        self.nick = nick;
-        self.channels = Channels::new(alloc);
-        Ok(())
-    }
-
     // A nick leaves one channel.
     pub(crate) fn leave(&mut self, nick: &[u8], channel: &[u8])
         ensures { self.new ≡ left nick.now channel.now self.old }

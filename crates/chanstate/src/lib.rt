@@ -9,8 +9,9 @@
 //! channel that it concerns (for QUIT and NICK on every held channel), however many are there, also for those who come
 //! again. All seats of a channel are gone through only where room for more is made, which is then for as many again.
 //!
-//! A caller that has more to do for a message makes its other growths first and applies the message last: `apply` either
-//! takes the message in whole or leaves the state as it was, and nothing that follows it then needs memory.
+//! `apply` either takes a message in whole or leaves the state as it was. Who has other growths to make for a message calls
+//! its two halves: [`ChanState::ready`] makes all room that the message needs, or is refused, and then [`Update::commit`]
+//! takes it in without memory, or [`Update::cancel`] gives it up where another growth was refused.
 //!
 //! [`events`] says what a message means to those who bind procs: a raw event for every message, and those of what a
 //! person says to the bot or on a channel that it is on. They are told against the state before the message.
@@ -24,6 +25,13 @@
 //! state.apply(alloc, &message)?;                 // :Egg!e@h JOIN #a
 //! state.members(alloc, b"#A")?.len()             // 1
 //! events(alloc, &message, &state)?               // :a!b@c PRIVMSG egg :hi you gives raw, msgm and msg
+//!
+//! let update = state.ready(alloc, &message)?;    // all that the message takes
+//! if let Err(refused) = notes.reserve(1) {       // what else has to grow
+//!     update.cancel();                           // the state is as before
+//!     return Err(refused.into());
+//! }
+//! update.commit(&message);                       // takes none
 //! ```
 #![tactic(auto)]
 
@@ -43,14 +51,17 @@ mod members;
 mod modes;
 mod names;
 mod newcomers;
+mod plan;
 mod renames;
-mod renaming;
 mod roster;
+mod seating;
 mod seats;
 mod speech;
 mod state;
+mod take;
+mod task;
 mod topics;
-mod undo;
+mod update;
 mod verb;
 mod words;
 
@@ -60,3 +71,4 @@ pub use crate::member::{Mark, Member};
 pub use crate::members::Members;
 pub use crate::speech::events;
 pub use crate::state::ChanState;
+pub use crate::update::{Made, Update};

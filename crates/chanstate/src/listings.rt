@@ -2,24 +2,33 @@
 ghost use Rattle.std.specs.Prelude.{◌≡◌, true, OnErr, MatchResult, map};
 ghost use Rattle.chanstate.specs.Items.{Listed, names_in};
 ghost use Rattle.chanstate.specs.Memory.{any_adds};
-ghost use Rattle.chanstate.specs.Steps.{steps};
+ghost use Rattle.chanstate.specs.Plans.{IsPlanFor};
 
+use crate::newcomers::named_by;
+use crate::plan::Plan;
 use crate::state::ChanState;
+use crate::task::Task;
 use bytetext::NoMemory;
 use std::alloc::Global;
 
 impl ChanState {
-    // The members of a channel are listed.
-    pub(crate) fn list(
+    // Makes a listing of the members of a channel ready.
+    pub(crate) fn ready_list(
         &mut self,
         alloc: Global,
         channel: &[u8],
         names: &[u8],
-    ) -> Result<(), NoMemory>
+    ) -> Result<Plan, NoMemory>
         ensures memory { OnErr result (any_adds (map (Listed channel.now) (names_in names.now)) self.old ≡ true) }
-        ensures listed { MatchResult result (λ _. self.new ≡ steps (map (Listed channel.now) (names_in names.now)) self.old) (λ _. self.new ≡ self.old) }
+        ensures ready { MatchResult result (λ plan. IsPlanFor (map (Listed channel.now) (names_in names.now)) plan self.new self.old)
+            (λ _. self.new ≡ self.old) }
     {
-        self.channels.list(alloc, channel, names)?;
-        Ok(())
+        let Some(at) = self.channels.place_lacking(channel, names) else {
+            return Ok(Plan::Plain);
+        };
+        let ones = named_by(alloc, names)?;
+        let mut takes = Vec::new(alloc);
+        self.channels.take(alloc, at, Task::List(ones), &mut takes)?;
+        Ok(Plan::Seat { own: None, takes })
     }
 }

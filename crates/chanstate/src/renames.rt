@@ -1,109 +1,104 @@
 // Nicks change (RFC 2812 section 3.1.2): on every channel, or on none where memory is short.
-ghost use Rattle.std.specs.Prelude.{◌≡◌, ◌≤◌, ◌||◌, true, ℕ, List, [], length, OnOk, OnErr, MatchResult};
-ghost use Rattle.std.specs.List.{list_any};
-ghost use Rattle.std.specs.Vec.{vec_capacity};
-ghost use Rattle.chanstate.specs.declared.channel.Channel.{Channel};
+ghost use Rattle.std.specs.Prelude.{◌≡◌, ◌<◌, ◌≤◌, ◌∷◌, true, false, if◌then◌else◌, unwrap_or, ℕ, List, [], length, IfOk, OnOk, OnErr, MatchResult};
 ghost use Rattle.chanstate.specs.Channels.{all_renamed};
-ghost use Rattle.rfccase.specs.Casemapping.{is_same};
 ghost use Rattle.chanstate.specs.Items.{Renamed};
-ghost use Rattle.chanstate.specs.Members.{has_member};
-ghost use Rattle.chanstate.specs.Memory.{adds};
-ghost use Rattle.chanstate.specs.Renamings.{AreTaken};
-ghost use Rattle.chanstate.specs.Steps.{step};
+ghost use Rattle.chanstate.specs.Memory.{adds, any_adds};
+ghost use Rattle.chanstate.specs.Plans.{IsPlanFor};
+ghost use Rattle.rfccase.specs.Casemapping.{is_same};
+ghost use Rattle.chanstate.specs.Members.{renamed};
+ghost use Rattle.chanstate.specs.Takes.{IsTaken, given, is_taken, on_place};
 
-use crate::channel::Channel;
+use crate::channels::Channels;
 use crate::names::is_same;
-use crate::renaming::Renaming;
+use crate::plan::Plan;
 use crate::state::ChanState;
+use crate::take::Take;
+use crate::task::Task;
 use bytetext::{NoMemory, Text};
 use std::alloc::Global;
 
-impl ChanState {
-    // Whether a nick is the bot's own or on a held channel.
-    fn knows(&self, nick: &[u8]) -> bool
-        ensures { result ≡ (is_same nick.now self.now.nick || list_any (λ channel. has_member nick.now channel.members) self.now.channels) }
+impl Channels {
+    // Makes the renaming of someone ready on the channel at a place, from which nothing was taken.
+    fn ready_renaming_at(
+        &mut self,
+        alloc: Global,
+        at: usize,
+        old: &[u8],
+        new: &[u8],
+        takes: &mut Vec<Take>,
+    ) -> Result<(), NoMemory>
+        requires within { at < length self.old }
+        requires fresh { (i : ℕ) → at ≤ i → is_taken i takes.old.items ≡ false }
+        ensures fresh { (i : ℕ) → at < i → is_taken i takes.new.items ≡ false }
+        ensures back { given false takes.new.items self.new ≡ given false takes.old.items self.old }
+        ensures done { OnOk result (given true takes.new.items self.new ≡ on_place at (renamed old.now new.now) (given true takes.old.items self.old)) }
     {
-        is_same(nick, self.nick.as_bytes()) || self.channels.have(nick)
-    }
-
-    // A nick is now another.
-    pub(crate) fn rename(&mut self, alloc: Global, old: &[u8], new: &[u8]) -> Result<(), NoMemory>
-        ensures memory { OnErr result (adds (Renamed old.now new.now) self.old ≡ true) }
-        ensures renamed { MatchResult result (λ _. self.new ≡ step (Renamed old.now new.now) self.old) (λ _. self.new ≡ self.old) }
-    {
-        if !self.knows(old) {
+        if !self.as_slice()[at].members.holds(old) {
             return Ok(());
         }
-        let own = Text::from_slice(alloc, new)?;
-        self.channels.rename(alloc, old, new)?;
-        if is_same(old, self.nick.as_bytes()) {
-            self.nick = own;
-        }
+        let task = Task::rename(alloc, old, new)?;
+        self.take(alloc, at, task, takes)?;
         Ok(())
     }
-}
 
-// Someone takes another nick on each of these channels. What that takes is made ready on all of them first.
-pub(crate) fn rename_all(
-    channels: &mut [Channel],
-    alloc: Global,
-    old: &[u8],
-    new: &[u8],
-) -> Result<(), NoMemory>
-    ensures { MatchResult result (λ _. channels.new ≡ all_renamed old.now new.now channels.old) (λ _. channels.new ≡ channels.old) }
-{
-    let mut all = Vec::with_capacity(alloc, channels.len())?;
-    match ready_all(channels, &mut all, alloc, old, new) {
-        Ok(()) => {
-            give_all_renamed(channels, old, all);
-            Ok(())
+    // Makes the renaming of someone ready on every channel.
+    pub(crate) fn ready_renaming(
+        &mut self,
+        alloc: Global,
+        old: &[u8],
+        new: &[u8],
+    ) -> Result<Vec<Take>, NoMemory>
+        ensures { MatchResult result (λ takes. IsTaken (all_renamed old.now new.now) takes.items self.new self.old) (λ _. self.new ≡ self.old) }
+    {
+        let mut takes = Vec::new(alloc);
+        for at in 0..self.as_slice().len() {
+            match self.ready_renaming_at(alloc, at, old, new, &mut takes) {
+                Ok(()) => {}
+                Err(refused) => {
+                    self.give(takes, false);
+                    return Err(refused);
+                }
+            }
         }
-        Err(refused) => {
-            give_all_back(channels, all);
-            Err(refused)
+        Ok(takes)
+    }
+}
+
+impl ChanState {
+    // Whether the old nick is the bot's own or on a held channel, and is spelled there in another way than the new one.
+    fn respells(&self, old: &[u8], new: &[u8]) -> bool
+        ensures { result ≡ adds (Renamed old.now new.now) self.now }
+    {
+        let own = self.nick.as_bytes();
+        is_same(old, own) && own != new || self.channels.respell(old, new)
+    }
+
+    // Makes another spelling of a nick ready.
+    pub(crate) fn ready_nick(
+        &mut self,
+        alloc: Global,
+        old: &[u8],
+        new: &[u8],
+    ) -> Result<Plan, NoMemory>
+        ensures memory { OnErr result (any_adds (Renamed old.now new.now ∷ []) self.old ≡ true) }
+        ensures ready { MatchResult result (λ plan. IsPlanFor (Renamed old.now new.now ∷ []) plan self.new self.old) (λ _. self.new ≡ self.old) }
+    {
+        if !self.respells(old, new) {
+            return Ok(Plan::Plain);
         }
+        let own = self.own_after(alloc, old, new)?;
+        let takes = self.channels.ready_renaming(alloc, old, new)?;
+        Ok(Plan::Seat { own, takes })
     }
-}
 
-// What it takes to rename someone on each of these, in their order.
-fn ready_all(
-    channels: &mut [Channel],
-    all: &mut Vec<Option<Renaming>>,
-    alloc: Global,
-    old: &[u8],
-    new: &[u8],
-) -> Result<(), NoMemory>
-    requires none { all.old.items ≡ [] }
-    requires room { length channels.old ≤ vec_capacity all.old }
-    ensures taken { AreTaken (λ c. c) old.now new.now channels.old all.new.items channels.new }
-    ensures whole { OnOk result (length all.new.items ≡ length channels.old) }
-{
-    for at in 0..channels.len() {
-        let with = channels[at].ready(alloc, old, new)?;
-        all.push_reserved(with);
-    }
-    Ok(())
-}
-
-// What was taken from the first of these channels comes back.
-fn give_all_back(channels: &mut [Channel], all: Vec<Option<Renaming>>)
-    requires { length all.items ≤ length channels.old }
-    ensures { (old new : List ℕ) (before : List Channel) → AreTaken (λ c. c) old new before all.items channels.old → channels.new ≡ before }
-{
-    let mut all = all;
-    while let Some(with) = all.pop() {
-        channels[all.len()].give_back(with);
-    }
-}
-
-// The same, and the member of the old nick has the new one.
-fn give_all_renamed(channels: &mut [Channel], old: &[u8], all: Vec<Option<Renaming>>)
-    requires { length all.items ≡ length channels.old }
-    ensures { (new : List ℕ) (before : List Channel) → AreTaken (λ c. c) old.now new before all.items channels.old
-        → channels.new ≡ all_renamed old.now new before }
-{
-    let mut all = all;
-    while let Some(with) = all.pop() {
-        channels[all.len()].give_renamed(old, with);
+    // The bot's new nick, where the old one is the bot's.
+    fn own_after(&self, alloc: Global, old: &[u8], new: &[u8]) -> Result<Option<Text>, NoMemory>
+        ensures { IfOk result (λ own. unwrap_or own self.now.nick ≡ (if is_same old.now self.now.nick then new.now else self.now.nick)) }
+    {
+        if is_same(old, self.nick.as_bytes()) {
+            Ok(Some(Text::from_slice(alloc, new)?))
+        } else {
+            Ok(None)
+        }
     }
 }

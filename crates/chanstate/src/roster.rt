@@ -1,24 +1,22 @@
 // The members of one channel, as the bot keeps them: found by their nicks, in the order in which they came.
-ghost use Rattle.std.specs.Prelude.{◌≡◌, [], ◌∷◌, true, not, IfOk, OnErr, MatchResult, find};
+ghost use Rattle.std.specs.Prelude.{◌≡◌, [], ◌∷◌, not, IfOk, OnErr, find};
 ghost use Rattle.std.specs.List.{list_any};
 ghost use Rattle.std.specs.Option.{option_copied, option_to_list};
 ghost use Rattle.chanstate.specs.Views.{is_op};
-ghost use Rattle.chanstate.specs.Members.{is_called, has_member, with_mark, with_address, arrived, edited, listed_each, shown_each};
-ghost use Rattle.chanstate.specs.Renamings.{IsReady};
+ghost use Rattle.chanstate.specs.Members.{is_called, has_member, with_mark, with_address, edited, shown_each};
+ghost use Rattle.chanstate.specs.Memory.{respells};
 ghost use Rattle.chanstate.specs.Items.{named, names_in};
 ghost use Rattle.chanstate.specs.Firsts.{first_removed, first_changed};
+ghost use Rattle.chanstate.specs.Tasks.{IsKeyed, done_by};
 
 use crate::copies::{copies_of, seats_of};
 use crate::edit::Edit;
 use crate::member::{Mark, Member};
-use crate::newcomers::{list_each, named_by};
-use crate::renaming::Renaming;
-use crate::seats::{
-    Seats, add, edit_at, index_taken, make_room, member_of, place_of, reserve_entries, vacate,
-};
+use crate::seating::Seating;
+use crate::seats::{Seats, add, edit_at, index_taken, make_room, member_of, place_of, vacate};
+use crate::task::Task;
 use crate::words::{shown, split_signs};
 use bytetext::{NoMemory, Text, TryCopy};
-use rfccase::fold_text;
 use std::alloc::Global;
 use std::marker::Model;
 use std::mem;
@@ -72,6 +70,16 @@ impl Roster {
         self.find(nick).is_some()
     }
 
+    // Whether the member of the old nick, if there is one, spells it in another way than the new one.
+    pub(crate) fn respells(&self, old: &[u8], new: &[u8]) -> bool
+        ensures { result ≡ respells new.now (find (is_called old.now) self.now) }
+    {
+        match self.find(old) {
+            Some(member) => member.nick.as_bytes() != new,
+            None => false,
+        }
+    }
+
     // Whether the member of this nick is a channel operator.
     pub(crate) fn is_op(&self, nick: &[u8]) -> bool
         ensures { result ≡ is_op (find (is_called nick.now) self.now) }
@@ -112,23 +120,6 @@ impl Roster {
         self.edit(nick, Edit::Addressed(user, host));
     }
 
-    // Someone joins.
-    pub(crate) fn arrive(&mut self, alloc: Global, one: Member) -> Result<(), NoMemory>
-        ensures { MatchResult result (λ _. self.new ≡ arrived one self.old) (λ _. self.new ≡ self.old) }
-    {
-        if self.holds(one.nick.as_bytes()) {
-            let Member {
-                nick,
-                user,
-                host,
-                ..
-            } = one;
-            self.place_at(nick.as_bytes(), user, host);
-            return Ok(());
-        }
-        add(&mut self.seats, alloc, one)
-    }
-
     // Whether a word of a list of names names someone who isn't among them.
     fn lacks(&self, word: &[u8]) -> bool
         ensures { result ≡ list_any (λ one. not (has_member one.nick self.now)) (option_to_list (named word.now)) }
@@ -138,7 +129,7 @@ impl Roster {
     }
 
     // Whether a list of names names someone who isn't among them.
-    fn lacks_any(&self, names: &[u8]) -> bool
+    pub(crate) fn lacks_any(&self, names: &[u8]) -> bool
         ensures { result ≡ list_any (λ one. not (has_member one.nick self.now)) (names_in names.now) }
     {
         for word in names.split(|byte| *byte == b' ') {
@@ -161,7 +152,7 @@ impl Roster {
     }
 
     // The same for each word of a list of names, in their order.
-    fn show_all(&mut self, alloc: Global, names: &[u8])
+    pub(crate) fn show_all(&mut self, alloc: Global, names: &[u8])
         ensures { self.new ≡ shown_each (names_in names.now) self.old }
     {
         for word in names.split(|byte| *byte == b' ') {
@@ -169,40 +160,15 @@ impl Roster {
         }
     }
 
-    // Those whom a list of names names are listed, in their order.
-    pub(crate) fn list_all(&mut self, alloc: Global, names: &[u8]) -> Result<(), NoMemory>
-        ensures memory { OnErr result (list_any (λ one. not (has_member one.nick self.old)) (names_in names.now) ≡ true) }
-        ensures listed { MatchResult result (λ _. self.new ≡ listed_each (names_in names.now) self.old) (λ _. self.new ≡ self.old) }
-    {
-        if !self.lacks_any(names) {
-            self.show_all(alloc, names);
-            return Ok(());
-        }
-        let ones = named_by(alloc, names)?;
-        make_room(&mut self.seats, alloc, ones.len())?;
-        list_each(&mut self.seats, ones);
-        Ok(())
-    }
-
-    // What it takes to give the member of the old nick the new one: the seats of all, which are given back thereafter.
-    // Nothing where there is no such member.
-    pub(crate) fn ready(
-        &mut self,
-        alloc: Global,
-        old: &[u8],
-        new: &[u8],
-    ) -> Result<Option<Renaming>, NoMemory>
-        ensures ok { IfOk result (λ with. IsReady old.now new.now self.old with self.new) }
+    // Takes the members out, with room for what is to be done with them. Nobody is left.
+    pub(crate) fn take(&mut self, alloc: Global, task: Task) -> Result<Seating, NoMemory>
+        requires { IsKeyed task }
+        ensures ok { IfOk result (λ seating. seating ≡ (self.old, done_by task self.old)) }
         ensures err { OnErr result (self.new ≡ self.old) }
     {
-        if !self.holds(old) {
-            return Ok(None);
-        }
-        let nick = Text::from_slice(alloc, new)?;
-        let key = fold_text(alloc, new)?;
-        reserve_entries(&mut self.seats.index, 1)?;
+        make_room(&mut self.seats, alloc, task.places())?;
         let seats = mem::replace(&mut self.seats, Seats::new(alloc));
-        Ok(Some(Renaming { nick, key, seats }))
+        Ok(Seating { seats, task })
     }
 }
 

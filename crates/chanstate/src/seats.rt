@@ -181,7 +181,7 @@ fn reserve_places(places: &mut Vec<Option<Member>>, more: usize) -> Result<(), N
     Ok(())
 }
 
-pub(crate) fn reserve_entries(index: &mut Index, more: usize) -> Result<(), NoMemory>
+fn reserve_entries(index: &mut Index, more: usize) -> Result<(), NoMemory>
     ensures same { index.new.entries ≡ index.old.entries }
     ensures room { OnOk result (more ≤ spare index.new) }
 {

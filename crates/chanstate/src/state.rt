@@ -1,14 +1,17 @@
 // The bot's channels.
-ghost use Rattle.std.specs.Prelude.{◌≡◌, true, IfOk, OnErr, MatchResult};
+ghost use Rattle.std.specs.Prelude.{◌≡◌, true, false, IfOk, OnErr, MatchResult};
 ghost use Rattle.std.specs.Option.{option_copied, option_map};
 ghost use Rattle.chanstate.specs.Channels.{is_held};
 ghost use Rattle.chanstate.specs.Views.{connected, channel_in, topic_in, members_in, member_in, is_op, channels_with};
 ghost use Rattle.chanstate.specs.Steps.{after};
 ghost use Rattle.chanstate.specs.Memory.{takes_memory};
+ghost use Rattle.chanstate.specs.Items.{items_of};
+ghost use Rattle.chanstate.specs.Plans.{IsPlanFor};
 
 use crate::change::{Change, change_of};
 use crate::channels::Channels;
 use crate::members::Members;
+use crate::plan::Plan;
 use bytetext::{NoMemory, Text, Texts, TryCopy};
 use ircline::Message;
 use std::alloc::Global;
@@ -103,50 +106,69 @@ impl ChanState {
         Ok(Texts::new(names))
     }
 
-    /// Takes a message in.
+    /// Takes a message in: [`ready`](ChanState::ready), and then [`commit`](crate::Update::commit).
     ///
     /// # Errors
     /// `NoMemory` where room is refused; the state is then as before. Only a message that brings a text to be kept asks for
-    /// room: a welcome, a JOIN, a NICK of the bot or of a member, and on held channels another topic, another address of a
-    /// member in a reply 352, and a reply 353 that names someone new. Any other message, as each PART, KICK, QUIT and MODE,
-    /// takes no memory.
+    /// room: a welcome, a JOIN, another spelling of the bot's nick or of a member's, and on held channels another topic,
+    /// another address of a member in a reply 352, and a reply 353 that names someone new. Any other message, as each PART,
+    /// KICK, QUIT and MODE, takes no memory.
     pub fn apply(&mut self, alloc: Global, message: &Message) -> Result<(), NoMemory>
         ensures memory { OnErr result (takes_memory message.now self.old ≡ true) }
         ensures applied { MatchResult result (λ _. self.new ≡ after message.now self.old) (λ _. self.new ≡ self.old) }
     {
+        let update = self.ready(alloc, message)?;
+        update.commit(message);
+        Ok(())
+    }
+
+    // What has to be made of a message. The members of channels that it changes are taken out.
+    pub(crate) fn plan(&mut self, alloc: Global, message: &Message) -> Result<Plan, NoMemory>
+        ensures memory { OnErr result (takes_memory message.now self.old ≡ true) }
+        ensures ready { MatchResult result (λ plan. IsPlanFor (items_of message.now) plan self.new self.old) (λ _. self.new ≡ self.old) }
+    {
         match change_of(message) {
-            Change::Nothing => Ok(()),
-            Change::Welcome(nick) => self.welcome(alloc, nick),
-            Change::Join { person, list } => self.join_all(alloc, person, list),
-            Change::Part { nick, list } => {
-                self.leave_all(nick, list);
-                Ok(())
-            }
-            Change::Kick { channel, target } => {
-                self.leave(target, channel);
-                Ok(())
-            }
-            Change::Quit(nick) => {
-                self.depart(nick);
-                Ok(())
-            }
-            Change::Nick { old, new } => self.rename(alloc, old, new),
-            Change::Mode {
-                channel,
-                modes,
-                arguments,
-            } => {
-                self.mode(channel, modes, arguments);
-                Ok(())
-            }
-            Change::Topic { channel, topic } => self.set_topic(alloc, channel, topic),
-            Change::Names { channel, names } => self.list(alloc, channel, names),
+            Change::Nothing => Ok(Plan::Plain),
+            Change::Part { .. } => Ok(Plan::Plain),
+            Change::Kick { .. } => Ok(Plan::Plain),
+            Change::Quit(_) => Ok(Plan::Plain),
+            Change::Mode { .. } => Ok(Plan::Plain),
+            Change::Welcome(nick) => Ok(Plan::Welcome(Text::from_slice(alloc, nick)?)),
+            Change::Join { person, list } => self.ready_join(alloc, person, list),
+            Change::Nick { old, new } => self.ready_nick(alloc, old, new),
+            Change::Topic { channel, topic } => self.ready_topic(alloc, channel, topic),
+            Change::Names { channel, names } => self.ready_list(alloc, channel, names),
             Change::Address {
                 channel,
                 user,
                 host,
                 nick,
-            } => self.address(alloc, channel, user, host, nick),
+            } => self.ready_address(alloc, channel, user, host, nick),
+        }
+    }
+
+    // Takes a message in that takes no memory.
+    pub(crate) fn take_in(&mut self, alloc: Global, message: &Message)
+        requires { takes_memory message.now self.old ≡ false }
+        ensures { self.new ≡ after message.now self.old }
+    {
+        match change_of(message) {
+            Change::Nothing => {}
+            // These change nothing, since they would take memory where they do.
+            Change::Welcome(_) => {}
+            Change::Join { .. } => {}
+            Change::Nick { .. } => {}
+            Change::Topic { .. } => {}
+            Change::Address { .. } => {}
+            Change::Part { nick, list } => self.leave_all(nick, list),
+            Change::Kick { channel, target } => self.leave(target, channel),
+            Change::Quit(nick) => self.depart(nick),
+            Change::Mode {
+                channel,
+                modes,
+                arguments,
+            } => self.mode(channel, modes, arguments),
+            Change::Names { channel, names } => self.channels.show(alloc, channel, names),
         }
     }
 }

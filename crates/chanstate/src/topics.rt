@@ -1,10 +1,11 @@
 // Topics (RFC 2812 section 3.2.4, replies 331 and 332), and addresses (reply 352).
-ghost use Rattle.std.specs.Prelude.{◌≡◌, true, OnErr, MatchResult};
+ghost use Rattle.std.specs.Prelude.{◌≡◌, ◌∷◌, [], true, IfOk, OnErr};
 ghost use Rattle.chanstate.specs.Items.{Titled, Addressed};
-ghost use Rattle.chanstate.specs.Memory.{adds, readdresses, retitles};
-ghost use Rattle.chanstate.specs.Steps.{step};
+ghost use Rattle.chanstate.specs.Memory.{any_adds, readdresses, retitles};
+ghost use Rattle.chanstate.specs.Plans.{IsPlanFor};
 ghost use Rattle.chanstate.specs.Views.{channel_in, member_in};
 
+use crate::plan::Plan;
 use crate::state::ChanState;
 use bytetext::{NoMemory, Text};
 use std::alloc::Global;
@@ -20,22 +21,23 @@ impl ChanState {
         }
     }
 
-    // A channel has this topic.
-    pub(crate) fn set_topic(
-        &mut self,
+    // Makes another topic of a channel ready.
+    pub(crate) fn ready_topic(
+        &self,
         alloc: Global,
         channel: &[u8],
         topic: &[u8],
-    ) -> Result<(), NoMemory>
-        ensures memory { OnErr result (adds (Titled channel.now topic.now) self.old ≡ true) }
-        ensures titled { MatchResult result (λ _. self.new ≡ step (Titled channel.now topic.now) self.old) (λ _. self.new ≡ self.old) }
+    ) -> Result<Plan, NoMemory>
+        ensures memory { OnErr result (any_adds (Titled channel.now topic.now ∷ []) self.now ≡ true) }
+        ensures ready { IfOk result (λ plan. IsPlanFor (Titled channel.now topic.now ∷ []) plan self.now self.now) }
     {
         if !self.retitles(channel, topic) {
-            return Ok(());
+            return Ok(Plan::Plain);
         }
-        let topic = Text::from_slice(alloc, topic)?;
-        self.channels.set_topic(channel, topic);
-        Ok(())
+        Ok(Plan::Title {
+            channel: Text::from_slice(alloc, channel)?,
+            topic: Text::from_slice(alloc, topic)?,
+        })
     }
 
     // Whether the bot is on the channel, and someone of this nick too, who has another address.
@@ -51,24 +53,26 @@ impl ChanState {
         }
     }
 
-    // A member of a channel has this address.
-    pub(crate) fn address(
-        &mut self,
+    // Makes another address of a member of a channel ready.
+    pub(crate) fn ready_address(
+        &self,
         alloc: Global,
         channel: &[u8],
         user: &[u8],
         host: &[u8],
         nick: &[u8],
-    ) -> Result<(), NoMemory>
-        ensures memory { OnErr result (adds (Addressed channel.now nick.now user.now host.now) self.old ≡ true) }
-        ensures addressed { MatchResult result (λ _. self.new ≡ step (Addressed channel.now nick.now user.now host.now) self.old) (λ _. self.new ≡ self.old) }
+    ) -> Result<Plan, NoMemory>
+        ensures memory { OnErr result (any_adds (Addressed channel.now nick.now user.now host.now ∷ []) self.now ≡ true) }
+        ensures ready { IfOk result (λ plan. IsPlanFor (Addressed channel.now nick.now user.now host.now ∷ []) plan self.now self.now) }
     {
         if !self.readdresses(channel, nick, user, host) {
-            return Ok(());
+            return Ok(Plan::Plain);
         }
-        let user = Text::from_slice(alloc, user)?;
-        let host = Text::from_slice(alloc, host)?;
-        self.channels.place_at(channel, nick, user, host);
-        Ok(())
+        Ok(Plan::Address {
+            channel: Text::from_slice(alloc, channel)?,
+            nick: Text::from_slice(alloc, nick)?,
+            user: Text::from_slice(alloc, user)?,
+            host: Text::from_slice(alloc, host)?,
+        })
     }
 }

@@ -1,6 +1,6 @@
 use Rattle.std.proofs.Common.{◌≡◌, ◌∙◌, [], length, ap, sym, arith}
 use Rattle.std.specs.Vec.Iter.{into_iter_items}
-use Rattle.chanstate.specs.Undos.{put_each_last}
+use Rattle.chanstate.specs.Channels.{put_each_last}
 use Rattle.std.proofs.lemmas.List.{nil_from_length}
 use Rattle.chanstate.proofs.channels.put_each.Goals as goal
 

@@ -1,7 +1,7 @@
 use Rattle.std.proofs.Common.{◌≡◌, ◌≤◌, ◌+◌, length}
 use Rattle.std.specs.Vec.{vec_len, vec_capacity}
 use Rattle.std.specs.Vec.Iter.{into_iter_items, into_iter_len}
-use Rattle.chanstate.specs.Undos.{put_each_last}
+use Rattle.chanstate.specs.Channels.{put_each_last}
 use Rattle.chanstate.proofs.channels.put_each.Given as goal
 
 -- those that are left, put last behind those so far, are put last behind all before; there is room for them

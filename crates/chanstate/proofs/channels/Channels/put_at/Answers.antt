@@ -1,0 +1,13 @@
+use Rattle.std.proofs.Common.{length, ap, sym, refl, arith}
+use Rattle.chanstate.proofs.TakeLemmas.{set_at, on_place-past}
+use Rattle.chanstate.proofs.channels.Channels.put_at.Goals as goal
+
+pub returns-then-at-len : goal.returns-then-at-len
+returns-then-at-len c =
+    set_at c.args.at (λ _. c.args.members) _ _ c.index_mut-channel.result.now _ c.self.view_is (omega (arith, c.if-at-len.true, c.len.ensures))
+    c.index_mut-channel.ensures.value refl
+
+pub returns-else-at-len : goal.returns-else-at-len
+returns-else-at-len c =
+    let long = ap length c.self.view_is in
+    sym (on_place-past c.args.at (λ _. c.args.members) c.args.self.now (omega (arith, long, c.if-at-len.false, c.len.ensures)))

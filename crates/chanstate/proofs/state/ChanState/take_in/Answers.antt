@@ -1,0 +1,52 @@
+use Rattle.std.proofs.Common.{◌∙◌, ap, sym}
+use Rattle.chanstate.specs.Items.{Renamed, Titled, Addressed, channels_in, names_in}
+use Rattle.chanstate.specs.Memory.{any_adds}
+use Rattle.chanstate.specs.Steps.{steps}
+use Rattle.chanstate.proofs.KeptLemmas.{adds-none, joins_none, same_address, same_nick, same_topic, shown_none}
+use Rattle.chanstate.proofs.StepLemmas.{steps-listed}
+use Rattle.chanstate.proofs.state.ChanState.take_in.Goals as goal
+
+pub returns-in-Join : goal.returns-in-Join
+returns-in-Join c =
+    let s = c.args.self.now in
+    let is = c.in-Join.ensures in
+    let person = c.in-Join.person in
+    sym (ap (λ items. steps items s) (sym is)
+    ∙ joins_none person.nick.now person.user.now person.host.now (channels_in c.in-Join.list.now) s (ap (λ items. any_adds items s) is ∙ c.requires))
+
+pub returns-in-Nick : goal.returns-in-Nick
+returns-in-Nick c =
+    let s = c.args.self.now in
+    let is = c.in-Nick.ensures in
+    let old = c.in-Nick.old.now in
+    let new = c.in-Nick.new.now in
+    sym (ap (λ items. steps items s) (sym is) ∙ same_nick old new s (adds-none (Renamed old new) s (ap (λ items. any_adds items s) is ∙ c.requires)))
+
+pub returns-in-Topic : goal.returns-in-Topic
+returns-in-Topic c =
+    let s = c.args.self.now in
+    let is = c.in-Topic.ensures in
+    let channel = c.in-Topic.channel.now in
+    let topic = c.in-Topic.topic.now in
+    sym (ap (λ items. steps items s) (sym is) ∙ ap (λ cs. record s { channels = cs })
+    (same_topic channel topic s (adds-none (Titled channel topic) s (ap (λ items. any_adds items s) is ∙ c.requires))))
+
+pub returns-in-Address : goal.returns-in-Address
+returns-in-Address c =
+    let s = c.args.self.now in
+    let is = c.in-Address.ensures in
+    let channel = c.in-Address.channel.now in
+    let nick = c.in-Address.nick.now in
+    let user = c.in-Address.user.now in
+    let host = c.in-Address.host.now in
+    sym (ap (λ items. steps items s) (sym is) ∙ ap (λ cs. record s { channels = cs })
+    (same_address channel nick user host s (adds-none (Addressed channel nick user host) s (ap (λ items. any_adds items s) is ∙ c.requires))))
+
+pub returns-in-Names : goal.returns-in-Names
+returns-in-Names c =
+    let s = c.args.self.now in
+    let is = c.in-Names.ensures in
+    let channel = c.in-Names.channel.now in
+    let names = names_in c.in-Names.names.now in
+    ap (λ cs. record s { channels = cs }) (c.show.ensures ∙ shown_none channel names s (ap (λ items. any_adds items s) is ∙ c.requires))
+    ∙ sym (steps-listed channel names s) ∙ ap (λ items. steps items s) is

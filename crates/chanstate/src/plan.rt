@@ -1,0 +1,132 @@
+// What is made of a message before it is taken in, so that taking it in takes no memory.
+ghost use Rattle.std.specs.Prelude.{◌≡◌, ◌+◌, ◌≤◌, if◌then◌else◌, length, unwrap_or};
+ghost use Rattle.std.specs.Vec.{vec_len, vec_capacity};
+ghost use Rattle.chanstate.specs.Plans.{is_plain, settled};
+
+use crate::channel::Channel;
+use crate::channels::{Channels, put_each};
+use crate::state::ChanState;
+use crate::take::Take;
+use bytetext::Text;
+use std::marker::Model;
+
+/// What is made of a message, by what it changes.
+#[derive(Drop)]
+pub enum Plan {
+    // Nothing has to be made.
+    Plain,
+    // The server has welcomed the bot under this nick.
+    Welcome(Text),
+    // A channel has another topic.
+    Title {
+        channel: Text,
+        topic: Text,
+    },
+    // A member of a channel has another address.
+    Address {
+        channel: Text,
+        nick: Text,
+        user: Text,
+        host: Text,
+    },
+    // The bot has joined channels.
+    Open(Opening),
+    // The members of channels change, and the bot's nick, where there is another.
+    Seat {
+        own: Option<Text>,
+        takes: Vec<Take>,
+    },
+}
+
+/// Channels, taken out of a state with room for those that the bot joins. Contracts see the channels as they are, and as
+/// they will be.
+#[derive(Drop)]
+pub struct Opening {
+    pub(crate) held: Vec<Channel>,
+    pub(crate) opened: Vec<Channel>,
+}
+
+impl Model for Opening {
+    ghost use Rattle.std.specs.Prelude.{◌+◌, ◌≤◌, List, length};
+    ghost use Rattle.std.specs.Vec.{vec_len, vec_capacity};
+    ghost use Rattle.chanstate.specs.declared.channel.Channel.{Channel};
+    ghost use Rattle.chanstate.specs.Channels.{put_each_last};
+
+    ghost Value = { List Channel × List Channel };
+
+    ghost view = { λ o. (o.held.items, put_each_last o.opened.items o.held.items) };
+
+    ghost invariant = { λ o. vec_len o.held + length o.opened.items ≤ vec_capacity o.held };
+}
+
+impl Opening {
+    // The channels as they will be, or as they are.
+    fn into_channels(self, done: bool) -> Channels
+        ensures { result ≡ (if done then self.1 else self.0) }
+    {
+        let Opening { mut held, opened } = self;
+        if done {
+            put_each(&mut held, opened);
+        }
+        Channels { items: held }
+    }
+}
+
+impl Plan {
+    // Whether nothing had to be made.
+    pub(crate) fn is_plain(&self) -> bool
+        ensures { result ≡ is_plain self.now }
+    {
+        matches!(self, Plan::Plain)
+    }
+}
+
+impl ChanState {
+    // Takes in what was made, or gives back what was taken for it.
+    pub(crate) fn settle(&mut self, plan: Plan, done: bool)
+        ensures { self.new ≡ settled done plan self.old }
+    {
+        match plan {
+            Plan::Plain => {}
+            Plan::Welcome(nick) => {
+                if done {
+                    self.nick = nick;
+                    self.channels.clear();
+                }
+            }
+            Plan::Title { channel, topic } => {
+                if done {
+                    self.channels.set_topic(channel.as_bytes(), topic);
+                }
+            }
+            Plan::Address {
+                channel,
+                nick,
+                user,
+                host,
+            } => {
+                if done {
+                    self.channels
+                        .place_at(channel.as_bytes(), nick.as_bytes(), user, host);
+                }
+            }
+            Plan::Open(opening) => self.channels = opening.into_channels(done),
+            Plan::Seat { own, takes } => {
+                self.channels.give(takes, done);
+                if done {
+                    self.rename_own(own);
+                }
+            }
+        }
+    }
+
+    // The bot has this nick, if there is one.
+    fn rename_own(&mut self, own: Option<Text>)
+        ensures nick { self.new.nick ≡ unwrap_or own self.old.nick }
+        ensures channels { self.new.channels ≡ self.old.channels }
+    {
+        if let Some(nick) = own {
+            self.nick = nick;
+        }
+    }
+}

@@ -1,0 +1,56 @@
+// What is to be done with the members of a channel, made before anything changes.
+ghost use Rattle.std.specs.Prelude.{◌≡◌, IfOk, length};
+ghost use Rattle.chanstate.specs.Tasks.{done_by, IsKeyed, places_for};
+ghost use Rattle.chanstate.specs.Members.{arrived, unmarked, renamed};
+
+use crate::member::Member;
+use bytetext::{NoMemory, Text};
+use ircline::Person;
+use rfccase::fold_text;
+use std::alloc::Global;
+
+/// What is to be done with the members of a channel.
+#[derive(Drop)]
+pub enum Task {
+    // Someone comes.
+    Arrive { key: Vec<u8>, one: Member },
+    // The member of the old nick, if there is one, has the other.
+    Rename { old: Text, key: Vec<u8>, nick: Text },
+    // Several are listed, in their order.
+    List(Vec<(Vec<u8>, Member)>),
+}
+
+impl Task {
+    // A person comes.
+    pub(crate) fn arrive(alloc: Global, person: Person<'_>) -> Result<Task, NoMemory>
+        ensures keyed { IfOk result (λ task. IsKeyed task) }
+        ensures done { IfOk result (λ task. done_by task ≡ arrived (unmarked person.entry.nick.now person.entry.user.now person.entry.host.now)) }
+    {
+        let key = fold_text(alloc, person.nick)?;
+        let one = Member::new(alloc, person.nick, person.user, person.host)?;
+        Ok(Task::Arrive { key, one })
+    }
+
+    // The member of the old nick has the new one.
+    pub(crate) fn rename(alloc: Global, old: &[u8], new: &[u8]) -> Result<Task, NoMemory>
+        ensures keyed { IfOk result (λ task. IsKeyed task) }
+        ensures done { IfOk result (λ task. done_by task ≡ renamed old.now new.now) }
+    {
+        let key = fold_text(alloc, new)?;
+        Ok(Task::Rename {
+            old: Text::from_slice(alloc, old)?,
+            key,
+            nick: Text::from_slice(alloc, new)?,
+        })
+    }
+
+    // How many places it may fill.
+    pub(crate) fn places(&self) -> usize
+        ensures { result ≡ places_for self.now }
+    {
+        match self {
+            Task::Arrive { .. } | Task::Rename { .. } => 1,
+            Task::List(ones) => ones.len(),
+        }
+    }
+}

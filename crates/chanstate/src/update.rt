@@ -1,0 +1,133 @@
+// A message that is about to be taken in.
+ghost use Rattle.std.specs.Prelude.{◌≡◌, true, IfOk, OnErr};
+ghost use Rattle.std.specs.Borrow.{sem};
+ghost use Rattle.chanstate.specs.Items.{items_of};
+ghost use Rattle.chanstate.specs.Steps.{after};
+ghost use Rattle.chanstate.specs.Memory.{takes_memory};
+ghost use Rattle.chanstate.specs.Plans.{IsReady, Suits};
+ghost use Rattle.chanstate.specs.Updates.{rests_if_refused};
+
+use crate::channels::Channels;
+use crate::plan::Plan;
+use crate::state::ChanState;
+use bytetext::{NoMemory, Text};
+use ircline::Message;
+use std::alloc::Global;
+use std::marker::Model;
+use std::mem;
+
+/// What was made of a message, with the state that it is for. Contracts see that state, and the state after the message
+/// where it takes memory.
+#[derive(Drop)]
+pub struct Made {
+    state: ChanState,
+    plan: Plan,
+    alloc: Global,
+}
+
+impl Model for Made {
+    ghost use Rattle.std.specs.Prelude.{false, Option};
+    ghost use Rattle.chanstate.specs.declared.state.ChanState.{ChanState};
+    ghost use Rattle.chanstate.specs.Plans.{after_plan, settled};
+
+    ghost Value = { ChanState × Option ChanState };
+
+    ghost view = { λ m. (settled false m.plan m.state, after_plan m.plan m.state) };
+}
+
+impl Made {
+    // The state as it is.
+    fn undone(self) -> ChanState
+        ensures { result ≡ self.0 }
+    {
+        let Made {
+            mut state,
+            plan,
+            ..
+        } = self;
+        state.settle(plan, false);
+        state
+    }
+
+    // The state after the message.
+    fn done(self, message: &Message) -> ChanState
+        requires { Suits (items_of message.now) self.0 self.1 }
+        ensures { result ≡ after message.now self.0 }
+    {
+        let Made {
+            mut state,
+            plan,
+            alloc,
+        } = self;
+        let plain = plan.is_plain();
+        state.settle(plan, true);
+        if plain {
+            state.take_in(alloc, message);
+        }
+        state
+    }
+}
+
+/// A state that is about to take a message in: all room for it is there. Until [`commit`](Update::commit) or
+/// [`cancel`](Update::cancel), one of which has to come, the state is lent to this.
+pub struct Update<'a, M> {
+    state: &'a mut ChanState,
+    made: M,
+}
+
+impl ChanState {
+    /// Makes all room that a message needs, before anything that is seen changes.
+    ///
+    /// # Errors
+    /// `NoMemory` where room is refused, for the messages that [`apply`](ChanState::apply) names; the state is then as before.
+    pub fn ready(&mut self, alloc: Global, message: &Message) -> Result<Update<'_, Made>, NoMemory>
+        ensures* unchanged_at_err { sem 𝓛 (rests_if_refused self.entry result) }
+        ensures same_reference { IfOk result (λ update. update.state.ghost_name ≡ self.entry.ghost_name) }
+        ensures ready { IfOk result (λ update. IsReady message.now self.old update.made) }
+        ensures memory { OnErr result (takes_memory message.now self.old ≡ true) }
+    {
+        let made = make(self, alloc, message)?;
+        Ok(Update { state: self, made })
+    }
+
+    // Makes this the state.
+    fn put(&mut self, state: ChanState)
+        ensures { self.new ≡ state }
+    {
+        *self = state;
+    }
+}
+
+impl Update<'_, Made> {
+    /// Takes the message in that was made ready. Takes no memory.
+    pub fn commit(self, message: &Message)
+        requires { Suits (items_of message.now) self.made.0 self.made.1 }
+        ensures { self.exit.0.now ≡ after message.now self.entry.made.0 }
+    {
+        let Update { state, made } = self;
+        state.put(made.done(message));
+    }
+
+    /// Gives the message up: the state is as before it was made ready. Takes no memory.
+    pub fn cancel(self)
+        ensures { self.exit.0.now ≡ self.entry.made.0 }
+    {
+        let Update { state, made } = self;
+        state.put(made.undone());
+    }
+}
+
+// What is made of a message. The state is then without what it held.
+fn make(state: &mut ChanState, alloc: Global, message: &Message) -> Result<Made, NoMemory>
+    ensures ready { IfOk result (λ made. IsReady message.now state.old made) }
+    ensures memory { OnErr result (takes_memory message.now state.old ≡ true) }
+    ensures err { OnErr result (state.new ≡ state.old) }
+{
+    let plan = state.plan(alloc, message)?;
+    let empty = ChanState {
+        nick: Text::empty(alloc),
+        channels: Channels::new(alloc),
+    };
+    let state = mem::replace(state, empty);
+    Ok(Made { state, plan, alloc })
+}
