@@ -1,6 +1,6 @@
 -- Of binds that are apart, each call speaks of one at most.
 use Rattle.std.proofs.Common.{◌≡◌, ℕ, ◌==◌, Bool, true, false, cond, ◌||◌, ◌&&◌, List, [], ◌∷◌, map, not, if◌then◌else◌, refl, sym, ap, ◌∙◌}
-use Rattle.std.proofs.lemmas.Bool.{eqb-true, eq-eqb}
+use Rattle.std.proofs.lemmas.Bool.{eqb-true, eq-eqb, and_parts, or_left, or_parts}
 use Rattle.std.specs.List.{list_any}
 use Rattle.std.specs.Str.{bytes_eq}
 use Rattle.std.specs.Cmp.Lexicographic.{bytes_decides}
@@ -15,19 +15,11 @@ use Rattle.bindtable.specs.Index.{of_kind}
 use Rattle.bindtable.specs.Sound.{AreApart, is_rival}
 use Rattle.bindtable.proofs.OnceLemmas.{AtMostOnce, list_any-kept}
 
-pub both : (a b : Bool) → (a && b) ≡ true → (a ≡ true) × (b ≡ true)
-both true b e = (refl, e)
-both false b e = absurd cc
-
-pub or_false : (a b : Bool) → (a || b) ≡ false → (a ≡ false) × (b ≡ false)
-or_false true b e = absurd cc
-or_false false b e = (refl, e)
-
 none_rivals : (t : Bind → Bool) → ((a b : Bind) → t a ≡ true → t b ≡ true → is_rival a b ≡ true) → (a : Bind) → t a ≡ true → (binds : List Bind)
     → list_any (is_rival a) binds ≡ false → list_any t binds ≡ false
 none_rivals t rivals a passes [] e = refl
 none_rivals t rivals a passes (x ∷ xs) e =
-    let parts = or_false (is_rival a x) (list_any (is_rival a) xs) e in
+    let parts = or_parts (is_rival a x) (list_any (is_rival a) xs) e in
     by (t x) (λ also. rivals a x passes also) parts.0 (none_rivals t rivals a passes xs parts.1)
   where
     by : (b : Bool) → (b ≡ true → is_rival a x ≡ true) → is_rival a x ≡ false → list_any t xs ≡ false → (b || list_any t xs) ≡ false
@@ -88,20 +80,16 @@ right_or : (c d : Bool) → d ≡ true → (c || d) ≡ true
 right_or true d e = refl
 right_or false d e = e
 
-pub left_or : (c d : Bool) → c ≡ true → (c || d) ≡ true
-left_or true d e = refl
-left_or false d e = absurd cc
-
 -- no two are of one kind, mask and proc
 pub once-such : (kind : Kind) (mask proc : List ℕ) (binds : List Bind) → AreApart binds → AtMostOnce (is_such kind mask proc) binds
 once-such kind mask proc = once-apart (is_such kind mask proc) rivals
   where
     rivals : (a b : Bind) → is_such kind mask proc a ≡ true → is_such kind mask proc b ≡ true → is_rival a b ≡ true
     rivals a b p q =
-        let a1 = both (is_kind kind a.kind) (is_same mask a.mask && bytes_eq a.proc proc) p in
-        let a2 = both (is_same mask a.mask) (bytes_eq a.proc proc) a1.1 in
-        let b1 = both (is_kind kind b.kind) (is_same mask b.mask && bytes_eq b.proc proc) q in
-        let b2 = both (is_same mask b.mask) (bytes_eq b.proc proc) b1.1 in
+        let a1 = and_parts (is_kind kind a.kind) (is_same mask a.mask && bytes_eq a.proc proc) p in
+        let a2 = and_parts (is_same mask a.mask) (bytes_eq a.proc proc) a1.1 in
+        let b1 = and_parts (is_kind kind b.kind) (is_same mask b.mask && bytes_eq b.proc proc) q in
+        let b2 = and_parts (is_same mask b.mask) (bytes_eq b.proc proc) b1.1 in
         let kinds : a.kind ≡ b.kind = sym (same_kind kind a.kind a1.0) ∙ same_kind kind b.kind b1.0 in
         joined (is_kind a.kind b.kind) (is_same a.mask b.mask) (is_single a.kind) (bytes_eq a.proc b.proc)
         (ap (λ k. is_kind k b.kind) kinds ∙ is_kind-refl b.kind) (same_texts a.mask b.mask mask a2.0 b2.0)
@@ -113,24 +101,24 @@ once-replaced kind mask = once-apart (is_replaced kind mask) rivals
   where
     rivals : (a b : Bind) → is_replaced kind mask a ≡ true → is_replaced kind mask b ≡ true → is_rival a b ≡ true
     rivals a b p q =
-        let a1 = both (is_single kind) (is_kind kind a.kind && is_same mask a.mask) p in
-        let a2 = both (is_kind kind a.kind) (is_same mask a.mask) a1.1 in
-        let b1 = both (is_single kind) (is_kind kind b.kind && is_same mask b.mask) q in
-        let b2 = both (is_kind kind b.kind) (is_same mask b.mask) b1.1 in
+        let a1 = and_parts (is_single kind) (is_kind kind a.kind && is_same mask a.mask) p in
+        let a2 = and_parts (is_kind kind a.kind) (is_same mask a.mask) a1.1 in
+        let b1 = and_parts (is_single kind) (is_kind kind b.kind && is_same mask b.mask) q in
+        let b2 = and_parts (is_kind kind b.kind) (is_same mask b.mask) b1.1 in
         let kinds : a.kind ≡ b.kind = sym (same_kind kind a.kind a2.0) ∙ same_kind kind b.kind b2.0 in
         joined (is_kind a.kind b.kind) (is_same a.mask b.mask) (is_single a.kind) (bytes_eq a.proc b.proc)
         (ap (λ k. is_kind k b.kind) kinds ∙ is_kind-refl b.kind) (same_texts a.mask b.mask mask a2.1 b2.1)
-        (left_or (is_single a.kind) (bytes_eq a.proc b.proc) (ap is_single (sym (same_kind kind a.kind a2.0)) ∙ a1.0))
+        (or_left (is_single a.kind) (bytes_eq a.proc b.proc) (ap is_single (sym (same_kind kind a.kind a2.0)) ∙ a1.0))
 
 -- what is replaced is of the kind
 pub replaced-kind : (kind : Kind) (mask : List ℕ) (b : Bind) → is_replaced kind mask b ≡ true → is_kind kind b.kind ≡ true
 replaced-kind kind mask b e =
-    let rest = both (is_single kind) (is_kind kind b.kind && is_same mask b.mask) e in
-    (both (is_kind kind b.kind) (is_same mask b.mask) rest.1).0
+    let rest = and_parts (is_single kind) (is_kind kind b.kind && is_same mask b.mask) e in
+    (and_parts (is_kind kind b.kind) (is_same mask b.mask) rest.1).0
 
 -- what is such is of the kind
 pub such-kind : (kind : Kind) (mask proc : List ℕ) (b : Bind) → is_such kind mask proc b ≡ true → is_kind kind b.kind ≡ true
-such-kind kind mask proc b e = (both (is_kind kind b.kind) (is_same mask b.mask && bytes_eq b.proc proc) e).0
+such-kind kind mask proc b e = (and_parts (is_kind kind b.kind) (is_same mask b.mask && bytes_eq b.proc proc) e).0
 
 -- what is left of a single kind has another keyword
 pub no_word-left : (kind : Kind) (mask : List ℕ) (binds : List Bind) → is_single kind ≡ true

@@ -9,11 +9,11 @@ use Rattle.std.proofs.Common.{◌⊎◌, Less, Equal, Greater}
 use Rattle.std.specs.Ordering.{MatchOrdering, ordering_index}
 use Rattle.std.specs.Cmp.{ranks}
 use borrow.Author.Tests.{tests}
-use Rattle.std.proofs.lemmas.Bool.{eqb-true, eq-eqb, ne_eqb, cases_lt}
+use Rattle.std.proofs.lemmas.Bool.{eqb-true, eq-eqb, ne_eqb, cases_lt, and_parts}
 use Rattle.std.proofs.lemmas.List.Folds.{list_any_none}
 use Rattle.std.specs.List.{cons_option}
 use Rattle.std.specs.List.Sorted.{IsNonDecreasingBy, IsPartitionPoint}
-use Rattle.wildmask.specs.Signatures.{text_signature, is_within}
+use Rattle.wildmask.specs.Signatures.{Pairs, text_signature, is_within}
 use Rattle.bindtable.specs.declared.bind.Bind.{Bind}
 use Rattle.bindtable.specs.declared.index.Entry.{Entry}
 use Rattle.bindtable.specs.Kinds.{is_kind}
@@ -22,21 +22,20 @@ use Rattle.bindtable.specs.Masks.{needs_of, entry_of}
 use Rattle.bindtable.specs.Sound.{AreRising}
 use Rattle.bindtable.specs.Behind.{AreKnown, HaveRisen, Tells, behind, bind_of}
 use Rattle.bindtable.proofs.OnceLemmas.{AtMostOnce, find-once, find-none}
-use Rattle.bindtable.proofs.ApartLemmas.{both}
 use Rattle.bindtable.proofs.MaskLemmas.{takes_text-needs}
 
 -- ---- one entry
 
 -- a bind that needs what the subject lacks isn't called
-pub not_needed : (event : Occurrence) (needs pairs : ℕ) (o : Option Bind) → Tells needs o → pairs ≡ text_signature event.subject → is_within needs pairs ≡ false
+pub not_needed : (event : Occurrence) (needs pairs : Pairs) (o : Option Bind) → Tells needs o → pairs ≡ text_signature event.subject → is_within needs pairs ≡ false
     → None ≡ slice_get (called event (cons_option o [])) 0
 not_needed event needs pairs None told is_pairs lacks = refl
 not_needed event needs pairs (Some b) told is_pairs lacks = sym (ap (λ c. slice_get (cond c (b ∷ []) []) 0) (by (is_called event b) refl))
   where
     by : (c : Bool) → is_called event b ≡ c → c ≡ false
     by true e =
-        let rest = both (is_kind event.kind b.kind) (takes_text b event.subject && takes_person b event) e in
-        let text = both (takes_text b event.subject) (takes_person b event) rest.1 in
+        let rest = and_parts (is_kind event.kind b.kind) (takes_text b event.subject && takes_person b event) e in
+        let text = and_parts (takes_text b event.subject) (takes_person b event) rest.1 in
         let has : is_within needs pairs ≡ true = ap (λ n. is_within n pairs) told ∙ ap (is_within (needs_of b)) is_pairs
         ∙ takes_text-needs b event.subject text.0 in
         absurd cc

@@ -1,5 +1,6 @@
 -- The entries that an index gives for an event are those of all binds that the event calls.
 use Rattle.std.proofs.Common.{◌≡◌, ℕ, zero, suc, ◌<◌, ◌≤◌, ◌==◌, Bool, true, false, not, cond, ◌&&◌, ◌||◌, if◌then◌else◌, List, [], ◌∷◌}
+use Rattle.std.proofs.lemmas.Bool.{and_parts, or_parts}
 use Rattle.std.proofs.Common.{length, map, take, drop, filter, get_or, Option, Some, None, refl, sym, ap, subst, ◌∙◌, arith}
 use Rattle.std.proofs.Common.{nat_lt, is_none, ◌↔◌}
 use Rattle.std.proofs.lemmas.List.{length-map}
@@ -30,7 +31,7 @@ use Rattle.bindtable.specs.Sound.{AreApart, is_good}
 use Rattle.bindtable.specs.Behind.{AreKnown, HaveRisen, behind}
 use Rattle.bindtable.proofs.WordLemmas.{Key, texts_of}
 use Rattle.bindtable.proofs.OnceLemmas.{AtMostOnce, fails_before, list_any-at, none-position}
-use Rattle.bindtable.proofs.ApartLemmas.{any_bind, both, or_false, same_kind, is_kind-refl, swapped_texts, once-replaced}
+use Rattle.bindtable.proofs.ApartLemmas.{any_bind, same_kind, is_kind-refl, swapped_texts, once-replaced}
 use Rattle.bindtable.proofs.SoundLemmas.{apart-filter}
 use Rattle.bindtable.proofs.IndexLemmas.{filter-kept}
 use Rattle.bindtable.proofs.BehindLemmas.{AreFound, found-all, found-filter, found-take, found-drop, behind-entries, known-entries}
@@ -51,7 +52,7 @@ map-part f (x ∷ xs) (suc i) = map-part f xs i
 filter-nothing : {X : Type 0} (p u : X → Bool) → ((x : X) → p x ≡ true → u x ≡ true) → (xs : List X) → list_any u xs ≡ false → filter p xs ≡ []
 filter-nothing p u within [] none = refl
 filter-nothing p u within (x ∷ xs) none =
-    let parts = or_false (u x) (list_any u xs) none in
+    let parts = or_parts (u x) (list_any u xs) none in
     by (p x) (within x) parts.0 ∙ filter-nothing p u within xs parts.1
   where
     by : (c : Bool) → (c ≡ true → u x ≡ true) → u x ≡ false → cond c (x ∷ filter p xs) (filter p xs) ≡ filter p xs
@@ -101,13 +102,13 @@ long-word word (k ∷ keys) long short = ap (λ c. c || list_any (λ key. bytes_
     by false e = refl
 
 good-short : (b : Bind) → is_good b ≡ true → length (key_of b) ≤ MAX_MASK
-good-short b good = by (is_bad_mask b.kind b.mask) refl (both (is_none (expression_fault b.flags)) (not (is_bad_mask b.kind b.mask)) good).1
+good-short b good = by (is_bad_mask b.kind b.mask) refl (and_parts (is_none (expression_fault b.flags)) (not (is_bad_mask b.kind b.mask)) good).1
   where
     by : (c : Bool) → is_bad_mask b.kind b.mask ≡ c → not c ≡ true → length (key_of b) ≤ MAX_MASK
     by true e fails = absurd cc
     by false e fails =
-        let first = or_false (length b.mask == 0 || nat_lt MAX_MASK (length b.mask)) (is_single b.kind && list_any (λ byte. byte == 32) b.mask) e in
-        let short : nat_lt MAX_MASK (length b.mask) ≡ false = (or_false (length b.mask == 0) (nat_lt MAX_MASK (length b.mask)) first.0).1 in
+        let first = or_parts (length b.mask == 0 || nat_lt MAX_MASK (length b.mask)) (is_single b.kind && list_any (λ byte. byte == 32) b.mask) e in
+        let short : nat_lt MAX_MASK (length b.mask) ≡ false = (or_parts (length b.mask == 0) (nat_lt MAX_MASK (length b.mask)) first.0).1 in
         let len : length (folded b.mask) ≡ length b.mask = length-folded b.mask in
         let most : length b.mask ≤ MAX_MASK = grind (arith, nat_tests) in
         omega arith
@@ -115,7 +116,7 @@ good-short b good = by (is_bad_mask b.kind b.mask) refl (both (is_none (expressi
 short-keys : (p : Bind → Bool) (binds : List Bind) → list_all is_good binds ≡ true → AreShort (map key_of (filter p binds))
 short-keys p [] good = tt
 short-keys p (b ∷ binds) good =
-    let parts = both (is_good b) (list_all is_good binds) good in
+    let parts = and_parts (is_good b) (list_all is_good binds) good in
     by (p b) (good-short b parts.0) (short-keys p binds parts.1)
   where
     by : (c : Bool) → length (key_of b) ≤ MAX_MASK → AreShort (map key_of (filter p binds))
@@ -140,8 +141,8 @@ are_words kind binds index is good single =
 -- a bind of a single kind that is called is the one of the keyword
 called-word : (event : Occurrence) → is_single event.kind ≡ true → (b : Bind) → is_called event b ≡ true → is_replaced event.kind event.subject b ≡ true
 called-word event single b e =
-    let first = both (is_kind event.kind b.kind) (takes_text b event.subject && takes_person b event) e in
-    let text = (both (takes_text b event.subject) (takes_person b event) first.1).0 in
+    let first = and_parts (is_kind event.kind b.kind) (takes_text b event.subject && takes_person b event) e in
+    let text = (and_parts (takes_text b event.subject) (takes_person b event) first.1).0 in
     let kind : event.kind ≡ b.kind = same_kind event.kind b.kind first.0 in
     let same : is_same b.mask event.subject ≡ true = ap (λ s. if s then is_same b.mask event.subject else is_match (bind_mask b.mask)
     event.subject) (sym (ap is_single (sym kind) ∙ single)) ∙ text in
@@ -152,7 +153,7 @@ none-word : (kind : Kind) (word : List ℕ) (binds : List Bind) → list_any (by
     → list_any (is_replaced kind word) binds ≡ false
 none-word kind word [] none = refl
 none-word kind word (b ∷ binds) none =
-    let parts = or_false (bytes_eq (folded word) (key_of b)) (list_any (bytes_eq (folded word)) (map key_of binds)) none in
+    let parts = or_parts (bytes_eq (folded word) (key_of b)) (list_any (bytes_eq (folded word)) (map key_of binds)) none in
     by (is_single kind) (is_kind kind b.kind) (is_same word b.mask) parts.0 (none-word kind word binds parts.1)
   where
     by : (s k m : Bool) → m ≡ false → list_any (is_replaced kind word) binds ≡ false → ((s && (k && m)) || list_any (is_replaced kind word) binds) ≡ false
@@ -164,7 +165,7 @@ none-word kind word (b ∷ binds) none =
 called-of_kind : (event : Occurrence) (binds : List Bind) → called event (of_kind event.kind binds) ≡ called event binds
 called-of_kind event binds =
     filter-kept (is_called event) (λ b. is_kind event.kind b.kind)
-    (λ b e. (both (is_kind event.kind b.kind) (takes_text b event.subject && takes_person b event) e).0) binds
+    (λ b e. (and_parts (is_kind event.kind b.kind) (takes_text b event.subject && takes_person b event) e).0) binds
 
 -- the entries of some of the binds that are held
 from_some : (event : Occurrence) (held xs : List Bind) (some : List Entry) → AreFound held xs → some ≡ map entry_of xs → called event xs ≡ called event held
@@ -248,8 +249,8 @@ called-means event b = (told, tested)
 
     told : is_called event b ≡ true → Calls event b
     told e =
-        let first = both (is_kind event.kind b.kind) (takes_text b event.subject && takes_person b event) e in
-        let second = both (takes_text b event.subject) (takes_person b event) first.1 in
+        let first = and_parts (is_kind event.kind b.kind) (takes_text b event.subject && takes_person b event) e in
+        let second = and_parts (takes_text b event.subject) (takes_person b event) first.1 in
         record {
           kind = same_kind event.kind b.kind first.0;
           mask = (text (is_single b.kind)).0 second.0;

@@ -1,5 +1,6 @@
 -- An element that a test finds, and that no other element shares the test with: taken away, changed, or found.
 use Rattle.std.proofs.Common.{◌≡◌, ℕ, zero, suc, ◌<◌, Bool, true, false, not, cond, ◌||◌, List, [], ◌∷◌, length, map, filter, find, get_or}
+use Rattle.std.proofs.lemmas.Bool.{or_parts}
 use Rattle.std.proofs.Common.{set, Option, Some, None, refl, sym, ap, ◌∙◌, arith}
 use Rattle.std.proofs.Common.{◌≤◌, ltb}
 use Rattle.std.specs.List.{list_any, remove, position, position_or_len}
@@ -14,22 +15,18 @@ abbrev pub AtMostOnce : {X : Type 0} → (X → Bool) → List X → Type 0
 AtMostOnce t [] = Unit {0}
 AtMostOnce t (x ∷ xs) = (t x ≡ true → list_any t xs ≡ false) × AtMostOnce t xs
 
-or_false : (a b : Bool) → (a || b) ≡ false → (a ≡ false) × (b ≡ false)
-or_false true b e = cc
-or_false false b e = (refl, e)
-
 -- where none passes, none goes
 pub filter-none : {X : Type 0} (t : X → Bool) (xs : List X) → list_any t xs ≡ false → filter (λ x. not (t x)) xs ≡ xs
 filter-none t [] none = refl
 filter-none t (x ∷ xs) none =
-    let parts = or_false (t x) (list_any t xs) none in
+    let parts = or_parts (t x) (list_any t xs) none in
     ap (λ b. cond (not b) (x ∷ filter (λ y. not (t y)) xs) (filter (λ y. not (t y)) xs)) parts.0 ∙ ap (λ ys. x ∷ ys) (filter-none t xs parts.1)
 
 -- where none passes, none is changed
 pub map-none : {X : Type 0} (t : X → Bool) (f : X → X) (xs : List X) → list_any t xs ≡ false → map (λ x. cond (t x) (f x) x) xs ≡ xs
 map-none t f [] none = refl
 map-none t f (x ∷ xs) none =
-    let parts = or_false (t x) (list_any t xs) none in
+    let parts = or_parts (t x) (list_any t xs) none in
     ap (λ b. cond b (f x) x ∷ map (λ y. cond (t y) (f y) y) xs) parts.0 ∙ ap (λ ys. x ∷ ys) (map-none t f xs parts.1)
 
 pub list_any-at : {X : Type 0} (t : X → Bool) (xs : List X) (i : ℕ) (d : X) → i < length xs → t (get_or xs i d) ≡ true → list_any t xs ≡ true
@@ -83,7 +80,7 @@ find-once t (x ∷ xs) (suc i) d once within passes =
 pub find-none : {X : Type 0} (t : X → Bool) (xs : List X) → list_any t xs ≡ false → find t xs ≡ None
 find-none t [] none = refl
 find-none t (x ∷ xs) none =
-    let parts = or_false (t x) (list_any t xs) none in
+    let parts = or_parts (t x) (list_any t xs) none in
     ap (λ b. cond b (Some x) (find t xs)) parts.0 ∙ find-none t xs parts.1
 
 cond_none : {X : Type 0} (b : Bool) (x : X) → cond b (Some x) None ≡ None → b ≡ false

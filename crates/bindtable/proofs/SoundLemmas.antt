@@ -1,5 +1,6 @@
 -- What holds of every table holds of the one that a call leaves.
 use Rattle.std.proofs.Common.{◌≡◌, ℕ, ◌+◌, ◌<◌, ◌≤◌, Bool, true, false, not, cond, if◌then◌else◌, ◌&&◌, ◌||◌, List, [], ◌∷◌, ◌++◌, length}
+use Rattle.std.proofs.lemmas.Bool.{and_parts, or_left, or_parts}
 use Rattle.std.proofs.Common.{map, filter, refl, sym, ap, ◌∙◌, arith}
 use Rattle.std.proofs.Common.{is_none, subst, length-append}
 use Rattle.std.proofs.lemmas.List.{length-map}
@@ -21,7 +22,7 @@ use Rattle.bindtable.specs.Sound.{IsSound, AreRising, AreApart, is_rival, is_goo
 use Rattle.std.proofs.Common.{zero, suc, take, get_or}
 use Rattle.std.proofs.Math.Seq.{take-suc}
 use Rattle.bindtable.proofs.OnceLemmas.{filter-none, list_any-at}
-use Rattle.bindtable.proofs.ApartLemmas.{both, or_false, same_kind, is_kind-refl, swapped_texts, left_or}
+use Rattle.bindtable.proofs.ApartLemmas.{same_kind, is_kind-refl, swapped_texts}
 
 -- ---- numbers
 
@@ -55,7 +56,7 @@ rising-map f same low (b ∷ binds) last up =
 none-filter : (t p : Bind → Bool) (binds : List Bind) → list_any t binds ≡ false → list_any t (filter p binds) ≡ false
 none-filter t p [] none = refl
 none-filter t p (b ∷ binds) none =
-    let parts = or_false (t b) (list_any t binds) none in
+    let parts = or_parts (t b) (list_any t binds) none in
     by (p b) parts.0 (none-filter t p binds parts.1)
   where
     by : (c : Bool) → t b ≡ false → list_any t (filter p binds) ≡ false → list_any t (cond c (b ∷ filter p binds) (filter p binds)) ≡ false
@@ -73,13 +74,13 @@ apart-filter p (b ∷ binds) apart = by (p b) (none-filter (is_rival b) p binds 
 none-append : (t : Bind → Bool) (binds : List Bind) (b : Bind) → list_any t binds ≡ false → t b ≡ false → list_any t (binds ++ b ∷ []) ≡ false
 none-append t [] b none fails = ap (λ x. x || false) fails
 none-append t (x ∷ binds) b none fails =
-    let parts = or_false (t x) (list_any t binds) none in
+    let parts = or_parts (t x) (list_any t binds) none in
     ap (λ y. y || list_any t (binds ++ b ∷ [])) parts.0 ∙ none-append t binds b parts.1 fails
 
 pub apart-append : (binds : List Bind) (one : Bind) → AreApart binds → list_any (λ b. is_rival b one) binds ≡ false → AreApart (binds ++ one ∷ [])
 apart-append [] one apart none = (refl, tt)
 apart-append (b ∷ binds) one apart none =
-    let parts = or_false (is_rival b one) (list_any (λ x. is_rival x one) binds) none in
+    let parts = or_parts (is_rival b one) (list_any (λ x. is_rival x one) binds) none in
     (none-append (is_rival b) binds one apart.0 parts.0, apart-append binds one apart.1 parts.1)
 
 pub apart-map : (f : Bind → Bind) → ((a b : Bind) → is_rival (f a) (f b) ≡ is_rival a b) → (binds : List Bind) → AreApart binds → AreApart (map f binds)
@@ -116,8 +117,8 @@ no_rival one b other stays = by (is_rival b one) refl
 
     by : (r : Bool) → is_rival b one ≡ r → r ≡ false
     by true e =
-        let first = both (is_kind b.kind one.kind) (is_same b.mask one.mask && (is_single b.kind || bytes_eq b.proc one.proc)) e in
-        let second = both (is_same b.mask one.mask) (is_single b.kind || bytes_eq b.proc one.proc) first.1 in
+        let first = and_parts (is_kind b.kind one.kind) (is_same b.mask one.mask && (is_single b.kind || bytes_eq b.proc one.proc)) e in
+        let second = and_parts (is_same b.mask one.mask) (is_single b.kind || bytes_eq b.proc one.proc) first.1 in
         absurd (rival e (is_single b.kind) refl second.1 first.0 second.0)
     by false e = refl
 
@@ -125,7 +126,7 @@ none-rival : (one : Bind) (binds : List Bind) → list_any (is_such one.kind one
     → list_any (λ b. is_rival b one) (without_replaced one.kind one.mask binds) ≡ false
 none-rival one [] none = refl
 none-rival one (b ∷ binds) none =
-    let parts = or_false (is_such one.kind one.mask one.proc b) (list_any (is_such one.kind one.mask one.proc) binds) none in
+    let parts = or_parts (is_such one.kind one.mask one.proc b) (list_any (is_such one.kind one.mask one.proc) binds) none in
     by (is_replaced one.kind one.mask b) (λ stays. no_rival one b parts.0 stays) (none-rival one binds parts.1)
   where
     by : (c : Bool) → (c ≡ false → is_rival b one ≡ false) → list_any (λ x. is_rival x one) (without_replaced one.kind one.mask binds) ≡ false
@@ -144,7 +145,7 @@ apart-new one binds apart none =
 pub good-filter : (p : Bind → Bool) (binds : List Bind) → list_all is_good binds ≡ true → list_all is_good (filter p binds) ≡ true
 good-filter p [] good = refl
 good-filter p (b ∷ binds) good =
-    let parts = both (is_good b) (list_all is_good binds) good in
+    let parts = and_parts (is_good b) (list_all is_good binds) good in
     by (p b) parts.0 (good-filter p binds parts.1)
   where
     by : (c : Bool) → is_good b ≡ true → list_all is_good (filter p binds) ≡ true → list_all is_good (cond c (b ∷ filter p binds) (filter p binds)) ≡ true
@@ -159,7 +160,7 @@ pub good-map : (f : Bind → Bind) → ((b : Bind) → is_good b ≡ true → is
     → list_all is_good (map f binds) ≡ true
 good-map f keeps [] good = refl
 good-map f keeps (b ∷ binds) good =
-    let parts = both (is_good b) (list_all is_good binds) good in
+    let parts = and_parts (is_good b) (list_all is_good binds) good in
     ap (λ x. x && list_all is_good (map f binds)) (keeps b parts.0) ∙ good-map f keeps binds parts.1
 
 -- ---- few
@@ -229,7 +230,7 @@ module _ (asked : Asked) where
       by : (c : Bool) → is_good b ≡ true → is_good (if c then record b { flags = asked.flags } else b) ≡ true
       by true good =
           ap (λ x. x && not (is_bad_mask b.kind b.mask)) parses
-          ∙ (both (is_none (expression_fault b.flags)) (not (is_bad_mask b.kind b.mask)) good).1
+          ∙ (and_parts (is_none (expression_fault b.flags)) (not (is_bad_mask b.kind b.mask)) good).1
       by false good = good
 
   pub sound-flags : (binds new : List Bind) (last : ℕ) → is_none (expression_fault asked.flags) ≡ true → IsSound (record { binds = binds; last = last })
@@ -289,7 +290,7 @@ apart-take (suc n) (b ∷ binds) apart = (none-take (is_rival b) n binds apart.0
     none-take t zero xs none = refl
     none-take t (suc n) [] none = refl
     none-take t (suc n) (x ∷ xs) none =
-        let parts = or_false (t x) (list_any t xs) none in
+        let parts = or_parts (t x) (list_any t xs) none in
         ap (λ c. c || list_any t (take n xs)) parts.0 ∙ none-take t n xs parts.1
 
 -- a bind replaces none of those before it
@@ -303,12 +304,12 @@ stays_before (suc n) (b ∷ binds) one apart within is =
   where
     by : (c : Bool) → is_replaced one.kind one.mask b ≡ c → c ≡ false
     by true e =
-        let first = both (is_single one.kind) (is_kind one.kind b.kind && is_same one.mask b.mask) e in
-        let second = both (is_kind one.kind b.kind) (is_same one.mask b.mask) first.1 in
+        let first = and_parts (is_single one.kind) (is_kind one.kind b.kind && is_same one.mask b.mask) e in
+        let second = and_parts (is_kind one.kind b.kind) (is_same one.mask b.mask) first.1 in
         let same : one.kind ≡ b.kind = same_kind one.kind b.kind second.0 in
         let rival : is_rival b one ≡ true =
         λ i. (ap (is_kind b.kind) same ∙ is_kind-refl b.kind) i
-        && (swapped_texts one.mask b.mask second.1 i && left_or (is_single b.kind) (bytes_eq b.proc one.proc) (ap is_single (sym same) ∙ first.0) i) in
+        && (swapped_texts one.mask b.mask second.1 i && or_left (is_single b.kind) (bytes_eq b.proc one.proc) (ap is_single (sym same) ∙ first.0) i) in
         let some = list_any-at (is_rival b) binds n one (omega arith) (ap (is_rival b) (sym is) ∙ rival) in
         let none = apart.0 in
         absurd cc

@@ -1,5 +1,6 @@
 -- What the calls of a table answer, from what their parts do.
 use Rattle.std.proofs.Common.{◌≡◌, ℕ, ◌+◌, ◌<◌, ◌==◌, Bool, true, false, not, cond, if◌then◌else◌, ◌&&◌, ◌||◌, List, [], ◌∷◌, ◌++◌, length}
+use Rattle.std.proofs.lemmas.Bool.{or_parts}
 use Rattle.std.proofs.Common.{map, find, get_or, Option, Some, None, is_some, is_none, Result, Ok, Err, OnOk, OnErr, refl, sym, ap, subst}
 use Rattle.std.proofs.Common.{◌∙◌, arith}
 use Rattle.std.proofs.Common.{nat_le, nat_lt}
@@ -26,7 +27,7 @@ use Rattle.bindtable.specs.Tables.{Table, Asked, Binds, Unbinds, is_such, withou
 use Rattle.bindtable.specs.Tables.{count_left, is_bad_mask, is_full, later_refusal, refusal, bound, number_of, number_or}
 use Rattle.bindtable.specs.Wishes.{IsAt}
 use Rattle.bindtable.proofs.OnceLemmas.{filter-none, set-once, find-once, list_any-at}
-use Rattle.bindtable.proofs.ApartLemmas.{any_bind, or_false, once-such}
+use Rattle.bindtable.proofs.ApartLemmas.{any_bind, once-such}
 use Rattle.bindtable.proofs.SoundLemmas.{sound-new, sound-flags, indexed-flags}
 
 -- ---- unbind
@@ -57,8 +58,8 @@ unbinds-from old new kind mask proc o r is_r is_o is_new =
 
 pub good_mask : (kind : Kind) (mask : List ℕ) → is_bad_mask kind mask ≡ false → bind_fault mask ≡ None
 good_mask kind mask good =
-    let first = or_false (length mask == 0 || nat_lt MAX_MASK (length mask)) (is_single kind && list_any (λ byte. byte == 32) mask) good in
-    let parts = or_false (length mask == 0) (nat_lt MAX_MASK (length mask)) first.0 in
+    let first = or_parts (length mask == 0 || nat_lt MAX_MASK (length mask)) (is_single kind && list_any (λ byte. byte == 32) mask) good in
+    let parts = or_parts (length mask == 0) (nat_lt MAX_MASK (length mask)) first.0 in
     by (length mask == 0) (nat_lt 120 (length mask)) parts.0 parts.1
   where
     by : (a b : Bool) → a ≡ false → b ≡ false → (if a then Some MaskEmpty else (if b then Some MaskTooLong else None)) ≡ None
@@ -82,14 +83,14 @@ allowed table kind mask proc = by (is_bad_mask kind mask) (list_any (is_such kin
 -- a bind that is allowed leaves a number
 pub number_left : (table : Table) (kind : Kind) (mask : List ℕ) → is_full table kind mask ≡ false → table.last < MAX_NUMBER
 number_left table kind mask room =
-    let parts = or_false (nat_le MAX_NUMBER table.last) (nat_le MAX_BINDS (count_left kind mask table.binds)) room in
+    let parts = or_parts (nat_le MAX_NUMBER table.last) (nat_le MAX_BINDS (count_left kind mask table.binds)) room in
     let none : nat_le MAX_NUMBER table.last ≡ false = parts.0 in
     grind (arith, nat_tests)
 
 -- and room
 pub room_left : (table : Table) (kind : Kind) (mask : List ℕ) → is_full table kind mask ≡ false → count_left kind mask table.binds < MAX_BINDS
 room_left table kind mask room =
-    let parts = or_false (nat_le MAX_NUMBER table.last) (nat_le MAX_BINDS (count_left kind mask table.binds)) room in
+    let parts = or_parts (nat_le MAX_NUMBER table.last) (nat_le MAX_BINDS (count_left kind mask table.binds)) room in
     let none : nat_le MAX_BINDS (count_left kind mask table.binds) ≡ false = parts.1 in
     grind (arith, nat_tests)
 

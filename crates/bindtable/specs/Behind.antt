@@ -1,6 +1,7 @@
 -- The binds behind entries.
 use Rattle.std.specs.Prelude.{◌≡◌, ℕ, ◌==◌, List, [], ◌∷◌, find, Option, Some, None}
 use Rattle.std.specs.List.{cons_option}
+use Rattle.wildmask.specs.Signatures.{Pairs}
 use Rattle.bindtable.specs.declared.bind.Bind.{Bind}
 use Rattle.bindtable.specs.declared.index.Entry.{Entry}
 use Rattle.bindtable.specs.Masks.{needs_of}
@@ -16,7 +17,7 @@ behind binds [] = []
 behind binds (e ∷ entries) = cons_option (bind_of e.number binds) (behind binds entries)
 
 -- what an entry tells of its bind is so
-abbrev pub Tells : ℕ → Option Bind → Type 0
+abbrev pub Tells : Pairs → Option Bind → Type 0
 Tells needs (Some b) = needs ≡ needs_of b
 Tells needs None = Unit {0}
 

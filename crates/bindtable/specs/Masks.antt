@@ -2,7 +2,7 @@
 use Rattle.std.specs.Prelude.{ℕ, if◌then◌else◌, List, Option, Some, None}
 use Rattle.rfccase.specs.Casemapping.{folded}
 use Rattle.wildmask.specs.Masks.{GivenMask, bind_mask, mask_items}
-use Rattle.wildmask.specs.Signatures.{items_signature}
+use Rattle.wildmask.specs.Signatures.{Pairs, no_pairs, items_signature}
 use Rattle.procstore.specs.declared.kind.Kind.{Kind}
 use Rattle.bindtable.specs.declared.bind.Bind.{Bind}
 use Rattle.bindtable.specs.declared.index.Entry.{Entry}
@@ -16,8 +16,8 @@ abbrev pub mask_of : Bind → Option GivenMask
 mask_of b = mask_for b.kind b.mask
 
 -- the pairs of bytes that a subject needs to be matched; a keyword is found by itself
-abbrev pub needs_of : Bind → ℕ
-needs_of b = if is_single b.kind then 0 else items_signature (mask_items (bind_mask b.mask))
+abbrev pub needs_of : Bind → Pairs
+needs_of b = if is_single b.kind then no_pairs else items_signature (mask_items (bind_mask b.mask))
 
 abbrev pub entry_of : Bind → Entry
 entry_of b = record { number = b.number; needs = needs_of b }

@@ -17,12 +17,12 @@ use std::alloc::Global;
 
 // What a bind is to be, with what its flags say.
 #[derive(Drop)]
-pub struct Wish<'a> {
-    pub kind: Kind,
-    pub flags: &'a [u8],
-    pub mask: &'a [u8],
-    pub proc: &'a [u8],
-    pub expression: FlagExpr,
+pub(crate) struct Wish<'a> {
+    pub(crate) kind: Kind,
+    pub(crate) flags: &'a [u8],
+    pub(crate) mask: &'a [u8],
+    pub(crate) proc: &'a [u8],
+    pub(crate) expression: FlagExpr,
 }
 
 // Gives the bind at a place the flags that are asked for, and tells its number.

@@ -12,6 +12,8 @@ use Rattle.indexmap.specs.IndexMap.{insert_entry}
 use Rattle.std.specs.declared.vec.Vec.{Vec}
 use Rattle.std.specs.declared.alloc.Global.{Global}
 use Rattle.userfile.specs.declared.index.Listing.{Listing}
+use Rattle.wildmask.specs.Signatures.{Pairs, same_pairs}
+use Rattle.wildmask.proofs.SignatureLemmas.{same_pairs-same}
 use Rattle.userfile.specs.Index.{IsIn, listed, same_listing, moved_up, listings_at, listings_without}
 use Rattle.userfile.proofs.RepeatLemmas.{and_true}
 
@@ -52,11 +54,11 @@ IsIn-one n x (inr later) = absurd later
 
 pub same_is : (x y : Listing) → same_listing x y ≡ true → y ≡ x
 same_is x y e =
-    let parts : (((x.place == y.place) && (x.literals == y.literals)) ≡ true) × ((x.pairs == y.pairs) ≡ true) = and_true e in
+    let parts : (((x.place == y.place) && (x.literals == y.literals)) ≡ true) × (same_pairs x.pairs y.pairs ≡ true) = and_true e in
     let more : ((x.place == y.place) ≡ true) × ((x.literals == y.literals) ≡ true) = and_true parts.0 in
     sym (ap (λ k. listed k x.literals x.pairs) (eqb-true x.place y.place more.0)
     ∙ ap (λ k. listed y.place k x.pairs) (eqb-true x.literals y.literals more.1)
-    ∙ ap (λ k. listed y.place y.literals k) (eqb-true x.pairs y.pairs parts.1))
+    ∙ ap (λ k. listed y.place y.literals k) (same_pairs-same x.pairs y.pairs parts.1))
 
 -- what a test finds is there
 pub IsIn-found : (x : Listing) (xs : List Listing) → list_any (same_listing x) xs ≡ true → IsIn x xs
@@ -250,11 +252,11 @@ insert-listings_at t tail (e ∷ es) v none n h = by (pointwise nat_eq tail e.0)
 -- ---- a user's place left out of all groups
 
 -- the places before the one that goes stay
-moved_stays : (place n l s : ℕ) → n < place → moved_up place (listed n l s) ≡ listed n l s
+moved_stays : (place n l : ℕ) (s : Pairs) → n < place → moved_up place (listed n l s) ≡ listed n l s
 moved_stays place n l s lt = let test : nat_lt place n ≡ false = grind (arith, nat_tests) in ap (λ b. listed (cond b (n - 1) n) l s) test
 
 -- and those after it move up
-moved_moves : (place n l s : ℕ) → place ≤ n → moved_up place (listed (suc n) l s) ≡ listed n l s
+moved_moves : (place n l : ℕ) (s : Pairs) → place ≤ n → moved_up place (listed (suc n) l s) ≡ listed n l s
 moved_moves place n l s le =
     let test : nat_lt place (suc n) ≡ true = grind (arith, nat_tests) in
     let less : suc n - 1 ≡ n = omega arith in
@@ -280,11 +282,11 @@ other_place n place not_same = by (n == place) refl
     by true e = absurd (not_same (eqb-true n place e))
     by false e = refl
 
-pub stays_in : (place n l s : ℕ) (xs : List Listing) → n < place → IsIn (listed n l s) xs → IsIn (listed n l s) (listings_without place xs)
+pub stays_in : (place n l : ℕ) (s : Pairs) (xs : List Listing) → n < place → IsIn (listed n l s) xs → IsIn (listed n l s) (listings_without place xs)
 stays_in place n l s xs lt h = subst (λ x. IsIn x (listings_without place xs)) (moved_stays place n l s lt)
     (left_without place (listed n l s) xs (other_place n place (λ same. omega (arith, same, lt))) h)
 
-pub moves_in : (place n l s : ℕ) (xs : List Listing) → place ≤ n → IsIn (listed (suc n) l s) xs → IsIn (listed n l s) (listings_without place xs)
+pub moves_in : (place n l : ℕ) (s : Pairs) (xs : List Listing) → place ≤ n → IsIn (listed (suc n) l s) xs → IsIn (listed n l s) (listings_without place xs)
 moves_in place n l s xs le h = subst (λ x. IsIn x (listings_without place xs)) (moved_moves place n l s le)
     (left_without place (listed (suc n) l s) xs (other_place (suc n) place (λ same. omega (arith, same, le))) h)
 

@@ -16,6 +16,7 @@ use Rattle.userfile.specs.declared.edits.Edit.TheVariants.{AddMask, DelMask, Set
 use Rattle.userfile.specs.Apply.{with_mask, without_mask}
 use Rattle.userfile.specs.Edits.{edited, is_of_masks}
 use Rattle.userfile.specs.Held.{with_user, users_without}
+use Rattle.wildmask.proofs.SignatureLemmas.{same_pairs-self}
 use Rattle.userfile.specs.Hostmasks.{literals, mask_tail, mask_pairs}
 use Rattle.userfile.specs.Together.{repeats_handle}
 use Rattle.userfile.specs.Index.{listing_of, listings_at, is_of, is_listed, masks_of, masks_at, moved_up, stays, IsIn, IsUnder, AreUnder, Covers}
@@ -30,7 +31,7 @@ use Rattle.userfile.proofs.IndexLemmas.{users_without-absent, absent-like, posit
 -- a mask is listed among masks that have it
 own : (n : ℕ) (m : List ℕ) → (pointwise nat_eq (mask_tail m) (mask_tail m) && is_of (listing_of n m) m) ≡ true
 own n m = and_both ((bytes_decides (mask_tail m) (mask_tail m)).1 refl)
-    (and_both ((Decides-eqb (literals m) (literals m)).1 refl) ((Decides-eqb (mask_pairs m) (mask_pairs m)).1 refl))
+    (and_both ((Decides-eqb (literals m) (literals m)).1 refl) (same_pairs-self (mask_pairs m)))
 
 pub listed_at : (n : ℕ) (m : List ℕ) (ms : List (List ℕ)) (i : ℕ) → i < length ms → m ≡ get_or ms i m
     → is_listed (mask_tail m) (listing_of n m) ms ≡ true

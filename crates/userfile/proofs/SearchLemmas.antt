@@ -7,6 +7,7 @@ use Rattle.std.proofs.lemmas.Bool.Decides.{Decides-eqb, nat_tests}
 use Rattle.userfile.specs.declared.user.User.{User}
 use Rattle.userfile.specs.declared.persons.Winner.{Winner}
 use Rattle.userfile.specs.declared.index.Listing.{Listing}
+use Rattle.wildmask.proofs.SignatureLemmas.{same_pairs-self}
 use Rattle.userfile.specs.Hostmasks.{is_match, literals, mask_pairs}
 use Rattle.userfile.specs.Persons.{Claim, claim, claims_of, claims, is_most, decider, user_for}
 use Rattle.userfile.specs.Search.{is_better, may_win, has_match, after_listing, after_listings, user_at}
@@ -80,7 +81,7 @@ beaten-after_listings who users (x ∷ xs) l p best h =
 
 -- a mask is one of its listing's
 of_listing : (n : ℕ) (m : List ℕ) → is_of (listing_of n m) m ≡ true
-of_listing n m = and_both ((Decides-eqb (literals m) (literals m)).1 refl) ((Decides-eqb (mask_pairs m) (mask_pairs m)).1 refl)
+of_listing n m = and_both ((Decides-eqb (literals m) (literals m)).1 refl) (same_pairs-self (mask_pairs m))
 
 -- the listings of those that match stand among these
 abbrev pub AreListed : List ℕ → ℕ → List Listing → List (List ℕ) → Type 0

@@ -6,7 +6,7 @@ use Rattle.wildmask.specs.declared.items.MaskKind.TheVariants.{Host}
 use Rattle.wildmask.specs.declared.faults.MaskFault.{MaskFault}
 use Rattle.wildmask.specs.Items.{items_of, literals_of}
 use Rattle.wildmask.specs.Masks.{host_fault, host_mask, is_match as is_mask_match}
-use Rattle.wildmask.specs.Signatures.{items_signature}
+use Rattle.wildmask.specs.Signatures.{Pairs, items_signature}
 use Rattle.wildmask.specs.Tails.{tail_of}
 
 -- what making a hostmask answers: its text has no fault, or this first one
@@ -28,5 +28,5 @@ unfoldable pub mask_tail : List ℕ → List ℕ
 mask_tail mask = tail_of (items_of Host mask)
 
 -- the pairs of adjacent bytes that a hostmask needs
-unfoldable pub mask_pairs : List ℕ → ℕ
+unfoldable pub mask_pairs : List ℕ → Pairs
 mask_pairs mask = items_signature (items_of Host mask)

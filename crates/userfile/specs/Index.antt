@@ -5,6 +5,7 @@ use Rattle.std.specs.List.{list_any}
 use Rattle.std.specs.Cmp.Lexicographic.{pointwise}
 use Rattle.std.specs.declared.vec.Vec.{Vec}
 use Rattle.std.specs.declared.alloc.Global.{Global}
+use Rattle.wildmask.specs.Signatures.{Pairs, same_pairs}
 use Rattle.wildmask.specs.Tails.{end_key}
 use Rattle.userfile.specs.Hostmasks.{literals, mask_tail, mask_pairs}
 use Rattle.userfile.specs.declared.user.User.{User}
@@ -12,7 +13,7 @@ use Rattle.userfile.specs.declared.index.Listing.{Listing}
 use Rattle.userfile.specs.declared.index.TailIndex.{TailIndex}
 
 -- the user at a place has a mask of so many literals, which needs these pairs
-abbrev pub listed : ℕ → ℕ → ℕ → Listing
+abbrev pub listed : ℕ → ℕ → Pairs → Listing
 listed place literals pairs = record { place = place; literals = literals; pairs = pairs }
 
 -- what stands in the index of a mask of the user at a place
@@ -21,7 +22,7 @@ listing_of place mask = listed place (literals mask) (mask_pairs mask)
 
 -- whether a listing of its user is that of this mask
 abbrev pub is_of : Listing → List ℕ → Bool
-is_of x mask = (literals mask == x.literals) && (mask_pairs mask == x.pairs)
+is_of x mask = (literals mask == x.literals) && same_pairs (mask_pairs mask) x.pairs
 
 abbrev pub IsIn : Listing → List Listing → Type 0
 IsIn x [] = ⊥
@@ -37,7 +38,7 @@ IsWithOnly old new x = (y : Listing) → IsIn y new → IsIn y old ⊎ (y ≡ x)
 
 -- whether two listings are the same
 abbrev pub same_listing : Listing → Listing → Bool
-same_listing x y = (x.place == y.place) && (x.literals == y.literals) && (x.pairs == y.pairs)
+same_listing x y = (x.place == y.place) && (x.literals == y.literals) && same_pairs x.pairs y.pairs
 
 -- what stands under a tail
 abbrev pub listings_at : List ℕ → List (List ℕ × Vec Listing Global) → List Listing
@@ -125,8 +126,8 @@ listings_without place xs = map (moved_up place) (filter (λ x. not (x.place == 
 -- just the listings of other places are left, and those of places after it are moved up
 abbrev pub LeavesOut : Groups → Groups → ℕ → Type 0
 LeavesOut old new place = (tail : List ℕ)
-    → ((n l s : ℕ) → n < place → IsIn (listed n l s) (listings_at tail old) → IsIn (listed n l s) (listings_at tail new))
-    × ((n l s : ℕ) → place ≤ n → IsIn (listed (suc n) l s) (listings_at tail old) → IsIn (listed n l s) (listings_at tail new))
+    → ((n l : ℕ) (s : Pairs) → n < place → IsIn (listed n l s) (listings_at tail old) → IsIn (listed n l s) (listings_at tail new))
+    × ((n l : ℕ) (s : Pairs) → place ≤ n → IsIn (listed (suc n) l s) (listings_at tail old) → IsIn (listed n l s) (listings_at tail new))
     × ((x : Listing) → IsIn x (listings_at tail new)
     → (y : Listing) × (IsIn y (listings_at tail old) × (((y.place == place) ≡ false) × (moved_up place y ≡ x))))
 

@@ -1,7 +1,7 @@
 -- How what stands in the index is looked through for the best claim to be a person.
 use Rattle.std.specs.Prelude.{◌≡◌, ℕ, Bool, true, false, ◌==◌, ◌&&◌, ◌||◌, nat_lt, if◌then◌else◌, List, [], ◌∷◌, Option, Some, None, slice_get}
 use Rattle.std.specs.List.{list_any}
-use Rattle.wildmask.specs.Signatures.{text_signature, is_within}
+use Rattle.wildmask.specs.Signatures.{Pairs, text_signature, is_within}
 use Rattle.userfile.specs.Hostmasks.{is_match}
 use Rattle.userfile.specs.Index.{is_of}
 use Rattle.userfile.specs.declared.user.User.{User}
@@ -33,7 +33,7 @@ after_listings who users [] best = best
 after_listings who users (x ∷ xs) best = after_listings who users xs (after_listing who users x best)
 
 -- these listings make of the best what others do, for a text of these pairs
-abbrev pub SameBest : ℕ → List Listing → List Listing → Type 0
+abbrev pub SameBest : Pairs → List Listing → List Listing → Type 0
 SameBest pairs xs ys = (who : List ℕ) (users : List User) (best : Option Winner) → pairs ≡ text_signature who
     → after_listings who users xs best ≡ after_listings who users ys best
 

@@ -54,6 +54,14 @@ one_byte AnyText others b text one is_lower = cc
 one_byte NoSpace others b text one is_lower = cc
 one_byte Spaces others b text one is_lower = cc
 
+pub first_byte : (items others : List Item) (item : Item) (text : List ℕ) → 1 ≤ length text → items ≡ item ∷ others → takes_one item ≡ true
+    → AllLower items → Matches items text ↔ ((takes_byte item (low (get_or text 0 0)) ≡ true) × Matches others (drop 1 text))
+first_byte items others item [] some parts one all = absurd (omega arith)
+first_byte items others item (b ∷ text) some parts one all =
+    let lowered : AllLower (item ∷ others) = subst AllLower parts all in
+    subst (λ xs. Matches xs (b ∷ text) ↔ ((takes_byte item (low b) ≡ true) × Matches others text)) (sym parts)
+    (one_byte item others b text one lowered.0)
+
 -- each item of a run that matches takes its byte
 pub run_takes : (items : List Item) (text : List ℕ) (i : ℕ) → AllOne items → AllLower items → Matches items text → i < length items
     → takes_byte (get_or items i AnyByte) (low (get_or text i 0)) ≡ true
@@ -129,13 +137,6 @@ hit_cost r all rest left old before count within parts h k =
 pub no_more_than_all : (r all rest old count : ℕ) → count ≤ old + r * (all - rest) → count ≤ old + r * all
 no_more_than_all r all rest old count h = let k : r * (all - rest) ≤ r * all = mul-mono r (all - rest) all (omega arith) in omega arith
 
--- a run first, and what is left after it
-pub run_then_rest : (m r f n rest old before count : ℕ) → r ≤ m → f ≤ m → rest ≤ n → before ≤ old + r → count ≤ before + f * rest → count ≤ old + m + m * n
-run_then_rest m r f n rest old before count small few within h k =
-    let a : f * rest ≤ m * rest = share f m rest few in
-    let b : m * rest ≤ m * n = mul-mono m rest n within in
-    omega arith
-
 -- the end first, and what is left before it
 pub end_then_rest : (f e n rest old before count : ℕ) → rest ≤ n → before ≤ old + e → count ≤ before + f + f * rest → count ≤ old + (f + e + 1) * (n + 1)
 end_then_rest f e n rest old before count within h k =
@@ -187,44 +188,7 @@ pub code_run_too_long : (run : List ℕ) (others : List Item) (text : List ℕ) 
     → Matches (AnyText ∷ items_in run ++ others) text → ⊥
 code_run_too_long run others text one short m = run_too_long (items_in run) others text one (omega (arith, length-map run decoded)) m
 
--- a run of codes first
-pub code_run_first : (codes run others text first rest : List ℕ) → AllOne (items_in run) → items_in codes ≡ items_in run ++ items_in others
-    → length run ≤ length text → first ≡ take (length run) text → rest ≡ drop (length run) text
-    → Matches (items_in codes) text ↔ (Matches (items_in run) first × Matches (items_in others) rest)
-code_run_first codes run others text first rest one whole within is_first is_rest =
-    (λ m. there (by.0 (subst (λ xs. Matches xs text) whole m)), λ h. subst (λ xs. Matches xs text) (sym whole) (by.1 (back h.0 h.1)))
-  where
-    by : Matches (items_in run ++ items_in others) text
-        ↔ ((length (items_in run) ≤ length text) × Matches (items_in run) (take (length (items_in run)) text)
-        × Matches (items_in others) (drop (length (items_in run)) text))
-    by = run_first (items_in run) (items_in others) text one
-
-    there : (length (items_in run) ≤ length text) × Matches (items_in run) (take (length (items_in run)) text)
-        × Matches (items_in others) (drop (length (items_in run)) text) → Matches (items_in run) first × Matches (items_in others) rest
-    there h = (
-      subst (Matches (items_in run)) (ap (λ n. take n text) (length-map run decoded) ∙ sym is_first) h.1,
-      subst (Matches (items_in others))
-          (ap (λ n. drop n text) (length-map run decoded) ∙ sym is_rest) h.2,
-    )
-
-    back : Matches (items_in run) first → Matches (items_in others) rest
-        → (length (items_in run) ≤ length text) × Matches (items_in run) (take (length (items_in run)) text)
-        × Matches (items_in others) (drop (length (items_in run)) text)
-    back m r = (
-      omega (arith, length-map run decoded),
-      subst (Matches (items_in run))
-          (is_first ∙ ap (λ n. take n text) (sym (length-map run decoded))) m,
-      subst (Matches (items_in others)) (is_rest
-          ∙ ap (λ n. drop n text) (sym (length-map run decoded))) r,
-    )
-
-pub code_run_first_too_long : (codes run others text : List ℕ) → AllOne (items_in run) → items_in codes ≡ items_in run ++ items_in others
-    → length text < length run → Matches (items_in codes) text → ⊥
-code_run_first_too_long codes run others text one whole short m =
-    let h = (run_first (items_in run) (items_in others) text one).0 (subst (λ xs. Matches xs text) whole m) in
-    absurd (omega (arith, h.0, length-map run decoded))
-
--- and last
+-- a run of codes last
 pub code_run_last : (front end text rest last : List ℕ) → AllOne (items_in end) → length end ≤ length text
     → rest ≡ take (length text - length end) text → last ≡ drop (length text - length end) text
     → Matches (items_in front ++ items_in end) text ↔ (Matches (items_in end) last × Matches (items_in front) rest)

@@ -1,62 +1,87 @@
 -- What a mask needs is among what a text has that it matches.
-use Rattle.std.proofs.Common.{◌≡◌, ℕ, zero, suc, ◌^◌, ◌<◌, ◌≤◌, true, get_or, List, [], ◌∷◌, length, take, drop, map, bit_and, bit_or, max, min, refl, sym, subst, ap, ◌∙◌, arith}
+use Rattle.std.proofs.Common.{◌≡◌, ℕ, zero, suc, ◌<◌, ◌≤◌, true, get_or, List, [], ◌∷◌, length, take, drop, map, bit_and, bit_or, max, min, refl, sym, subst, ap, ◌==◌, ◌∙◌, arith}
 use Rattle.std.proofs.lemmas.List.{drop_all}
 use Rattle.std.specs.Int.{bit_at}
-use Rattle.std.proofs.lemmas.Bool.{eq-eqb}
+use Rattle.std.proofs.lemmas.Bool.{eq-eqb, eqb-true, and_from, and_parts}
 use Rattle.std.proofs.lemmas.Nat.Bits.{bit_at_and, bit_at_or, bit_at-zero, same_from_bits}
 use Rattle.rfccase.specs.Casemapping.{low, folded}
 use Rattle.wildmask.specs.declared.items.Item.{Item}
 use Rattle.wildmask.specs.declared.items.Item.TheVariants.{Literal, AnyByte, AnyText, NoSpace, Spaces}
 use Rattle.wildmask.specs.Codes.{lower, decoded, items_in}
 use Rattle.wildmask.specs.Matching.{Takes, Matches}
-use Rattle.wildmask.specs.Signatures.{place_of, pairs_of, text_signature, needed, items_signature, is_within}
+use Rattle.wildmask.specs.Signatures.{Pairs, no_pairs, either, pair, pairs_of, text_signature, needed, items_signature, is_within, same_pairs}
 use Rattle.wildmask.proofs.MatchLemmas.{low-low}
 
 -- each bit of the first is one of the second
-abbrev pub IsWithin : ℕ → ℕ → Type 0
-IsWithin a b = (i : ℕ) → bit_at a i ≤ bit_at b i
+abbrev HasBits : ℕ → ℕ → Type 0
+HasBits a b = (i : ℕ) → bit_at a i ≤ bit_at b i
 
-pub is_within-from : (a b : ℕ) → IsWithin a b → is_within a b ≡ true
-is_within-from a b within = eq-eqb (bit_and a b) a
-    (same_from_bits (bit_and a b) a (λ i. let h : bit_at a i ≤ bit_at b i =
-    within i in let e : bit_at (bit_and a b) i ≡ min (bit_at a i) (bit_at b i) = bit_at_and a b i in omega arith))
+bits-and : (a b : ℕ) → HasBits a b → bit_and a b ≡ a
+bits-and a b within = same_from_bits (bit_and a b) a (λ i. let h : bit_at a i ≤ bit_at b i =
+    within i in let e : bit_at (bit_and a b) i ≡ min (bit_at a i) (bit_at b i) = bit_at_and a b i in omega arith)
 
-zero_within : (b : ℕ) → IsWithin 0 b
-zero_within b i = omega (arith, bit_at-zero i)
+bits-zero : (b : ℕ) → HasBits 0 b
+bits-zero b i = omega (arith, bit_at-zero i)
 
-or_within : (a b c : ℕ) → IsWithin a c → IsWithin b c → IsWithin (bit_or a b) c
-or_within a b c left right i = let h : bit_at a i ≤ bit_at c i = left i in let k : bit_at b i ≤ bit_at c i =
+bits-or : (a b c : ℕ) → HasBits a c → HasBits b c → HasBits (bit_or a b) c
+bits-or a b c left right i = let h : bit_at a i ≤ bit_at c i = left i in let k : bit_at b i ≤ bit_at c i =
     right i in let e : bit_at (bit_or a b) i ≡ max (bit_at a i) (bit_at b i) = bit_at_or a b i in omega arith
 
-or_left : (a b c : ℕ) → IsWithin a b → IsWithin a (bit_or b c)
-or_left a b c within i = let h : bit_at a i ≤ bit_at b i = within i in let e : bit_at (bit_or b c) i ≡ max (bit_at b i) (bit_at c i) =
+bits-left : (a b c : ℕ) → HasBits a b → HasBits a (bit_or b c)
+bits-left a b c within i = let h : bit_at a i ≤ bit_at b i = within i in let e : bit_at (bit_or b c) i ≡ max (bit_at b i) (bit_at c i) =
     bit_at_or b c i in omega arith
 
-or_right : (a b c : ℕ) → IsWithin a c → IsWithin a (bit_or b c)
-or_right a b c within i = let h : bit_at a i ≤ bit_at c i = within i in let e : bit_at (bit_or b c) i ≡ max (bit_at b i) (bit_at c i) =
+bits-right : (a b c : ℕ) → HasBits a c → HasBits a (bit_or b c)
+bits-right a b c within i = let h : bit_at a i ≤ bit_at c i = within i in let e : bit_at (bit_or b c) i ≡ max (bit_at b i) (bit_at c i) =
     bit_at_or b c i in omega arith
 
-same_within : (a : ℕ) → IsWithin a a
-same_within a i = omega arith
+-- each place of the first is one of the second
+abbrev pub IsWithin : Pairs → Pairs → Type 0
+IsWithin a b = HasBits a.first b.first × HasBits a.second b.second
+
+pub is_within-from : (a b : Pairs) → IsWithin a b → is_within a b ≡ true
+is_within-from a b within =
+    and_from _ _ (eq-eqb _ _ (bits-and a.first b.first within.0)) (eq-eqb _ _ (bits-and a.second b.second within.1))
+
+pub none_within : (b : Pairs) → IsWithin no_pairs b
+none_within b = (bits-zero b.first, bits-zero b.second)
+
+or_within : (a b c : Pairs) → IsWithin a c → IsWithin b c → IsWithin (either a b) c
+or_within a b c left right = (bits-or _ _ _ left.0 right.0, bits-or _ _ _ left.1 right.1)
+
+or_left : (a b c : Pairs) → IsWithin a b → IsWithin a (either b c)
+or_left a b c within = (bits-left _ _ _ within.0, bits-left _ _ _ within.1)
+
+or_right : (a b c : Pairs) → IsWithin a c → IsWithin a (either b c)
+or_right a b c within = (bits-right _ _ _ within.0, bits-right _ _ _ within.1)
+
+within_trans : (a b c : Pairs) → IsWithin a b → IsWithin b c → IsWithin a c
+within_trans a b c ab bc = (bits _ _ _ ab.0 bc.0, bits _ _ _ ab.1 bc.1)
+  where
+    bits : (a b c : ℕ) → HasBits a b → HasBits b c → HasBits a c
+    bits a b c ab bc i = let h : bit_at a i ≤ bit_at b i = ab i in let k : bit_at b i ≤ bit_at c i = bc i in omega arith
+
+same_within : (a : Pairs) → IsWithin a a
+same_within a = (λ i. omega arith, λ i. omega arith)
 
 -- what the end of a text has the text has
 pairs_of-drop : (cut : ℕ) (text : List ℕ) → IsWithin (pairs_of (folded (drop cut text))) (pairs_of (folded text))
 pairs_of-drop zero text = same_within (pairs_of (folded text))
-pairs_of-drop (suc cut) [] = same_within 0
+pairs_of-drop (suc cut) [] = same_within no_pairs
 pairs_of-drop (suc cut) (x ∷ []) = by cut
   where
-    by : (cut : ℕ) → IsWithin (pairs_of (folded (drop cut []))) 0
-    by zero = same_within 0
-    by (suc cut) = same_within 0
-pairs_of-drop (suc cut) (x ∷ y ∷ text) = or_right _ (2 ^ place_of (low x) (low y)) (pairs_of (folded (y ∷ text))) (pairs_of-drop cut (y ∷ text))
+    by : (cut : ℕ) → IsWithin (pairs_of (folded (drop cut []))) no_pairs
+    by zero = same_within no_pairs
+    by (suc cut) = same_within no_pairs
+pairs_of-drop (suc cut) (x ∷ y ∷ text) = or_right _ (pair (low x) (low y)) (pairs_of (folded (y ∷ text))) (pairs_of-drop cut (y ∷ text))
 
 -- two literals in front of a mask that matches are a pair of the text
 first_pair : (a b : ℕ) (items : List Item) (text : List ℕ) → Matches (Literal a ∷ Literal b ∷ items) text
-    → IsWithin (2 ^ place_of (low a) (low b)) (text_signature text)
+    → IsWithin (pair (low a) (low b)) (text_signature text)
 first_pair a b items text m = by text m.0 m.1.0 m.1.1 m.1.2.0 m.1.2.1.0 m.1.2.1.1
   where
     by : (text : List ℕ) (k : ℕ) → k ≤ length text → Takes (Literal a) (take k text) → (j : ℕ) → j ≤ length (drop k text)
-        → Takes (Literal b) (take j (drop k text)) → IsWithin (2 ^ place_of (low a) (low b)) (text_signature text)
+        → Takes (Literal b) (take j (drop k text)) → IsWithin (pair (low a) (low b)) (text_signature text)
     by [] zero within first j early second = cc
     by [] (suc k) within first j early second = absurd (omega arith)
     by (x ∷ text) zero within first j early second = cc
@@ -66,34 +91,32 @@ first_pair a b items text m = by text m.0 m.1.0 m.1.1 m.1.2.0 m.1.2.1.0 m.1.2.1.
     by (x ∷ y ∷ text) (suc zero) within first (suc j) early second =
         let e : low x ≡ low a = cc in
         let f : low y ≡ low b = cc in
-        subst (λ (n : ℕ). IsWithin n (text_signature (x ∷ y ∷ text))) (ap (λ i. 2 ^ place_of i (low y)) e ∙ ap (λ i. 2 ^ place_of (low a) i) f)
-        (or_left _ (2 ^ place_of (low x) (low y)) (pairs_of (folded (y ∷ text))) (same_within (2 ^ place_of (low x) (low y))))
+        subst (λ (n : Pairs). IsWithin n (text_signature (x ∷ y ∷ text))) (ap (λ i. pair i (low y)) e ∙ ap (λ i. pair (low a) i) f)
+        (or_left _ (pair (low x) (low y)) (pairs_of (folded (y ∷ text))) (same_within (pair (low x) (low y))))
     by (x ∷ []) (suc (suc k)) within first j early second = absurd (omega arith)
     by (x ∷ y ∷ text) (suc (suc k)) within first j early second = cc
 
 needed_within : (x y : Item) (items : List Item) (text : List ℕ) → Matches (x ∷ y ∷ items) text → IsWithin (needed x y) (text_signature text)
 needed_within (Literal a) (Literal b) items text m = first_pair a b items text m
-needed_within (Literal a) AnyByte items text m = zero_within (text_signature text)
-needed_within (Literal a) AnyText items text m = zero_within (text_signature text)
-needed_within (Literal a) NoSpace items text m = zero_within (text_signature text)
-needed_within (Literal a) Spaces items text m = zero_within (text_signature text)
-needed_within AnyByte y items text m = zero_within (text_signature text)
-needed_within AnyText y items text m = zero_within (text_signature text)
-needed_within NoSpace y items text m = zero_within (text_signature text)
-needed_within Spaces y items text m = zero_within (text_signature text)
+needed_within (Literal a) AnyByte items text m = none_within (text_signature text)
+needed_within (Literal a) AnyText items text m = none_within (text_signature text)
+needed_within (Literal a) NoSpace items text m = none_within (text_signature text)
+needed_within (Literal a) Spaces items text m = none_within (text_signature text)
+needed_within AnyByte y items text m = none_within (text_signature text)
+needed_within AnyText y items text m = none_within (text_signature text)
+needed_within NoSpace y items text m = none_within (text_signature text)
+needed_within Spaces y items text m = none_within (text_signature text)
 
 pub signature_within : (items : List Item) (text : List ℕ) → Matches items text → IsWithin (items_signature items) (text_signature text)
-signature_within [] text m = zero_within (text_signature text)
-signature_within (x ∷ []) text m = zero_within (text_signature text)
+signature_within [] text m = none_within (text_signature text)
+signature_within (x ∷ []) text m = none_within (text_signature text)
 signature_within (x ∷ y ∷ items) text m =
     or_within (needed x y) (items_signature (y ∷ items)) (text_signature text) (needed_within x y items text m)
-    (λ i. let h : bit_at (items_signature (y ∷ items)) i ≤ bit_at (text_signature (drop m.0 text)) i =
-    signature_within (y ∷ items) (drop m.0 text) m.1.2 i in let k : bit_at (text_signature (drop m.0 text)) i ≤ bit_at (text_signature text) i =
-    pairs_of-drop m.0 text i in omega arith)
+    (within_trans _ (text_signature (drop m.0 text)) _ (signature_within (y ∷ items) (drop m.0 text) m.1.2) (pairs_of-drop m.0 text))
 
 -- the lower cases of literals need the same
 needed-lower : (x y : Item) → needed (lower x) (lower y) ≡ needed x y
-needed-lower (Literal a) (Literal b) = ap (λ i. 2 ^ place_of i (low (low b))) (low-low a) ∙ ap (λ i. 2 ^ place_of (low a) i) (low-low b)
+needed-lower (Literal a) (Literal b) = ap (λ i. pair i (low (low b))) (low-low a) ∙ ap (λ i. pair (low a) i) (low-low b)
 needed-lower (Literal a) AnyByte = refl
 needed-lower (Literal a) AnyText = refl
 needed-lower (Literal a) NoSpace = refl
@@ -106,8 +129,21 @@ needed-lower Spaces y = refl
 pub items_signature-lower : (items : List Item) → items_signature (map lower items) ≡ items_signature items
 items_signature-lower [] = refl
 items_signature-lower (x ∷ []) = refl
-items_signature-lower (x ∷ y ∷ items) = ap (λ n. bit_or n (items_signature (map lower (y ∷ items)))) (needed-lower x y)
-    ∙ ap (λ n. bit_or (needed x y) n) (items_signature-lower (y ∷ items))
+items_signature-lower (x ∷ y ∷ items) = ap (λ n. either n (items_signature (map lower (y ∷ items)))) (needed-lower x y)
+    ∙ ap (λ n. either (needed x y) n) (items_signature-lower (y ∷ items))
+
+-- ---- when two sets are one
+
+abbrev halves : ℕ → ℕ → Pairs
+halves first second = record { first = first; second = second }
+
+pub same_pairs-self : (a : Pairs) → same_pairs a a ≡ true
+same_pairs-self a = and_from _ _ (eq-eqb a.first a.first refl) (eq-eqb a.second a.second refl)
+
+pub same_pairs-same : (a b : Pairs) → same_pairs a b ≡ true → a ≡ b
+same_pairs-same a b e =
+    let parts = and_parts (a.first == b.first) (a.second == b.second) e in
+    ap (λ n. halves n a.second) (eqb-true a.first b.first parts.0) ∙ ap (halves b.first) (eqb-true a.second b.second parts.1)
 
 -- ---- one pair more
 
@@ -123,23 +159,30 @@ or-assoc a b c = same_from_bits (bit_or (bit_or a b) c) (bit_or a (bit_or b c)) 
     let h : bit_at (bit_or b c) i ≡ max (bit_at b i) (bit_at c i) = bit_at_or b c i in
     omega arith)
 
+either-none : (a : Pairs) → either a no_pairs ≡ a
+either-none a = ap (λ n. halves n (bit_or a.second 0)) (or-zero a.first) ∙ ap (halves a.first) (or-zero a.second)
+
+either-assoc : (a b c : Pairs) → either (either a b) c ≡ either a (either b c)
+either-assoc a b c = ap (λ n. halves n (bit_or (bit_or a.second b.second) c.second)) (or-assoc a.first b.first c.first)
+    ∙ ap (halves (bit_or a.first (bit_or b.first c.first))) (or-assoc a.second b.second c.second)
+
 -- a byte and what is left of a text after it have the pair of the two, and those from the next byte on
-pub pairs_more : (bits all a : ℕ) (rest : List ℕ) (i : ℕ) → i < length rest → bit_or bits (pairs_of (a ∷ folded (drop i rest))) ≡ all
-    → bit_or (bit_or bits (2 ^ place_of a (low (get_or rest i 0)))) (pairs_of (low (get_or rest i 0) ∷ folded (drop (suc i) rest))) ≡ all
-pairs_more bits all a [] i lt h = absurd (omega (arith, lt))
-pairs_more bits all a (x ∷ rest) zero lt h = or-assoc bits _ _ ∙ h
-pairs_more bits all a (x ∷ rest) (suc i) lt h = pairs_more bits all a rest i (omega (arith, lt)) h
+pub pairs_more : (pairs all : Pairs) (a : ℕ) (rest : List ℕ) (i : ℕ) → i < length rest → either pairs (pairs_of (a ∷ folded (drop i rest))) ≡ all
+    → either (either pairs (pair a (low (get_or rest i 0)))) (pairs_of (low (get_or rest i 0) ∷ folded (drop (suc i) rest))) ≡ all
+pairs_more pairs all a [] i lt h = absurd (omega (arith, lt))
+pairs_more pairs all a (x ∷ rest) zero lt h = either-assoc pairs _ _ ∙ h
+pairs_more pairs all a (x ∷ rest) (suc i) lt h = pairs_more pairs all a rest i (omega (arith, lt)) h
 
-pub pairs_end : (bits all a : ℕ) (rest : List ℕ) (i : ℕ) → length rest ≤ i → bit_or bits (pairs_of (a ∷ folded (drop i rest))) ≡ all → bits ≡ all
-pairs_end bits all a rest i past h = sym (or-zero bits) ∙ ap (λ (xs : List ℕ). bit_or bits (pairs_of (a ∷ folded xs))) (sym (drop_all i rest past)) ∙ h
+pub pairs_end : (pairs all : Pairs) (a : ℕ) (rest : List ℕ) (i : ℕ) → length rest ≤ i → either pairs (pairs_of (a ∷ folded (drop i rest))) ≡ all → pairs ≡ all
+pairs_end pairs all a rest i past h = sym (either-none pairs) ∙ ap (λ (xs : List ℕ). either pairs (pairs_of (a ∷ folded xs))) (sym (drop_all i rest past)) ∙ h
 
-pub codes_more : (bits all : ℕ) (codes : List ℕ) → 2 ≤ length codes → bit_or bits (items_signature (items_in codes)) ≡ all
-    → bit_or (bit_or bits (needed (decoded (get_or codes 0 0)) (decoded (get_or codes 1 0)))) (items_signature (items_in (drop 1 codes))) ≡ all
-codes_more bits all [] some h = absurd (omega arith)
-codes_more bits all (x ∷ []) some h = absurd (omega arith)
-codes_more bits all (x ∷ y ∷ codes) some h = or-assoc bits _ _ ∙ h
+pub codes_more : (pairs all : Pairs) (codes : List ℕ) → 2 ≤ length codes → either pairs (items_signature (items_in codes)) ≡ all
+    → either (either pairs (needed (decoded (get_or codes 0 0)) (decoded (get_or codes 1 0)))) (items_signature (items_in (drop 1 codes))) ≡ all
+codes_more pairs all [] some h = absurd (omega arith)
+codes_more pairs all (x ∷ []) some h = absurd (omega arith)
+codes_more pairs all (x ∷ y ∷ codes) some h = either-assoc pairs _ _ ∙ h
 
-pub codes_end : (bits all : ℕ) (codes : List ℕ) → length codes < 2 → bit_or bits (items_signature (items_in codes)) ≡ all → bits ≡ all
-codes_end bits all [] short h = sym (or-zero bits) ∙ h
-codes_end bits all (x ∷ []) short h = sym (or-zero bits) ∙ h
-codes_end bits all (x ∷ y ∷ codes) short h = absurd (omega arith)
+pub codes_end : (pairs all : Pairs) (codes : List ℕ) → length codes < 2 → either pairs (items_signature (items_in codes)) ≡ all → pairs ≡ all
+codes_end pairs all [] short h = sym (either-none pairs) ∙ h
+codes_end pairs all (x ∷ []) short h = sym (either-none pairs) ∙ h
+codes_end pairs all (x ∷ y ∷ codes) short h = absurd (omega arith)

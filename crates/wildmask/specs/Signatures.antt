@@ -1,41 +1,63 @@
--- Which pairs of adjacent bytes a text has, and which a mask needs, as sets of 128 places (our own choice).
-use Rattle.std.specs.Prelude.{ℕ, ◌+◌, ◌*◌, ◌%◌, ◌^◌, Bool, ◌==◌, List, [], ◌∷◌, bit_and, bit_or}
+-- Which pairs of adjacent bytes a text has, and which a mask needs, as sets of 256 places (our own choice).
+use Rattle.std.specs.Prelude.{ℕ, ◌+◌, ◌-◌, ◌*◌, ◌%◌, ◌^◌, Bool, ◌==◌, ◌&&◌, nat_lt, if◌then◌else◌, List, [], ◌∷◌, bit_and, bit_or}
 use Rattle.rfccase.specs.Casemapping.{low, folded}
 use Rattle.wildmask.specs.declared.items.Item.{Item}
 use Rattle.wildmask.specs.declared.items.Item.TheVariants.{Literal, AnyByte, AnyText, NoSpace, Spaces}
 
+-- a set of places: those below 128 as the bits of one number, and the others, less 128, as those of another
+pub record Pairs : Type 0 where
+  pub first : ℕ
+  pub second : ℕ
+
+abbrev pub no_pairs : Pairs
+no_pairs = record { first = 0; second = 0 }
+
+-- the places of both
+abbrev pub either : Pairs → Pairs → Pairs
+either a b = record { first = bit_or a.first b.first; second = bit_or a.second b.second }
+
 -- the place of a pair of lower cases; several pairs share one
 abbrev pub place_of : ℕ → ℕ → ℕ
-place_of a b = (a * 37 + b) % 128
+place_of a b = (a + b * 23) % 256
 
--- the places of the pairs of adjacent bytes, as the bits of a number
-abbrev pub pairs_of : List ℕ → ℕ
-pairs_of [] = 0
-pairs_of (a ∷ []) = 0
-pairs_of (a ∷ b ∷ text) = bit_or (2 ^ place_of a b) (pairs_of (b ∷ text))
+abbrev pub pair : ℕ → ℕ → Pairs
+pair a b = record {
+  first = if nat_lt (place_of a b) 128 then 2 ^ place_of a b else 0;
+  second = if nat_lt (place_of a b) 128 then 0 else 2 ^ (place_of a b - 128);
+}
+
+-- the places of the pairs of adjacent bytes
+abbrev pub pairs_of : List ℕ → Pairs
+pairs_of [] = no_pairs
+pairs_of (a ∷ []) = no_pairs
+pairs_of (a ∷ b ∷ text) = either (pair a b) (pairs_of (b ∷ text))
 
 -- what a text has: the pairs of its lower cases
-abbrev pub text_signature : List ℕ → ℕ
+abbrev pub text_signature : List ℕ → Pairs
 text_signature text = pairs_of (folded text)
 
 -- what two adjacent items need: two literals their pair, and a special item with another nothing
-abbrev pub needed : Item → Item → ℕ
-needed (Literal a) (Literal b) = 2 ^ place_of (low a) (low b)
-needed (Literal a) AnyByte = 0
-needed (Literal a) AnyText = 0
-needed (Literal a) NoSpace = 0
-needed (Literal a) Spaces = 0
-needed AnyByte item = 0
-needed AnyText item = 0
-needed NoSpace item = 0
-needed Spaces item = 0
+abbrev pub needed : Item → Item → Pairs
+needed (Literal a) (Literal b) = pair (low a) (low b)
+needed (Literal a) AnyByte = no_pairs
+needed (Literal a) AnyText = no_pairs
+needed (Literal a) NoSpace = no_pairs
+needed (Literal a) Spaces = no_pairs
+needed AnyByte item = no_pairs
+needed AnyText item = no_pairs
+needed NoSpace item = no_pairs
+needed Spaces item = no_pairs
 
 -- what a mask of these items needs
-abbrev pub items_signature : List Item → ℕ
-items_signature [] = 0
-items_signature (a ∷ []) = 0
-items_signature (a ∷ b ∷ items) = bit_or (needed a b) (items_signature (b ∷ items))
+abbrev pub items_signature : List Item → Pairs
+items_signature [] = no_pairs
+items_signature (a ∷ []) = no_pairs
+items_signature (a ∷ b ∷ items) = either (needed a b) (items_signature (b ∷ items))
 
 -- whether each place of the first is one of the second
-abbrev pub is_within : ℕ → ℕ → Bool
-is_within needs has = bit_and needs has == needs
+abbrev pub is_within : Pairs → Pairs → Bool
+is_within needs has = (bit_and needs.first has.first == needs.first) && (bit_and needs.second has.second == needs.second)
+
+-- whether two sets are one
+abbrev pub same_pairs : Pairs → Pairs → Bool
+same_pairs a b = (a.first == b.first) && (a.second == b.second)

@@ -1,5 +1,5 @@
 // A set of places among the items of a mask.
-ghost use Rattle.std.specs.Prelude.{◌≡◌, ◌↔◌, ◌⊎◌, ℕ, ◌<◌, ◌≤◌, IsTrue, MatchOption};
+ghost use Rattle.std.specs.Prelude.{◌≡◌, ◌==◌, ◌↔◌, ◌⊎◌, ℕ, ◌<◌, ◌≤◌, IsTrue, MatchOption};
 ghost use Rattle.std.specs.Int.{bit_at};
 
 /// A set of places from 0 to 127, as the bits of a number.
@@ -14,6 +14,13 @@ impl Places {
         ensures { result.bits ≡ 0 }
     {
         Places { bits: 0 }
+    }
+
+    /// Whether the set has no place.
+    pub fn is_none(self) -> bool
+        ensures { result ≡ (self.bits == 0) }
+    {
+        self.bits == 0
     }
 
     /// The set with this place too.

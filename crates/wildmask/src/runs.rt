@@ -1,5 +1,5 @@
 // Runs of items that take one byte each, before, between and after stars. They are settled without a set of places.
-ghost use Rattle.std.specs.Prelude.{◌≡◌, ◌↔◌, ℕ, List, ◌∷◌, ◌++◌, ◌+◌, ◌-◌, ◌*◌, ◌≤◌, IsTrue, MatchOption, length, take};
+ghost use Rattle.std.specs.Prelude.{◌≡◌, ◌↔◌, ℕ, List, ◌∷◌, ◌++◌, ◌+◌, ◌-◌, ◌*◌, ◌≤◌, IsTrue, MatchOption, length, take, true};
 ghost use Rattle.wildmask.specs.declared.items.Item.{Item};
 ghost use Rattle.wildmask.specs.declared.items.Item.TheVariants.{AnyText};
 ghost use Rattle.wildmask.specs.Codes.{decoded, items_in};
@@ -35,12 +35,52 @@ fn matches_run_first(codes: &[u8], text: &[u8], count: &mut Count) -> bool
     ensures matches { IsTrue result ↔ Matches (items_in codes.now) text.now }
     ensures counted { count.new.steps ≤ count.old.steps + length codes.now + length codes.now * length text.now }
 {
-    let (run, others) = split_run(codes);
-    if text.len() < run.len() {
-        return false;
+    match after_first_run(codes, text, count) {
+        Some((others, rest)) => matches_stars(others, rest, count),
+        None => false,
     }
-    let (first, rest) = text.split_at(run.len());
-    fits(run, first, count) && matches_stars(others, rest, count)
+}
+
+// What is left of items and of a text after the items in front that take one byte each; none where one of those does
+// not take its byte.
+fn after_first_run<'a, 'b>(
+    codes: &'a [u8],
+    text: &'b [u8],
+    count: &mut Count,
+) -> Option<(&'a [u8], &'b [u8])>
+    requires lower { AllLower (items_in codes.now) }
+    ensures matches { MatchOption result (Matches (items_in codes.now) text.now → ⊥)
+        (λ left. Matches (items_in codes.now) text.now ↔ Matches (items_in left.0.now) left.1.now) }
+    ensures lower { MatchOption result (Unit {0}) (λ left. AllLower (items_in left.0.now)) }
+    ensures shorter { MatchOption result (Unit {0})
+        (λ left. (length left.0.now ≤ length codes.now) × (length left.1.now ≤ length text.now)) }
+    ensures counted { count.new.steps ≤ count.old.steps + length codes.now }
+{
+    let mut left = codes;
+    let mut rest = text;
+    while let Some((item, others)) = first_of_run(left) {
+        let [byte, after @ ..] = rest else {
+            return None;
+        };
+        if !takes(item, fold(*byte), count) {
+            return None;
+        }
+        left = others;
+        rest = after;
+    }
+    Some((left, rest))
+}
+
+// The first item, where it takes one byte, and the others.
+fn first_of_run(codes: &[u8]) -> Option<(Item, &[u8])>
+    ensures item { MatchOption result (Unit {0})
+        (λ p. (items_in codes.now ≡ p.0 ∷ items_in p.1.now) × (takes_one p.0 ≡ true)) }
+    ensures shorter { MatchOption result (Unit {0}) (λ p. length p.1.now + 1 ≡ length codes.now) }
+{
+    match codes {
+        [code, others @ ..] if takes_one(*code) => Some((item_of(*code), others)),
+        _ => None,
+    }
 }
 
 // Whether the items match all of a text: a run between two stars takes its first place, and what is left is walked.

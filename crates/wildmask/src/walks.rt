@@ -25,6 +25,9 @@ pub fn walk(codes: &[u8], text: &[u8], count: &mut Count) -> bool
         if is_at_last_star(codes, places) {
             return true;
         }
+        if places.is_none() {
+            return false;
+        }
         let after = step_unless_idle(codes, places, idle, *byte, count);
         idle = idle_byte(places, after, *byte);
         places = after;
