@@ -1,5 +1,5 @@
 -- Bases: what is read is spelled so, and what is spelled so is read.
-use Rattle.std.proofs.Common.{◌≡◌, ℕ, ◌^◌, ◌<◌, Bool, true, cond, eqb, List, [], ◌∷◌, ◌++◌, Option, Some, None, Ok, Err, refl, sym, ap, subst, ◌∙◌, inl, inr}
+use Rattle.std.proofs.Common.{◌≡◌, ℕ, ◌^◌, ◌<◌, true, eqb, List, [], ◌∷◌, ◌++◌, Option, Some, None, Ok, Err, refl, sym, ap, subst, ◌∙◌, inl, inr}
 use Rattle.std.specs.Int.{w32}
 use Rattle.std.proofs.lemmas.Bool.{eqb-true}
 use Rattle.userfile.specs.declared.change.Change.{Change}
@@ -8,12 +8,10 @@ use Rattle.userfile.specs.declared.error.ChangeFault.TheVariants.{BadHandle, Bad
 use Rattle.userfile.specs.declared.error.ChangeFault.TheVariants.{NoSuchMask, BanExists, NoSuchBan, Full}
 use Rattle.usercodec.specs.declared.fault.CodecFault.TheVariants.{NotCanonical}
 use Rattle.usercodec.specs.declared.records.Record.{Record}
-use Rattle.usercodec.specs.Fields.{number, Reading, checked, byte_at, number_at}
+use Rattle.usercodec.specs.Fields.{number, Reading, byte_at, number_at}
 use Rattle.usercodec.specs.Changes.{made, change_at, change_bytes}
 use Rattle.usercodec.specs.Records.{record_bytes, IsGoodRecord}
-use Rattle.usercodec.proofs.Steps.{IsBytes, chosen, bind_ok, guard_ok, ok_is, Takes}
-use Rattle.usercodec.proofs.FieldLaws.{byte_field}
-use Rattle.usercodec.proofs.RecordLaws.{record_sort}
+use Rattle.usercodec.proofs.Steps.{IsBytes, chosen, bind_ok, ok_is, Takes}
 use Rattle.usercodec.specs.FaultBytes.{fault_byte, fault_from, known}
 use Rattle.botjournal.specs.declared.base.Base.{Base}
 use Rattle.botjournal.specs.declared.reply.Answer.{Answer}
@@ -23,48 +21,10 @@ use Rattle.botjournal.specs.Bases.{listed, answer_bytes, reply_bytes, out_bytes,
 use Rattle.botjournal.specs.Bases.{AreListed, IsGoodBase}
 use Rattle.botjournal.specs.Bases.{answer_from, answer_at, reply_at, replies_listed_at, replies_at, records_at, out_from, out_at, base_of, parts_at, base_at}
 use Rattle.botjournal.specs.Bases.{base_in, IsBaseOf}
-use Rattle.usercodec.proofs.PartLaws.{IsPart, of_sort, u16_part, u32_part, change_part, both_part, fault_byte-from, known_is}
+use Rattle.usercodec.proofs.PartLaws.{IsPart, checked_part, made_part, both_part}
+use Rattle.usercodec.proofs.ReaderLaws.{byte_part, u16_part, u32_part, change_part, record_part, fault_byte-from, known_is}
 use Rattle.botjournal.proofs.ItemLaws.{listed_part}
 use Rattle.botjournal.proofs.WholeLaws.{whole_again, whole_spelled}
-
--- ---- a field and its test
-
-checked_part : {A : Type 0} {read : List ℕ → Reading A} {spelling : A → List ℕ} {IsGood : A → Type 0} → IsPart read spelling IsGood
-    → (test : A → Bool) → IsPart (λ bytes. checked test (read bytes)) spelling (λ x. IsGood x × (test x ≡ true))
-checked_part {A = A} {read = read} {spelling = spelling} {IsGood = IsGood} part test = record { takes = takes; again = again }
-  where
-    takes : (bytes : List ℕ) (x : A) (rest : List ℕ) → IsBytes bytes → checked test (read bytes) ≡ Ok (x, rest)
-        → Takes bytes (spelling x) rest × (IsGood x × (test x ≡ true))
-    takes bytes x rest fits e =
-        let a = bind_ok (read bytes) (λ y. cond (test y.0) (Ok y) (Err NotCanonical)) (x, rest) e in
-        let g = guard_ok (test a.0.0) NotCanonical a.0 (x, rest) a.2 in
-        let t = part.takes bytes a.0.0 a.0.1 fits a.1 in
-        subst (λ (p : A × List ℕ). Takes bytes (spelling p.0) p.1 × (IsGood p.0 × (test p.0 ≡ true))) g.1 (t.0, (t.1, g.0))
-
-    again : (x : A) (rest : List ℕ) → (IsGood x × (test x ≡ true)) → checked test (read (spelling x ++ rest)) ≡ Ok (x, rest)
-    again x rest good = rw (part.again x rest good.0, good.1) refl
-
--- what is made of a value, which tells the value
-made_part : {A B : Type 0} {read : List ℕ → Reading A} {spelling : A → List ℕ} {IsGood : A → Type 0} → IsPart read spelling IsGood
-    → (to : A → B) (from : B → A) → ((y : B) → to (from y) ≡ y) → (spelled : B → List ℕ) → ((x : A) → spelled (to x) ≡ spelling x)
-    → ((y : B) → spelled y ≡ spelling (from y)) → (Fits : B → Type 0) → ((x : A) → IsGood x → Fits (to x)) → ((y : B) → Fits y → IsGood (from y))
-    → IsPart (λ bytes. made to (read bytes)) spelled Fits
-made_part {A = A} {B = B} {read = read} {spelling = spelling} {IsGood = IsGood} part to from back spelled there here Fits fit good = record {
-  takes =
-      takes;
-  again = again;
-}
-  where
-    takes : (bytes : List ℕ) (y : B) (rest : List ℕ) → IsBytes bytes → made to (read bytes) ≡ Ok (y, rest) → Takes bytes (spelled y) rest × Fits y
-    takes bytes y rest fits e =
-        let a = bind_ok (read bytes) (λ x. Ok (to x.0, x.1)) (y, rest) e in
-        let t = part.takes bytes a.0.0 a.0.1 fits a.1 in
-        let took : Takes bytes (spelled (to a.0.0)) a.0.1 = subst (λ (b : List ℕ). Takes bytes b a.0.1) (sym (there a.0.0)) t.0 in
-        subst (λ (p : B × List ℕ). Takes bytes (spelled p.0) p.1 × Fits p.0) (ok_is (to a.0.0, a.0.1) (y, rest) a.2) (took, fit a.0.0 t.1)
-
-    again : (y : B) (rest : List ℕ) → Fits y → made to (read (spelled y ++ rest)) ≡ Ok (y, rest)
-    again y rest fits =
-        ap (λ b. made to (read (b ++ rest))) (here y) ∙ ap (made to) (part.again (from y) rest (good y fits)) ∙ ap (λ z. Ok (z, rest)) (back y)
 
 -- ---- replies
 
@@ -95,7 +55,7 @@ answer_part = record { takes = takes; again = again }
     takes : (bytes : List ℕ) (x : Answer) (rest : List ℕ) → IsBytes bytes → answer_at bytes ≡ Ok (x, rest) → Takes bytes (answer_bytes x) rest × IsGoodAnswer x
     takes bytes x rest fits e =
         let a = bind_ok (byte_at bytes) (λ byte. answer_from byte.0 byte.1) (x, rest) e in
-        let t = byte_field.laws.takes bytes a.0.0 a.0.1 fits a.1 in
+        let t = byte_part.takes bytes a.0.0 a.0.1 fits a.1 in
         let u = from_takes a.0.0 a.0.1 x rest t.0.rest_fits a.2 in
         (record { parts = t.0.parts ∙ u.0.parts; rest_fits = u.0.rest_fits }, u.1)
 
@@ -132,7 +92,7 @@ replies_part = checked_part (listed_part reply_part) are_rising
 
 records_part : IsPart records_at (listed record_bytes) (AreListed IsGoodRecord)
 unfolding records_at
-records_part = listed_part (of_sort record_sort)
+records_part = listed_part record_part
 
 -- ---- the change that is out
 
@@ -174,7 +134,7 @@ out_part = record { takes = takes; again = again }
     takes : (bytes : List ℕ) (x : Option Change) (rest : List ℕ) → IsBytes bytes → out_at bytes ≡ Ok (x, rest) → Takes bytes (out_bytes x) rest × IsGoodOut x
     takes bytes x rest fits e =
         let a = bind_ok (byte_at bytes) (λ byte. out_from byte.0 byte.1) (x, rest) e in
-        let t = byte_field.laws.takes bytes a.0.0 a.0.1 fits a.1 in
+        let t = byte_part.takes bytes a.0.0 a.0.1 fits a.1 in
         let u = from_takes a.0.0 a.0.1 x rest t.0.rest_fits a.2 in
         (record { parts = t.0.parts ∙ u.0.parts; rest_fits = u.0.rest_fits }, u.1)
 

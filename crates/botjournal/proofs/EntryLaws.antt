@@ -11,7 +11,8 @@ use Rattle.botjournal.specs.declared.entry.Entry.TheVariants.{Accepted, Settled,
 use Rattle.usercodec.specs.FaultBytes.{fault_byte, fault_at}
 use Rattle.botjournal.specs.Entries.{entry_bytes, IsGoodEntry, accepted_at, settled_at, applied_at, request_out_at, request_done_at, entry_fields_at, entry_at}
 use Rattle.botjournal.specs.Entries.{entry_in, IsEntryOf}
-use Rattle.usercodec.proofs.PartLaws.{IsPart, u16_part, u32_part, change_part, fault_part, both_part}
+use Rattle.usercodec.proofs.PartLaws.{IsPart, both_part}
+use Rattle.usercodec.proofs.ReaderLaws.{u16_part, u32_part, change_part, fault_part}
 use Rattle.botjournal.proofs.WholeLaws.{whole_again, whole_spelled}
 
 -- ---- the fields of each kind

@@ -6,18 +6,14 @@ use Rattle.std.proofs.lemmas.List.{length-append}
 use Rattle.std.proofs.lemmas.List.Concat.{flat_map-cons}
 use Rattle.userfile.specs.Shapes.{is_hostmask}
 use Rattle.userfile.specs.Together.{is_entry, is_over}
-use Rattle.userfile.specs.declared.change.Change.{Change}
-use Rattle.userfile.specs.declared.change.Change.TheVariants.{AddUser, DelUser, AddHost, DelHost, SetGlobal, SetChan, SetBot, AddBan, DelBan}
 use Rattle.userfile.specs.declared.channel_flags.ChannelFlags.{ChannelFlags}
 use Rattle.userfile.specs.declared.user.User.{User}
 use Rattle.userfile.proofs.RepeatLemmas.{and_true}
 use Rattle.usercodec.specs.declared.records.Record.{Record}
 use Rattle.usercodec.specs.declared.records.Record.TheVariants as records
 use Rattle.usercodec.specs.Fields.{text}
-use Rattle.usercodec.specs.Lengths.{ChangeIsShort}
-use Rattle.usercodec.specs.Changes.{change_bytes}
 use Rattle.usercodec.specs.Records.{entry_bytes as channel_bytes, record_bytes, HasShape, IsGoodRecord}
-use Rattle.usercodec.proofs.ShapeLaws.{short_texts, user_texts, ban_texts, hostmask_is_short, channel_is_short}
+use Rattle.usercodec.proofs.ShapeLaws.{short_texts, change_is_short, user_texts, ban_texts, hostmask_is_short, channel_is_short}
 use Rattle.botjournal.specs.declared.base.Base.{Base}
 use Rattle.botjournal.specs.declared.entry.Entry.{Entry}
 use Rattle.botjournal.specs.declared.entry.Entry.TheVariants.{Accepted, Settled, Applied, ReqOut, ReqDone}
@@ -28,17 +24,6 @@ use Rattle.botjournal.specs.Entries.{entry_bytes, IsGoodEntry}
 use Rattle.botjournal.specs.Bases.{reply_bytes, out_bytes, base_bytes, IsGoodReply, IsGoodOut, HasShapeOut, HasShapes, IsGoodBase}
 
 -- ---- entries
-
-change_is_short : (change : Change) → ChangeIsShort change → length (change_bytes change) < 2000
-change_is_short (AddUser handle) short = omega arith
-change_is_short (DelUser handle) short = omega arith
-change_is_short (AddHost handle mask) short = simp length-append (omega arith)
-change_is_short (DelHost handle mask) short = simp length-append (omega arith)
-change_is_short (SetGlobal handle bits) short = simp length-append (omega arith)
-change_is_short (SetChan handle channel bits) short = simp length-append (omega arith)
-change_is_short (SetBot handle bits) short = simp length-append (omega arith)
-change_is_short (AddBan channel mask creator expires comment) short = simp length-append (omega arith)
-change_is_short (DelBan channel mask) short = simp length-append (omega arith)
 
 pub entry_is_short : (entry : Entry) → IsGoodEntry entry → length (entry_bytes entry) < 2 ^ 32
 entry_is_short (Accepted origin r change) good = let short = change_is_short change (short_texts change good.1.1.shape) in simp length-append (omega arith)

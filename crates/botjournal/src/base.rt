@@ -29,7 +29,7 @@ impl TryCopy for Base {
         Ok(Base {
             bot: self.bot,
             version: self.version,
-            records: Seq::new(copies_of_records(alloc, self.records.as_slice())?),
+            records: self.records.copy(alloc)?,
             replies: self.replies.copy(alloc)?,
             last_request: self.last_request,
             out: copy_of_out(alloc, &self.out)?,
@@ -43,24 +43,5 @@ fn copy_of_out(alloc: Global, out: &Option<Change>) -> Result<Option<Change>, No
     match out {
         Some(change) => Ok(Some(change.copy(alloc)?)),
         None => Ok(None),
-    }
-}
-
-fn copies_of_records(alloc: Global, records: &[Record]) -> Result<Vec<Record>, NoMemory>
-    ensures { IfOk result (λ copies. copies.items ≡ records.now) }
-{
-    let mut copies = Vec::with_capacity(alloc, records.len())?;
-    for value in records {
-        copies.push(copy_of_record(alloc, value)?)?;
-    }
-    Ok(copies)
-}
-
-fn copy_of_record(alloc: Global, value: &Record) -> Result<Record, NoMemory>
-    ensures { IfOk result (λ twin. twin ≡ value.now) }
-{
-    match value {
-        Record::User(user) => Ok(Record::User(user.copy(alloc)?)),
-        Record::Ban(ban) => Ok(Record::Ban(ban.copy(alloc)?)),
     }
 }

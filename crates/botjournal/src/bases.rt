@@ -9,11 +9,10 @@ ghost use Rattle.botjournal.specs.Bases.{FindsBase, is_of_its_bot};
 ghost use Rattle.botjournal.specs.Bases.{out_at, out_from, parts_at, base_at};
 
 use crate::base::Base;
-use crate::fields::{Fields, put_u16, put_u32};
 use crate::lists::{put_records, put_replies, records, replies};
 use bytetext::{Failure, NoMemory};
 use std::alloc::Global;
-use usercodec::{CodecError, CodecFault, put_change};
+use usercodec::{CodecError, CodecFault, Reader, put_change, put_u16, put_u32};
 use userfile::Change;
 
 /// The one spelling of a base.
@@ -74,10 +73,10 @@ pub fn read_base(alloc: Global, bytes: &[u8]) -> Result<Option<Base>, NoMemory>
 fn read_whole(alloc: Global, bytes: &[u8]) -> Result<Option<Base>, NoMemory>
     ensures { IfOk result (λ read. read ≡ base_in bytes.now) }
 {
-    let mut fields = Fields::new(bytes);
-    match base(alloc, &mut fields) {
+    let mut reader = Reader::new(bytes);
+    match base(alloc, &mut reader) {
         Ok(base) => {
-            if fields.is_empty() {
+            if reader.is_empty() {
                 return Ok(Some(base));
             }
             Ok(None)
@@ -88,10 +87,10 @@ fn read_whole(alloc: Global, bytes: &[u8]) -> Result<Option<Base>, NoMemory>
 }
 
 #[tactic(auto, unfolding(crate::specs::Bases::base_at))]
-fn base(alloc: Global, fields: &mut Fields<'_>) -> Result<Base, CodecError>
-    ensures { Finds (λ base. (base, fields.new)) result (base_at fields.old) }
+fn base(alloc: Global, reader: &mut Reader<'_>) -> Result<Base, CodecError>
+    ensures { Finds (λ base. (base, reader.new)) result (base_at reader.old) }
 {
-    let base = parts(alloc, fields)?;
+    let base = parts(alloc, reader)?;
     if !is_of_its_bot(&base) {
         return Err(Failure::Refused(CodecFault::NotCanonical));
     }
@@ -99,15 +98,15 @@ fn base(alloc: Global, fields: &mut Fields<'_>) -> Result<Base, CodecError>
 }
 
 #[tactic(auto, unfolding(crate::specs::Bases::parts_at))]
-fn parts(alloc: Global, fields: &mut Fields<'_>) -> Result<Base, CodecError>
-    ensures { Finds (λ base. (base, fields.new)) result (parts_at fields.old) }
+fn parts(alloc: Global, reader: &mut Reader<'_>) -> Result<Base, CodecError>
+    ensures { Finds (λ base. (base, reader.new)) result (parts_at reader.old) }
 {
-    let bot = fields.u16()?;
-    let version = fields.u32()?;
-    let records = records(alloc, fields)?;
-    let replies = replies(alloc, fields)?;
-    let last_request = fields.u32()?;
-    let out = out(alloc, fields)?;
+    let bot = reader.u16()?;
+    let version = reader.u32()?;
+    let records = records(alloc, reader)?;
+    let replies = replies(alloc, reader)?;
+    let last_request = reader.u32()?;
+    let out = out(alloc, reader)?;
     Ok(Base {
         bot,
         version,
@@ -119,20 +118,20 @@ fn parts(alloc: Global, fields: &mut Fields<'_>) -> Result<Base, CodecError>
 }
 
 #[tactic(auto, unfolding(crate::specs::Bases::out_at))]
-fn out(alloc: Global, fields: &mut Fields<'_>) -> Result<Option<Change>, CodecError>
-    ensures { Finds (λ out. (out, fields.new)) result (out_at fields.old) }
+fn out(alloc: Global, reader: &mut Reader<'_>) -> Result<Option<Change>, CodecError>
+    ensures { Finds (λ out. (out, reader.new)) result (out_at reader.old) }
 {
-    let byte = fields.byte()?;
-    out_of(alloc, byte, fields)
+    let byte = reader.byte()?;
+    out_of(alloc, byte, reader)
 }
 
 #[tactic(auto, unfolding(crate::specs::Bases::out_from))]
-fn out_of(alloc: Global, byte: u8, fields: &mut Fields<'_>) -> Result<Option<Change>, CodecError>
-    ensures { Finds (λ out. (out, fields.new)) result (out_from byte fields.old) }
+fn out_of(alloc: Global, byte: u8, reader: &mut Reader<'_>) -> Result<Option<Change>, CodecError>
+    ensures { Finds (λ out. (out, reader.new)) result (out_from byte reader.old) }
 {
     match byte {
         0 => Ok(None),
-        1 => Ok(Some(fields.change(alloc)?)),
+        1 => Ok(Some(reader.change(alloc)?)),
         _ => Err(Failure::Refused(CodecFault::NotCanonical)),
     }
 }

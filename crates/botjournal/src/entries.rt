@@ -11,10 +11,9 @@ ghost use Rattle.botjournal.specs.Entries.{entry_at, entry_fields_at, accepted_a
 ghost use Rattle.botjournal.specs.Entries.{request_out_at, request_done_at};
 
 use crate::entry::Entry;
-use crate::fields::{Fields, put_u16, put_u32};
 use bytetext::{Failure, NoMemory};
 use std::alloc::Global;
-use usercodec::{CodecError, CodecFault, byte_of_fault, put_change};
+use usercodec::{CodecError, CodecFault, Reader, byte_of_fault, put_change, put_u16, put_u32};
 use userfile::Change;
 
 /// The one spelling of an entry.
@@ -97,10 +96,10 @@ pub fn read_entry(alloc: Global, bytes: &[u8]) -> Result<Option<Entry>, NoMemory
 fn read_whole(alloc: Global, bytes: &[u8]) -> Result<Option<Entry>, NoMemory>
     ensures { IfOk result (λ read. read ≡ entry_in bytes.now) }
 {
-    let mut fields = Fields::new(bytes);
-    match entry(alloc, &mut fields) {
+    let mut reader = Reader::new(bytes);
+    match entry(alloc, &mut reader) {
         Ok(entry) => {
-            if fields.is_empty() {
+            if reader.is_empty() {
                 return Ok(Some(entry));
             }
             Ok(None)
@@ -111,34 +110,34 @@ fn read_whole(alloc: Global, bytes: &[u8]) -> Result<Option<Entry>, NoMemory>
 }
 
 #[tactic(auto, unfolding(crate::specs::Entries::entry_at))]
-fn entry(alloc: Global, fields: &mut Fields<'_>) -> Result<Entry, CodecError>
-    ensures { Makes (λ entry. (entry, fields.new)) result (entry_at fields.old) }
+fn entry(alloc: Global, reader: &mut Reader<'_>) -> Result<Entry, CodecError>
+    ensures { Makes (λ entry. (entry, reader.new)) result (entry_at reader.old) }
 {
-    let tag = fields.byte()?;
-    tagged(alloc, tag, fields)
+    let tag = reader.byte()?;
+    tagged(alloc, tag, reader)
 }
 
 #[tactic(auto, unfolding(crate::specs::Entries::entry_fields_at))]
-fn tagged(alloc: Global, tag: u8, fields: &mut Fields<'_>) -> Result<Entry, CodecError>
-    ensures { Makes (λ entry. (entry, fields.new)) result (entry_fields_at tag fields.old) }
+fn tagged(alloc: Global, tag: u8, reader: &mut Reader<'_>) -> Result<Entry, CodecError>
+    ensures { Makes (λ entry. (entry, reader.new)) result (entry_fields_at tag reader.old) }
 {
     match tag {
-        1 => accepted(alloc, fields),
-        2 => settled(fields),
-        3 => applied(alloc, fields),
-        4 => request_out(alloc, fields),
-        5 => request_done(fields),
+        1 => accepted(alloc, reader),
+        2 => settled(reader),
+        3 => applied(alloc, reader),
+        4 => request_out(alloc, reader),
+        5 => request_done(reader),
         _ => Err(Failure::Refused(CodecFault::BadTag)),
     }
 }
 
 #[tactic(auto, unfolding(crate::specs::Entries::accepted_at))]
-fn accepted(alloc: Global, fields: &mut Fields<'_>) -> Result<Entry, CodecError>
-    ensures { Makes (λ entry. (entry, fields.new)) result (accepted_at fields.old) }
+fn accepted(alloc: Global, reader: &mut Reader<'_>) -> Result<Entry, CodecError>
+    ensures { Makes (λ entry. (entry, reader.new)) result (accepted_at reader.old) }
 {
-    let origin = fields.u16()?;
-    let request = fields.u32()?;
-    let change = fields.change(alloc)?;
+    let origin = reader.u16()?;
+    let request = reader.u32()?;
+    let change = reader.change(alloc)?;
     Ok(Entry::Accepted {
         origin,
         request,
@@ -147,12 +146,12 @@ fn accepted(alloc: Global, fields: &mut Fields<'_>) -> Result<Entry, CodecError>
 }
 
 #[tactic(auto, unfolding(crate::specs::Entries::settled_at))]
-fn settled(fields: &mut Fields<'_>) -> Result<Entry, CodecError>
-    ensures { Makes (λ entry. (entry, fields.new)) result (settled_at fields.old) }
+fn settled(reader: &mut Reader<'_>) -> Result<Entry, CodecError>
+    ensures { Makes (λ entry. (entry, reader.new)) result (settled_at reader.old) }
 {
-    let leaf = fields.u16()?;
-    let request = fields.u32()?;
-    let fault = fields.fault()?;
+    let leaf = reader.u16()?;
+    let request = reader.u32()?;
+    let fault = reader.fault()?;
     Ok(Entry::Settled {
         leaf,
         request,
@@ -161,27 +160,27 @@ fn settled(fields: &mut Fields<'_>) -> Result<Entry, CodecError>
 }
 
 #[tactic(auto, unfolding(crate::specs::Entries::applied_at))]
-fn applied(alloc: Global, fields: &mut Fields<'_>) -> Result<Entry, CodecError>
-    ensures { Makes (λ entry. (entry, fields.new)) result (applied_at fields.old) }
+fn applied(alloc: Global, reader: &mut Reader<'_>) -> Result<Entry, CodecError>
+    ensures { Makes (λ entry. (entry, reader.new)) result (applied_at reader.old) }
 {
-    let number = fields.u32()?;
-    let change = fields.change(alloc)?;
+    let number = reader.u32()?;
+    let change = reader.change(alloc)?;
     Ok(Entry::Applied { number, change })
 }
 
 #[tactic(auto, unfolding(crate::specs::Entries::request_out_at))]
-fn request_out(alloc: Global, fields: &mut Fields<'_>) -> Result<Entry, CodecError>
-    ensures { Makes (λ entry. (entry, fields.new)) result (request_out_at fields.old) }
+fn request_out(alloc: Global, reader: &mut Reader<'_>) -> Result<Entry, CodecError>
+    ensures { Makes (λ entry. (entry, reader.new)) result (request_out_at reader.old) }
 {
-    let request = fields.u32()?;
-    let change = fields.change(alloc)?;
+    let request = reader.u32()?;
+    let change = reader.change(alloc)?;
     Ok(Entry::ReqOut { request, change })
 }
 
 #[tactic(auto, unfolding(crate::specs::Entries::request_done_at))]
-fn request_done(fields: &mut Fields<'_>) -> Result<Entry, CodecError>
-    ensures { Makes (λ entry. (entry, fields.new)) result (request_done_at fields.old) }
+fn request_done(reader: &mut Reader<'_>) -> Result<Entry, CodecError>
+    ensures { Makes (λ entry. (entry, reader.new)) result (request_done_at reader.old) }
 {
-    let request = fields.u32()?;
+    let request = reader.u32()?;
     Ok(Entry::ReqDone { request })
 }

@@ -22,7 +22,6 @@ mod base;
 mod bases;
 mod entries;
 mod entry;
-mod fields;
 mod journal;
 mod laws;
 mod lists;

@@ -9,11 +9,13 @@ ghost use Rattle.botjournal.specs.Whole.{Finds};
 ghost use Rattle.botjournal.specs.Bases.{listed, answer_bytes, reply_bytes, are_rising, rises_from};
 ghost use Rattle.botjournal.specs.Bases.{answer_at, answer_from, reply_at, records_at, replies_at, replies_listed_at};
 
-use crate::fields::{Fields, put_u16, put_u32};
 use crate::reply::{Answer, Reply};
 use bytetext::{Failure, NoMemory, Seq};
 use std::alloc::Global;
-use usercodec::{CodecError, CodecFault, Record, byte_of_fault, fault_of_byte, put_record};
+use usercodec::{
+    CodecError, CodecFault, Reader, Record, byte_of_fault, fault_of_byte, put_record, put_u16,
+    put_u32,
+};
 
 // ---- written
 
@@ -66,25 +68,25 @@ fn put_answer(out: &mut Vec<u8>, answer: Answer) -> Result<(), NoMemory>
 // ---- read
 
 #[tactic(auto, unfolding(crate::specs::Bases::records_at))]
-pub(crate) fn records(alloc: Global, fields: &mut Fields<'_>) -> Result<Seq<Record>, CodecError>
-    ensures { Finds (λ records. (records, fields.new)) result (records_at fields.old) }
+pub(crate) fn records(alloc: Global, reader: &mut Reader<'_>) -> Result<Seq<Record>, CodecError>
+    ensures { Finds (λ records. (records, reader.new)) result (records_at reader.old) }
 {
-    let count = fields.u16()?;
-    let records = so_many_records(alloc, fields, count)?;
+    let count = reader.u16()?;
+    let records = so_many_records(alloc, reader, count)?;
     Ok(Seq::new(records))
 }
 
 fn so_many_records(
     alloc: Global,
-    fields: &mut Fields<'_>,
+    reader: &mut Reader<'_>,
     count: u16,
 ) -> Result<Vec<Record>, CodecError>
-    ensures { Finds (λ records. (records.items, fields.new)) result
-        (items_at (λ held bytes. record_at bytes) count [] fields.old) }
+    ensures { Finds (λ records. (records.items, reader.new)) result
+        (items_at (λ held bytes. record_at bytes) count [] reader.old) }
 {
     let mut records = Vec::new(alloc);
     for _ in 0..count {
-        match fields.record(alloc) {
+        match reader.record(alloc) {
             Ok(value) => records.push(value)?,
             Err(error) => return Err(error),
         }
@@ -93,10 +95,10 @@ fn so_many_records(
 }
 
 #[tactic(auto, unfolding(crate::specs::Bases::replies_at))]
-pub(crate) fn replies(alloc: Global, fields: &mut Fields<'_>) -> Result<Seq<Reply>, CodecError>
-    ensures { Finds (λ replies. (replies, fields.new)) result (replies_at fields.old) }
+pub(crate) fn replies(alloc: Global, reader: &mut Reader<'_>) -> Result<Seq<Reply>, CodecError>
+    ensures { Finds (λ replies. (replies, reader.new)) result (replies_at reader.old) }
 {
-    let replies = listed_replies(alloc, fields)?;
+    let replies = listed_replies(alloc, reader)?;
     if !rise(&replies) {
         return Err(Failure::Refused(CodecFault::NotCanonical));
     }
@@ -104,24 +106,24 @@ pub(crate) fn replies(alloc: Global, fields: &mut Fields<'_>) -> Result<Seq<Repl
 }
 
 #[tactic(auto, unfolding(crate::specs::Bases::replies_listed_at))]
-fn listed_replies(alloc: Global, fields: &mut Fields<'_>) -> Result<Vec<Reply>, CodecError>
-    ensures { Finds (λ replies. (replies.items, fields.new)) result (replies_listed_at fields.old) }
+fn listed_replies(alloc: Global, reader: &mut Reader<'_>) -> Result<Vec<Reply>, CodecError>
+    ensures { Finds (λ replies. (replies.items, reader.new)) result (replies_listed_at reader.old) }
 {
-    let count = fields.u16()?;
-    so_many_replies(alloc, fields, count)
+    let count = reader.u16()?;
+    so_many_replies(alloc, reader, count)
 }
 
 fn so_many_replies(
     alloc: Global,
-    fields: &mut Fields<'_>,
+    reader: &mut Reader<'_>,
     count: u16,
 ) -> Result<Vec<Reply>, CodecError>
-    ensures { Finds (λ replies. (replies.items, fields.new)) result
-        (items_at (λ held bytes. reply_at bytes) count [] fields.old) }
+    ensures { Finds (λ replies. (replies.items, reader.new)) result
+        (items_at (λ held bytes. reply_at bytes) count [] reader.old) }
 {
     let mut replies = Vec::new(alloc);
     for _ in 0..count {
-        match reply(fields) {
+        match reply(reader) {
             Ok(reply) => replies.push(reply)?,
             Err(error) => return Err(error),
         }
@@ -130,12 +132,12 @@ fn so_many_replies(
 }
 
 #[tactic(auto, unfolding(crate::specs::Bases::reply_at))]
-fn reply(fields: &mut Fields<'_>) -> Result<Reply, CodecError>
-    ensures { Gives (λ reply. (reply, fields.new)) result (reply_at fields.old) }
+fn reply(reader: &mut Reader<'_>) -> Result<Reply, CodecError>
+    ensures { Gives (λ reply. (reply, reader.new)) result (reply_at reader.old) }
 {
-    let leaf = fields.u16()?;
-    let request = fields.u32()?;
-    let answer = answer(fields)?;
+    let leaf = reader.u16()?;
+    let request = reader.u32()?;
+    let answer = answer(reader)?;
     Ok(Reply {
         leaf,
         request,
@@ -144,19 +146,19 @@ fn reply(fields: &mut Fields<'_>) -> Result<Reply, CodecError>
 }
 
 #[tactic(auto, unfolding(crate::specs::Bases::answer_at))]
-fn answer(fields: &mut Fields<'_>) -> Result<Answer, CodecError>
-    ensures { Gives (λ answer. (answer, fields.new)) result (answer_at fields.old) }
+fn answer(reader: &mut Reader<'_>) -> Result<Answer, CodecError>
+    ensures { Gives (λ answer. (answer, reader.new)) result (answer_at reader.old) }
 {
-    let byte = fields.byte()?;
-    answer_of(byte, fields)
+    let byte = reader.byte()?;
+    answer_of(byte, reader)
 }
 
 #[tactic(auto, unfolding(crate::specs::Bases::answer_from))]
-fn answer_of(byte: u8, fields: &mut Fields<'_>) -> Result<Answer, CodecError>
-    ensures { Gives (λ answer. (answer, fields.new)) result (answer_from byte fields.old) }
+fn answer_of(byte: u8, reader: &mut Reader<'_>) -> Result<Answer, CodecError>
+    ensures { Gives (λ answer. (answer, reader.new)) result (answer_from byte reader.old) }
 {
     if byte == 0 {
-        return Ok(Answer::Taken(fields.u32()?));
+        return Ok(Answer::Taken(reader.u32()?));
     }
     match fault_of_byte(byte) {
         Some(fault) => Ok(Answer::Refused(fault)),

@@ -1,5 +1,5 @@
 -- Bodies of each kind: what is read is spelled so, and what is spelled so is read.
-use Rattle.std.proofs.Common.{◌≡◌, ℕ, ◌^◌, ◌<◌, true, List, [], ◌∷◌, ◌++◌, Option, Some, Ok, Err, refl, sym, ap, subst, ◌∙◌}
+use Rattle.std.proofs.Common.{◌≡◌, ℕ, ◌^◌, ◌<◌, true, List, [], ◌∷◌, ◌++◌, Some, Ok, Err, refl, sym, ap, subst, ◌∙◌}
 use Rattle.std.specs.Int.{w16, w32}
 use Rattle.std.proofs.lemmas.List.{append-nil}
 use Rattle.usercodec.specs.declared.fault.CodecFault.{CodecFault}
@@ -15,7 +15,8 @@ use Rattle.usercodec.specs.FaultBytes.{fault_byte, fault_at}
 use Rattle.sharewire.specs.Texts.{is_bot_text}
 use Rattle.sharewire.specs.Frames.{long_text, body_of, inside, IsGoodPacket}
 use Rattle.sharewire.specs.Bodies.{bot_text_at, hello_at, change_packet_at, request_at, accepted_at, refused_at, bot_text_packet_at, body_at}
-use Rattle.usercodec.proofs.PartLaws.{IsPart, u16_part, u32_part, change_part, fault_part, both_part}
+use Rattle.usercodec.proofs.PartLaws.{IsPart, both_part}
+use Rattle.usercodec.proofs.ReaderLaws.{u16_part, u32_part, change_part, fault_part, some_is}
 use Rattle.sharewire.proofs.LongTextLaws.{bot_text_part}
 
 -- ---- the fields of each kind
@@ -98,9 +99,6 @@ kind_from-byte request = refl
 kind_from-byte accepted = refl
 kind_from-byte refused = refl
 kind_from-byte bot_text = refl
-
-some_is : {A : Type 0} (x y : A) → (let s : Option A = Some x in s) ≡ Some y → x ≡ y
-some_is x y e = cc
 
 pub same_kind : (a b : Kind) → kind_byte a ≡ kind_byte b → a ≡ b
 same_kind a b e = some_is a b (sym (kind_from-byte a) ∙ ap kind_from e ∙ kind_from-byte b)

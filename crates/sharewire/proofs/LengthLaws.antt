@@ -2,11 +2,7 @@
 use Rattle.std.proofs.Common.{◌≡◌, ℕ, ◌<◌, ◌≤◌, true, List, length, arith}
 use Rattle.std.proofs.lemmas.Bool.Decides.{nat_tests}
 use Rattle.std.proofs.lemmas.List.{length-append}
-use Rattle.userfile.specs.declared.change.Change.TheVariants.{AddUser, DelUser, AddHost, DelHost, SetGlobal, SetChan, SetBot, AddBan, DelBan}
-use Rattle.userfile.specs.declared.change.Change.{Change}
-use Rattle.usercodec.specs.Lengths.{ChangeIsShort}
-use Rattle.usercodec.specs.Changes.{change_bytes}
-use Rattle.usercodec.proofs.ShapeLaws.{short_texts}
+use Rattle.usercodec.proofs.ShapeLaws.{short_texts, change_is_short}
 use Rattle.sharewire.specs.declared.packet.Packet.{Packet}
 use Rattle.sharewire.specs.declared.packet.Packet.TheVariants.{Hello, Change as change_packet, Request, Accepted, Refused, BotText}
 use Rattle.sharewire.specs.Texts.{is_bot_text}
@@ -15,17 +11,6 @@ use Rattle.sharewire.specs.Frames.{inside, CanBeWritten}
 pub bot_text_is_short : (text : List ℕ) → is_bot_text text ≡ true → length text ≤ 400
 unfolding is_bot_text
 bot_text_is_short text good = grind (arith, nat_tests)
-
-pub change_is_short : (change : Change) → ChangeIsShort change → length (change_bytes change) < 2000
-change_is_short (AddUser handle) short = omega arith
-change_is_short (DelUser handle) short = omega arith
-change_is_short (AddHost handle mask) short = simp length-append (omega arith)
-change_is_short (DelHost handle mask) short = simp length-append (omega arith)
-change_is_short (SetGlobal handle bits) short = simp length-append (omega arith)
-change_is_short (SetChan handle channel bits) short = simp length-append (omega arith)
-change_is_short (SetBot handle bits) short = simp length-append (omega arith)
-change_is_short (AddBan channel mask creator expires comment) short = simp length-append (omega arith)
-change_is_short (DelBan channel mask) short = simp length-append (omega arith)
 
 pub inside_is_short : (packet : Packet) → CanBeWritten packet → length (inside packet) < 2100
 inside_is_short (Hello leaf version) can = omega arith

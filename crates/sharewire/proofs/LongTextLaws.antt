@@ -1,11 +1,11 @@
 -- The text of a bot: what is read is spelled so, and what is spelled so is read.
-use Rattle.std.proofs.Common.{◌≡◌, ℕ, ◌^◌, ◌<◌, true, cond, List, ◌++◌, length, Ok, Err, refl, sym, ap, subst, ◌∙◌, append_assoc, arith}
+use Rattle.std.proofs.Common.{◌≡◌, ℕ, ◌^◌, ◌<◌, true, List, ◌++◌, length, Ok, sym, ap, subst, ◌∙◌, append_assoc, arith}
 use Rattle.std.specs.Int.{w16}
-use Rattle.usercodec.specs.declared.fault.CodecFault.TheVariants.{NotCanonical}
-use Rattle.usercodec.specs.Fields.{number, bytes_at, number_at}
-use Rattle.usercodec.proofs.Steps.{IsBytes, bind_ok, guard_ok, Takes, Takes-then}
+use Rattle.usercodec.specs.Fields.{number, checked, bytes_at, number_at}
+use Rattle.usercodec.proofs.Steps.{IsBytes, bind_ok, Takes, Takes-then}
 use Rattle.usercodec.proofs.FieldLaws.{bytes_takes, bytes_again}
-use Rattle.usercodec.proofs.PartLaws.{IsPart, u16_part}
+use Rattle.usercodec.proofs.PartLaws.{IsPart, checked_part}
+use Rattle.usercodec.proofs.ReaderLaws.{u16_part}
 use Rattle.sharewire.specs.Texts.{is_bot_text}
 use Rattle.sharewire.specs.Frames.{long_text}
 use Rattle.sharewire.specs.Bodies.{long_text_at, bot_text_at}
@@ -30,16 +30,10 @@ long_text_part = record { takes = takes; again = again }
 
 pub bot_text_part : IsPart bot_text_at long_text (λ text. is_bot_text text ≡ true)
 unfolding bot_text_at
-bot_text_part = record { takes = takes; again = again }
+bot_text_part = record { takes = λ bytes x rest fits e. (let t = tested.takes bytes x rest fits e in (t.0, t.1.1)); again = again }
   where
-    takes : (bytes x rest : List ℕ) → IsBytes bytes → bot_text_at bytes ≡ Ok (x, rest) → Takes bytes (long_text x) rest × (is_bot_text x ≡ true)
-    takes bytes x rest fits e =
-        let a = bind_ok (long_text_at bytes) (λ y. cond (is_bot_text y.0) (Ok y) (Err NotCanonical)) (x, rest) e in
-        let g = guard_ok (is_bot_text a.0.0) NotCanonical a.0 (x, rest) a.2 in
-        let t = long_text_part.takes bytes a.0.0 a.0.1 fits a.1 in
-        subst (λ (p : List ℕ × List ℕ). Takes bytes (long_text p.0) p.1 × (is_bot_text p.0 ≡ true)) g.1 (t.0, g.0)
+    tested : IsPart (λ bytes. checked is_bot_text (long_text_at bytes)) long_text (λ text. (length text < 2 ^ 16) × (is_bot_text text ≡ true))
+    tested = checked_part long_text_part is_bot_text
 
     again : (x rest : List ℕ) → is_bot_text x ≡ true → bot_text_at (long_text x ++ rest) ≡ Ok (x, rest)
-    again x rest good =
-        let fits : length x < 2 ^ 16 = omega (arith, bot_text_is_short x good) in
-        rw (long_text_part.again x rest fits, good) refl
+    again x rest good = tested.again x rest (omega (arith, bot_text_is_short x good), good)

@@ -4,43 +4,43 @@ ghost use Rattle.usercodec.specs.Answers.{Makes};
 ghost use Rattle.sharewire.specs.Bodies.{hello_at, change_packet_at, request_at, accepted_at, refused_at};
 ghost use Rattle.sharewire.specs.Bodies.{body_at, bot_text_packet_at};
 
-use crate::fields::Fields;
 use crate::kind::Kind;
+use crate::long_text::bot_text;
 use crate::packet::Packet;
 use bytetext::{Failure, NoMemory};
 use std::alloc::Global;
-use usercodec::CodecError;
+use usercodec::{CodecError, Reader};
 
-fn packet(alloc: Global, kind: Kind, fields: &mut Fields<'_>) -> Result<Packet, CodecError>
-    ensures { Makes (λ packet. (packet, fields.new)) result (body_at kind fields.old) }
+fn packet(alloc: Global, kind: Kind, reader: &mut Reader<'_>) -> Result<Packet, CodecError>
+    ensures { Makes (λ packet. (packet, reader.new)) result (body_at kind reader.old) }
 {
     match kind {
-        Kind::Hello => hello(fields),
-        Kind::Change => change(alloc, fields),
-        Kind::Request => request(alloc, fields),
-        Kind::Accepted => accepted(fields),
-        Kind::Refused => refused(fields),
-        Kind::BotText => bot_text(alloc, fields),
+        Kind::Hello => hello(reader),
+        Kind::Change => change(alloc, reader),
+        Kind::Request => request(alloc, reader),
+        Kind::Accepted => accepted(reader),
+        Kind::Refused => refused(reader),
+        Kind::BotText => bot_text_packet(alloc, reader),
     }
 }
 
 #[tactic(auto, unfolding(crate::specs::Bodies::hello_at))]
-fn hello(fields: &mut Fields<'_>) -> Result<Packet, CodecError>
-    ensures { Makes (λ packet. (packet, fields.new)) result (hello_at fields.old) }
+fn hello(reader: &mut Reader<'_>) -> Result<Packet, CodecError>
+    ensures { Makes (λ packet. (packet, reader.new)) result (hello_at reader.old) }
 {
-    let leaf = fields.u16()?;
-    let version = fields.u32()?;
+    let leaf = reader.u16()?;
+    let version = reader.u32()?;
     Ok(Packet::Hello { leaf, version })
 }
 
 #[tactic(auto, unfolding(crate::specs::Bodies::change_packet_at))]
-fn change(alloc: Global, fields: &mut Fields<'_>) -> Result<Packet, CodecError>
-    ensures { Makes (λ packet. (packet, fields.new)) result (change_packet_at fields.old) }
+fn change(alloc: Global, reader: &mut Reader<'_>) -> Result<Packet, CodecError>
+    ensures { Makes (λ packet. (packet, reader.new)) result (change_packet_at reader.old) }
 {
-    let number = fields.u32()?;
-    let origin = fields.u16()?;
-    let request = fields.u32()?;
-    let change = fields.change(alloc)?;
+    let number = reader.u32()?;
+    let origin = reader.u16()?;
+    let request = reader.u32()?;
+    let change = reader.change(alloc)?;
     Ok(Packet::Change {
         number,
         origin,
@@ -50,12 +50,12 @@ fn change(alloc: Global, fields: &mut Fields<'_>) -> Result<Packet, CodecError>
 }
 
 #[tactic(auto, unfolding(crate::specs::Bodies::request_at))]
-fn request(alloc: Global, fields: &mut Fields<'_>) -> Result<Packet, CodecError>
-    ensures { Makes (λ packet. (packet, fields.new)) result (request_at fields.old) }
+fn request(alloc: Global, reader: &mut Reader<'_>) -> Result<Packet, CodecError>
+    ensures { Makes (λ packet. (packet, reader.new)) result (request_at reader.old) }
 {
-    let leaf = fields.u16()?;
-    let request = fields.u32()?;
-    let change = fields.change(alloc)?;
+    let leaf = reader.u16()?;
+    let request = reader.u32()?;
+    let change = reader.change(alloc)?;
     Ok(Packet::Request {
         leaf,
         request,
@@ -64,12 +64,12 @@ fn request(alloc: Global, fields: &mut Fields<'_>) -> Result<Packet, CodecError>
 }
 
 #[tactic(auto, unfolding(crate::specs::Bodies::accepted_at))]
-fn accepted(fields: &mut Fields<'_>) -> Result<Packet, CodecError>
-    ensures { Makes (λ packet. (packet, fields.new)) result (accepted_at fields.old) }
+fn accepted(reader: &mut Reader<'_>) -> Result<Packet, CodecError>
+    ensures { Makes (λ packet. (packet, reader.new)) result (accepted_at reader.old) }
 {
-    let leaf = fields.u16()?;
-    let request = fields.u32()?;
-    let number = fields.u32()?;
+    let leaf = reader.u16()?;
+    let request = reader.u32()?;
+    let number = reader.u32()?;
     Ok(Packet::Accepted {
         leaf,
         request,
@@ -78,12 +78,12 @@ fn accepted(fields: &mut Fields<'_>) -> Result<Packet, CodecError>
 }
 
 #[tactic(auto, unfolding(crate::specs::Bodies::refused_at))]
-fn refused(fields: &mut Fields<'_>) -> Result<Packet, CodecError>
-    ensures { Makes (λ packet. (packet, fields.new)) result (refused_at fields.old) }
+fn refused(reader: &mut Reader<'_>) -> Result<Packet, CodecError>
+    ensures { Makes (λ packet. (packet, reader.new)) result (refused_at reader.old) }
 {
-    let leaf = fields.u16()?;
-    let request = fields.u32()?;
-    let fault = fields.fault()?;
+    let leaf = reader.u16()?;
+    let request = reader.u32()?;
+    let fault = reader.fault()?;
     Ok(Packet::Refused {
         leaf,
         request,
@@ -92,12 +92,12 @@ fn refused(fields: &mut Fields<'_>) -> Result<Packet, CodecError>
 }
 
 #[tactic(auto, unfolding(crate::specs::Bodies::bot_text_packet_at))]
-fn bot_text(alloc: Global, fields: &mut Fields<'_>) -> Result<Packet, CodecError>
-    ensures { Makes (λ packet. (packet, fields.new)) result (bot_text_packet_at fields.old) }
+fn bot_text_packet(alloc: Global, reader: &mut Reader<'_>) -> Result<Packet, CodecError>
+    ensures { Makes (λ packet. (packet, reader.new)) result (bot_text_packet_at reader.old) }
 {
-    let from = fields.u16()?;
-    let to = fields.u16()?;
-    let text = fields.bot_text(alloc)?;
+    let from = reader.u16()?;
+    let to = reader.u16()?;
+    let text = bot_text(alloc, reader)?;
     Ok(Packet::BotText { from, to, text })
 }
 
@@ -107,10 +107,10 @@ ghost use Rattle.sharewire.specs.Steps.{ReadsBody};
 pub(crate) fn read_body(alloc: Global, kind: Kind, body: &[u8]) -> Result<Option<Packet>, NoMemory>
     ensures { ReadsBody kind body.now result }
 {
-    let mut fields = Fields::new(body);
-    match packet(alloc, kind, &mut fields) {
+    let mut reader = Reader::new(body);
+    match packet(alloc, kind, &mut reader) {
         Ok(packet) => {
-            if fields.is_empty() {
+            if reader.is_empty() {
                 return Ok(Some(packet));
             }
             Ok(None)

@@ -32,12 +32,12 @@
 mod body;
 mod fault;
 mod feed;
-mod fields;
 mod frames;
 mod front;
 mod kind;
 mod laws;
 mod limits;
+mod long_text;
 mod packet;
 mod pieces;
 mod reader;

@@ -1,6 +1,6 @@
 // A stream of bytes to packets, in whatever pieces it comes.
 ghost use Rattle.std.specs.Prelude.{◌≡◌, ◌≤◌, ◌+◌, ◌-◌, List, ℕ, [], ◌++◌, drop, length};
-ghost use Rattle.std.specs.Prelude.{IfOk, OnOk, OnErr, IsErr, IsOk};
+ghost use Rattle.std.specs.Prelude.{IfOk, OnErr, IsErr, IsOk};
 ghost use Rattle.sharewire.specs.declared.packet.Packet.{Packet};
 ghost use Rattle.sharewire.specs.declared.limits.TheConstants.{MAX_LENGTH};
 ghost use Rattle.sharewire.specs.Streams.{Tells, ended, fault_told};
@@ -15,7 +15,7 @@ use std::marker::Model;
 /// The packets of a stream, which is fed in pieces, cut anywhere.
 ///
 /// Contracts see how the stream ends so far: in the begin of a frame, whose bytes are kept, or at a fault. No more is
-/// kept than one frame that is not whole.
+/// kept than one frame that is not whole, in room that the next piece uses again.
 ///
 /// ```text
 /// let mut reader = WireReader::new(alloc);
@@ -114,26 +114,21 @@ fn take_frames(alloc: Global, held: &mut Vec<u8>) -> Result<Feed, NoMemory>
         fault,
     } = read_frames(alloc, held.as_slice())?;
     let left = if fault.is_some() { 0 } else { rest.len() };
-    keep_last(alloc, held, left)?;
+    keep_last(held, left);
     Ok(Feed {
         packets: Seq::new(packets),
         fault,
     })
 }
 
-// Keeps so many of the last bytes.
-fn keep_last(alloc: Global, held: &mut Vec<u8>, count: usize) -> Result<(), NoMemory>
+// Keeps so many of the last bytes, in the room that they have.
+fn keep_last(held: &mut Vec<u8>, count: usize)
     requires { count ≤ length held.old.items }
-    ensures kept { OnOk result (held.new.items ≡ drop (length held.old.items - count) held.old.items) }
-    ensures unchanged { OnErr result (held.new.items ≡ held.old.items) }
+    ensures { held.new.items ≡ drop (length held.old.items - count) held.old.items }
 {
-    if count == 0 {
-        held.clear();
-        return Ok(());
-    }
     let gone = held.len() - count;
     if gone > 0 {
-        *held = Vec::from_slice(alloc, &held[gone..])?;
+        held.copy_within(gone.., 0);
+        held.truncate(count);
     }
-    Ok(())
 }

@@ -1,14 +1,12 @@
 // Packets as frames.
-ghost use Rattle.std.specs.Prelude.{◌≡◌, ◌++◌, IfOk, OnOk, true};
-ghost use Rattle.std.specs.Int.{w16, w32};
-ghost use Rattle.usercodec.specs.Fields.{number};
-ghost use Rattle.sharewire.specs.Texts.{is_bot_text};
-ghost use Rattle.sharewire.specs.Frames.{body_of, frame, long_text, CanBeWritten};
+ghost use Rattle.std.specs.Prelude.{◌≡◌, ◌++◌, IfOk, OnOk};
+ghost use Rattle.sharewire.specs.Frames.{body_of, frame, CanBeWritten};
 
+use crate::long_text::put_long_text;
 use crate::packet::Packet;
 use bytetext::NoMemory;
 use std::alloc::Global;
-use usercodec::{byte_of_fault, put_change};
+use usercodec::{byte_of_fault, put_change, put_u16, put_u32};
 
 // Most frames have no more bytes.
 const USUAL: usize = 64;
@@ -88,27 +86,4 @@ fn put_body(out: &mut Vec<u8>, packet: &Packet) -> Result<(), NoMemory>
             put_long_text(out, text.as_bytes())
         }
     }
-}
-
-fn put_long_text(out: &mut Vec<u8>, text: &[u8]) -> Result<(), NoMemory>
-    requires { is_bot_text text.now ≡ true }
-    ensures { OnOk result (out.new.items ≡ out.old.items ++ long_text text.now) }
-{
-    put_u16(out, text.len() as u16)?;
-    out.extend_from_slice(text)?;
-    Ok(())
-}
-
-fn put_u16(out: &mut Vec<u8>, n: u16) -> Result<(), NoMemory>
-    ensures { OnOk result (out.new.items ≡ out.old.items ++ number w16 n) }
-{
-    out.extend_from_slice(&n.to_be_bytes())?;
-    Ok(())
-}
-
-fn put_u32(out: &mut Vec<u8>, n: u32) -> Result<(), NoMemory>
-    ensures { OnOk result (out.new.items ≡ out.old.items ++ number w32 n) }
-{
-    out.extend_from_slice(&n.to_be_bytes())?;
-    Ok(())
 }

@@ -18,7 +18,7 @@ use Rattle.usercodec.specs.Laws.{Stays}
 use Rattle.usercodec.proofs.ShapeLaws.{handle_is_short, channel_is_short, ban_channel_is_short, hostmask_is_short, comment_is_short, fields_pass}
 use Rattle.usercodec.proofs.ShapeLaws.{shape_passes}
 use Rattle.usercodec.proofs.Steps.{IsBytes, chosen, bind_ok, ok_is, Takes, Takes-then, stays_bind, stays_if, NoTag, no_tag_bind}
-use Rattle.usercodec.proofs.FieldLaws.{IsSort, IsField, byte_field, wide64, number_field, text_field, checked_field, both_field}
+use Rattle.usercodec.proofs.FieldLaws.{IsSort, IsField, byte_field, field64, text_field, checked_field, both_field}
 
 -- ---- the fields of changes
 
@@ -47,10 +47,7 @@ letters_fit bits passes = let lt = ltb-true bits (2 ^ 52) passes in omega arith
 
 pub flags_field : IsField flags_at flags (λ bits. nat_lt bits (2 ^ 52) ≡ true)
 unfolding flags_at
-flags_field = checked_field (number_field w64 (2 ^ 64) wide64) (λ bits. nat_lt bits (2 ^ 52)) letters_fit
-
-pub moment_field : IsField (number_at w64) (number w64) (λ n. n < 2 ^ 64)
-moment_field = number_field w64 (2 ^ 64) wide64
+flags_field = checked_field field64 (λ bits. nat_lt bits (2 ^ 52)) letters_fit
 
 -- ---- several fields, each after the other
 
@@ -80,7 +77,7 @@ new_ban channel mask creator expires comment =
 
 pub ban_field : IsField ban_at ban_bytes BanPasses
 unfolding ban_at
-ban_field = record { laws = record { takes = takes; again = again; stays = stays }; no_tag = no_tag }
+ban_field = record { laws = record { part = record { takes = takes; again = again }; stays = stays }; no_tag = no_tag }
   where
     takes : (bytes : List ℕ) (x : Ban) (rest : List ℕ) → IsBytes bytes → ban_at bytes ≡ Ok (x, rest) → Takes bytes (ban_bytes x) rest × BanPasses x
     takes bytes x rest fits e =
@@ -91,11 +88,11 @@ ban_field = record { laws = record { takes = takes; again = again; stays = stays
         let c = bind_ok (handle_at b.0.1) (λ c. number_at w64 c.1 >>= λ d. comment_at d.1 >>= λ e. Ok (new_ban a.0.0 b.0.0 c.0 d.0 e.0, e.1)) (x, rest) b.2 in
         let d = bind_ok (number_at w64 c.0.1) (λ d. comment_at d.1 >>= λ e. Ok (new_ban a.0.0 b.0.0 c.0.0 d.0 e.0, e.1)) (x, rest) c.2 in
         let f = bind_ok (comment_at d.0.1) (λ e. Ok (new_ban a.0.0 b.0.0 c.0.0 d.0.0 e.0, e.1)) (x, rest) d.2 in
-        let ta = ban_channel_field.laws.takes bytes a.0.0 a.0.1 fits a.1 in
-        let tb = hostmask_field.laws.takes a.0.1 b.0.0 b.0.1 ta.0.rest_fits b.1 in
-        let tc = handle_field.laws.takes b.0.1 c.0.0 c.0.1 tb.0.rest_fits c.1 in
-        let td = moment_field.laws.takes c.0.1 d.0.0 d.0.1 tc.0.rest_fits d.1 in
-        let tf = comment_field.laws.takes d.0.1 f.0.0 f.0.1 td.0.rest_fits f.1 in
+        let ta = ban_channel_field.laws.part.takes bytes a.0.0 a.0.1 fits a.1 in
+        let tb = hostmask_field.laws.part.takes a.0.1 b.0.0 b.0.1 ta.0.rest_fits b.1 in
+        let tc = handle_field.laws.part.takes b.0.1 c.0.0 c.0.1 tb.0.rest_fits c.1 in
+        let td = field64.laws.part.takes c.0.1 d.0.0 d.0.1 tc.0.rest_fits d.1 in
+        let tf = comment_field.laws.part.takes d.0.1 f.0.0 f.0.1 td.0.rest_fits f.1 in
         let e4 = Takes-then c.0.1 (number w64 d.0.0) d.0.1 (text f.0.0) f.0.1 td.0 tf.0 in
         let e3 = Takes-then b.0.1 (text c.0.0) c.0.1 (number w64 d.0.0 ++ text f.0.0) f.0.1 tc.0 e4 in
         let e2 = Takes-then a.0.1 (text b.0.0) b.0.1 (text c.0.0 ++ (number w64 d.0.0 ++ text f.0.0)) f.0.1 tb.0 e3 in
@@ -113,11 +110,11 @@ ban_field = record { laws = record { takes = takes; again = again; stays = stays
         let grouped : ban_bytes x ++ rest ≡ text x.channel ++ after_channel = simp append_assoc in
         ap ban_at grouped
         ∙ rw (
-          ban_channel_field.laws.again x.channel after_channel good.channel,
-          hostmask_field.laws.again x.mask after_mask good.mask,
-          handle_field.laws.again x.creator after_creator good.creator,
-          moment_field.laws.again x.expires after_moment good.expires,
-          comment_field.laws.again x.comment rest good.comment,
+          ban_channel_field.laws.part.again x.channel after_channel good.channel,
+          hostmask_field.laws.part.again x.mask after_mask good.mask,
+          handle_field.laws.part.again x.creator after_creator good.creator,
+          field64.laws.part.again x.expires after_moment good.expires,
+          comment_field.laws.part.again x.comment rest good.comment,
         ) refl
 
     stays : (bytes more : List ℕ) → Stays (ban_at bytes) (ban_at (bytes ++ more)) more
@@ -125,7 +122,7 @@ ban_field = record { laws = record { takes = takes; again = again; stays = stays
         stays_bind (ban_channel_at bytes) _ _ more (ban_channel_field.laws.stays bytes more) (λ a.
         stays_bind (hostmask_at a.1) _ _ more (hostmask_field.laws.stays a.1 more) (λ b.
         stays_bind (handle_at b.1) _ _ more (handle_field.laws.stays b.1 more) (λ c.
-        stays_bind (number_at w64 c.1) _ _ more (moment_field.laws.stays c.1 more) (λ d.
+        stays_bind (number_at w64 c.1) _ _ more (field64.laws.stays c.1 more) (λ d.
         stays_bind (comment_at d.1) _ _ more (comment_field.laws.stays d.1 more) (λ e. refl)))))
 
     no_tag : (bytes : List ℕ) → NoTag (ban_at bytes)
@@ -133,7 +130,7 @@ ban_field = record { laws = record { takes = takes; again = again; stays = stays
         no_tag_bind (ban_channel_at bytes) _ (ban_channel_field.no_tag bytes) (λ a.
         no_tag_bind (hostmask_at a.1) _ (hostmask_field.no_tag a.1) (λ b.
         no_tag_bind (handle_at b.1) _ (handle_field.no_tag b.1) (λ c.
-        no_tag_bind (number_at w64 c.1) _ (moment_field.no_tag c.1) (λ d.
+        no_tag_bind (number_at w64 c.1) _ (field64.no_tag c.1) (λ d.
         no_tag_bind (comment_at d.1) _ (comment_field.no_tag d.1) (λ e. tt)))))
 
 -- ---- what stands after a tag
@@ -154,7 +151,7 @@ tagged_takes : {A : Type 0} {read : List ℕ → Reading A} {spelling : A → Li
 tagged_takes {A = A} {read = read} {spelling = spelling} kind tag change_of tagged bytes x rest fits same e =
     let tag_is : tag ≡ kind = eqb-true tag kind same in
     let a = bind_ok (read bytes) (λ y. Ok (change_of y.0, y.1)) (x, rest) e in
-    let t = tagged.field.laws.takes bytes a.0.0 a.0.1 fits a.1 in
+    let t = tagged.field.laws.part.takes bytes a.0.0 a.0.1 fits a.1 in
     let front : tag ∷ bytes ≡ (kind ∷ spelling a.0.0) ++ a.0.1 = ap (λ (k : ℕ). k ∷ bytes) tag_is ∙ ap (λ (b : List ℕ). kind ∷ b) t.0.parts in
     let parts : tag ∷ bytes ≡ change_bytes (change_of a.0.0) ++ a.0.1 = front ∙ ap (λ (b : List ℕ). b ++ a.0.1) (sym (tagged.spelled a.0.0)) in
     subst (λ (p : Change × List ℕ). Taken tag bytes p.0 p.1) (ok_is (change_of a.0.0, a.0.1) (x, rest) a.2)
@@ -277,7 +274,7 @@ fields_stay tag bytes more =
 
 pub change_sort : IsSort change_at change_bytes IsGoodChange
 unfolding change_at fields_at set_chan_at add_ban_at byte_at
-change_sort = record { takes = takes; again = again; stays = stays }
+change_sort = record { part = record { takes = takes; again = again }; stays = stays }
   where
     takes : (bytes : List ℕ) (x : Change) (rest : List ℕ) → IsBytes bytes → change_at bytes ≡ Ok (x, rest)
         → Takes bytes (change_bytes x) rest × IsGoodChange x
@@ -286,7 +283,7 @@ change_sort = record { takes = takes; again = again; stays = stays }
 
     of : {A : Type 0} {read : List ℕ → Reading A} {spelling : A → List ℕ} {IsGood : A → Type 0} (change_of : A → Change) → IsField read spelling IsGood
         → (x : A) (rest : List ℕ) → IsGood x → made change_of (read (spelling x ++ rest)) ≡ Ok (change_of x, rest)
-    of change_of field x rest good = ap (made change_of) (field.laws.again x rest good)
+    of change_of field x rest good = ap (made change_of) (field.laws.part.again x rest good)
 
     bits_pass : (bits : ℕ) → bits < 2 ^ 52 → nat_lt bits (2 ^ 52) ≡ true
     bits_pass bits lt = grind (arith, nat_tests)

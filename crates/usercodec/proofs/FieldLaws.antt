@@ -1,21 +1,22 @@
 -- Each field: what is read is spelled so, what is spelled so is read, and what was told stays.
 use Rattle.std.proofs.Common.{◌≡◌, ℕ, suc, ◌^◌, ◌<◌, ◌≤◌, Bool, true, false, cond, ltb, List, [], ◌∷◌, ◌++◌, length, take, drop, Ok, Err, refl, sym}
-use Rattle.std.proofs.Common.{ap, subst, ◌∙◌, append_assoc, arith}
-use Rattle.std.specs.Int.{Width, w64, byte_len, from_be_bytes, to_be_bytes}
+use Rattle.std.proofs.Common.{ap, subst, ◌∙◌, arith}
+use Rattle.std.specs.Int.{Width, w16, w32, w64, byte_len, from_be_bytes, to_be_bytes}
 use Rattle.std.proofs.lemmas.Bool.{ltb-false, le-ltb}
 use Rattle.std.proofs.lemmas.List.{take_at, drop_at, take-append-drop, length-append, length-take, take-append-le, drop-append-le}
-use Rattle.std.proofs.lemmas.Nat.{be_bytes_8, from_be_bytes-to_be_bytes_8}
+use Rattle.std.proofs.lemmas.Nat.{be_bytes_2, be_bytes_4, be_bytes_8}
+use Rattle.std.proofs.lemmas.Nat.{from_be_bytes-to_be_bytes_2, from_be_bytes-to_be_bytes_4, from_be_bytes-to_be_bytes_8}
 use Rattle.usercodec.specs.declared.fault.CodecFault.TheVariants.{Short, NotCanonical}
-use Rattle.usercodec.specs.Fields.{number, text, Reading, ◌>>=◌, checked, bytes_at, byte_at, number_at, text_at}
+use Rattle.usercodec.specs.Fields.{number, text, Reading, checked, bytes_at, byte_at, number_at, text_at}
 use Rattle.usercodec.specs.Changes.{both}
 use Rattle.usercodec.specs.Laws.{Stays}
-use Rattle.usercodec.proofs.Steps.{IsBytes, IsBytes-drop, IsBytes-take, bind_ok, guard_ok, kept_ok, ok_is, Takes, Takes-then, stays_bind}
+use Rattle.usercodec.proofs.Steps.{IsBytes, IsBytes-drop, IsBytes-take, bind_ok, kept_ok, ok_is, Takes, Takes-then, stays_bind}
 use Rattle.usercodec.proofs.Steps.{stays_checked, NoTag, no_tag_bind, no_tag_if}
+use Rattle.usercodec.proofs.PartLaws.{IsPart, checked_part, both_part}
 
--- values of a sort, how they are spelled and read, and which of them have a spelling
+-- values of a sort, which more bytes leave as they are
 pub record IsSort {A : Type 0} (read : List ℕ → Reading A) (spelling : A → List ℕ) (IsGood : A → Type 0) : Type 0 where
-  pub takes : (bytes : List ℕ) (x : A) (rest : List ℕ) → IsBytes bytes → read bytes ≡ Ok (x, rest) → Takes bytes (spelling x) rest × IsGood x
-  pub again : (x : A) (rest : List ℕ) → IsGood x → read (spelling x ++ rest) ≡ Ok (x, rest)
+  pub part : IsPart read spelling IsGood
   pub stays : (bytes more : List ℕ) → Stays (read bytes) (read (bytes ++ more)) more
 
 -- a field, which knows of no tags
@@ -63,7 +64,7 @@ bytes_no_tag count bytes = no_tag_if (ltb (length bytes) count) _ _ tt tt
 
 pub byte_field : IsField byte_at (λ byte. byte ∷ []) (λ byte. byte < 256)
 unfolding byte_at
-byte_field = record { laws = record { takes = takes; again = again; stays = stays }; no_tag = no_tag }
+byte_field = record { laws = record { part = record { takes = takes; again = again }; stays = stays }; no_tag = no_tag }
   where
     takes : (bytes : List ℕ) (x : ℕ) (rest : List ℕ) → IsBytes bytes → byte_at bytes ≡ Ok (x, rest) → Takes bytes (x ∷ []) rest × (x < 256)
     takes [] x rest fits e = absurd cc
@@ -86,13 +87,29 @@ byte_field = record { laws = record { takes = takes; again = again; stays = stay
 -- ---- numbers
 
 -- numbers of a width, below a limit
-pub record IsWide (width : Width) (limit : ℕ) : Type 0 where
-  pub len : (n : ℕ) → length (to_be_bytes width n) ≡ byte_len width
-  pub back : (bytes : List ℕ) → length bytes ≡ byte_len width → IsBytes bytes → to_be_bytes width (from_be_bytes width bytes) ≡ bytes
-  pub again : (n : ℕ) → n < limit → from_be_bytes width (to_be_bytes width n) ≡ n
-  pub below : (bytes : List ℕ) → IsBytes bytes → from_be_bytes width bytes < limit
+record IsWide (width : Width) (limit : ℕ) : Type 0 where
+  len : (n : ℕ) → length (to_be_bytes width n) ≡ byte_len width
+  back : (bytes : List ℕ) → length bytes ≡ byte_len width → IsBytes bytes → to_be_bytes width (from_be_bytes width bytes) ≡ bytes
+  again : (n : ℕ) → n < limit → from_be_bytes width (to_be_bytes width n) ≡ n
+  below : (bytes : List ℕ) → IsBytes bytes → from_be_bytes width bytes < limit
 
-pub wide64 : IsWide w64 (2 ^ 64)
+wide16 : IsWide w16 (2 ^ 16)
+wide16 = record {
+  len = λ n. refl;
+  back = λ bytes len fits. be_bytes_2 bytes _ len fits refl;
+  again = λ n lt. from_be_bytes-to_be_bytes_2 n lt;
+  below = λ bytes fits. omega (arith, fits 0, fits 1);
+}
+
+wide32 : IsWide w32 (2 ^ 32)
+wide32 = record {
+  len = λ n. refl;
+  back = λ bytes len fits. be_bytes_4 bytes _ len fits refl;
+  again = λ n lt. from_be_bytes-to_be_bytes_4 n lt;
+  below = λ bytes fits. omega (arith, fits 0, fits 1, fits 2, fits 3);
+}
+
+wide64 : IsWide w64 (2 ^ 64)
 wide64 = record {
   len = λ n. refl;
   back = λ bytes len fits. be_bytes_8 bytes _ len fits refl;
@@ -100,9 +117,9 @@ wide64 = record {
   below = λ bytes fits. omega (arith, fits 0, fits 1, fits 2, fits 3, fits 4, fits 5, fits 6, fits 7);
 }
 
-pub number_field : (width : Width) (limit : ℕ) → IsWide width limit → IsField (number_at width) (number width) (λ n. n < limit)
+number_field : (width : Width) (limit : ℕ) → IsWide width limit → IsField (number_at width) (number width) (λ n. n < limit)
 unfolding number_at
-number_field width limit wide = record { laws = record { takes = takes; again = again; stays = stays }; no_tag = no_tag }
+number_field width limit wide = record { laws = record { part = record { takes = takes; again = again }; stays = stays }; no_tag = no_tag }
   where
     takes : (bytes : List ℕ) (n : ℕ) (rest : List ℕ) → IsBytes bytes → number_at width bytes ≡ Ok (n, rest) → Takes bytes (number width n) rest × (n < limit)
     takes bytes n rest fits e =
@@ -126,16 +143,25 @@ number_field width limit wide = record { laws = record { takes = takes; again = 
     no_tag : (bytes : List ℕ) → NoTag (number_at width bytes)
     no_tag bytes = no_tag_bind (bytes_at (byte_len width) bytes) _ (bytes_no_tag (byte_len width) bytes) (λ digits. tt)
 
+pub field16 : IsField (number_at w16) (number w16) (λ n. n < 2 ^ 16)
+field16 = number_field w16 (2 ^ 16) wide16
+
+pub field32 : IsField (number_at w32) (number w32) (λ n. n < 2 ^ 32)
+field32 = number_field w32 (2 ^ 32) wide32
+
+pub field64 : IsField (number_at w64) (number w64) (λ n. n < 2 ^ 64)
+field64 = number_field w64 (2 ^ 64) wide64
+
 -- ---- texts
 
 pub text_field : IsField text_at text (λ bytes. length bytes < 256)
 unfolding text_at byte_at
-text_field = record { laws = record { takes = takes; again = again; stays = stays }; no_tag = no_tag }
+text_field = record { laws = record { part = record { takes = takes; again = again }; stays = stays }; no_tag = no_tag }
   where
     takes : (bytes x rest : List ℕ) → IsBytes bytes → text_at bytes ≡ Ok (x, rest) → Takes bytes (text x) rest × (length x < 256)
     takes bytes x rest fits e =
         let a = bind_ok (byte_at bytes) (λ count. bytes_at count.0 count.1) (x, rest) e in
-        let t = byte_field.laws.takes bytes a.0.0 a.0.1 fits a.1 in
+        let t = byte_field.laws.part.takes bytes a.0.0 a.0.1 fits a.1 in
         let u = bytes_takes a.0.0 a.0.1 x rest t.0.rest_fits a.2 in
         let both = Takes-then bytes (a.0.0 ∷ []) a.0.1 x rest t.0 u.0 in
         (subst (λ (k : ℕ). Takes bytes (k ∷ x) rest) (sym u.1) both, omega (arith, t.1, u.1))
@@ -154,20 +180,8 @@ text_field = record { laws = record { takes = takes; again = again; stays = stay
 -- a field that has to pass a test too
 pub also_field : {A : Type 0} {read : List ℕ → Reading A} {spelling : A → List ℕ} {IsGood : A → Type 0} → IsField read spelling IsGood
     → (test : A → Bool) → IsField (λ bytes. checked test (read bytes)) spelling (λ x. IsGood x × (test x ≡ true))
-also_field {A = A} {read = read} {spelling = spelling} {IsGood = IsGood} field test = record
-    { laws = record { takes = takes; again = again; stays = stays }; no_tag = no_tag }
+also_field {read = read} field test = record { laws = record { part = checked_part field.laws.part test; stays = stays }; no_tag = no_tag }
   where
-    takes : (bytes : List ℕ) (x : A) (rest : List ℕ) → IsBytes bytes → checked test (read bytes) ≡ Ok (x, rest)
-        → Takes bytes (spelling x) rest × (IsGood x × (test x ≡ true))
-    takes bytes x rest fits e =
-        let a = bind_ok (read bytes) (λ y. cond (test y.0) (Ok y) (Err NotCanonical)) (x, rest) e in
-        let g = guard_ok (test a.0.0) NotCanonical a.0 (x, rest) a.2 in
-        let t = field.laws.takes bytes a.0.0 a.0.1 fits a.1 in
-        subst (λ (p : A × List ℕ). Takes bytes (spelling p.0) p.1 × (IsGood p.0 × (test p.0 ≡ true))) g.1 (t.0, (t.1, g.0))
-
-    again : (x : A) (rest : List ℕ) → (IsGood x × (test x ≡ true)) → checked test (read (spelling x ++ rest)) ≡ Ok (x, rest)
-    again x rest good = rw (field.laws.again x rest good.0, good.1) refl
-
     stays : (bytes more : List ℕ) → Stays (checked test (read bytes)) (checked test (read (bytes ++ more))) more
     stays bytes more = stays_checked test (read bytes) _ more (field.laws.stays bytes more)
 
@@ -179,8 +193,10 @@ pub same_field : {A : Type 0} {read : List ℕ → Reading A} {spelling : A → 
     → ((x : A) → IsGood x → IsFit x) → ((x : A) → IsFit x → IsGood x) → IsField read spelling IsFit
 same_field field to from = record {
   laws = record {
-    takes = λ bytes x rest fits e. (let t = field.laws.takes bytes x rest fits e in (t.0, to x t.1));
-    again = λ x rest fit. field.laws.again x rest (from x fit);
+    part = record {
+      takes = λ bytes x rest fits e. (let t = field.laws.part.takes bytes x rest fits e in (t.0, to x t.1));
+      again = λ x rest fit. field.laws.part.again x rest (from x fit);
+    };
     stays = field.laws.stays;
   };
   no_tag = field.no_tag;
@@ -197,25 +213,9 @@ pub both_field : {A B : Type 0} {first : List ℕ → Reading A} {second : List 
     {GoodA : A → Type 0} {GoodB : B → Type 0}
     → IsField first a_bytes GoodA → IsField second b_bytes GoodB
     → IsField (both first second) (λ x. a_bytes x.0 ++ b_bytes x.1) (λ x. GoodA x.0 × GoodB x.1)
-both_field {A = A} {B = B} {first = first} {second = second} {a_bytes = a_bytes} {b_bytes = b_bytes} {GoodA = GoodA} {GoodB = GoodB} field_a field_b =
-    record { laws = record { takes = takes; again = again; stays = stays }; no_tag = no_tag }
+both_field {first = first} {second = second} field_a field_b =
+    record { laws = record { part = both_part field_a.laws.part field_b.laws.part; stays = stays }; no_tag = no_tag }
   where
-    takes : (bytes : List ℕ) (x : A × B) (rest : List ℕ) → IsBytes bytes → both first second bytes ≡ Ok (x, rest)
-        → Takes bytes (a_bytes x.0 ++ b_bytes x.1) rest × (GoodA x.0 × GoodB x.1)
-    takes bytes x rest fits e =
-        let a = bind_ok (first bytes) (λ y. second y.1 >>= λ z. Ok ((y.0, z.0), z.1)) (x, rest) e in
-        let b = bind_ok (second a.0.1) (λ z. Ok ((a.0.0, z.0), z.1)) (x, rest) a.2 in
-        let t = field_a.laws.takes bytes a.0.0 a.0.1 fits a.1 in
-        let u = field_b.laws.takes a.0.1 b.0.0 b.0.1 t.0.rest_fits b.1 in
-        let whole = Takes-then bytes (a_bytes a.0.0) a.0.1 (b_bytes b.0.0) b.0.1 t.0 u.0 in
-        let same = ok_is ((a.0.0, b.0.0), b.0.1) (x, rest) b.2 in
-        subst (λ (p : (A × B) × List ℕ). Takes bytes (a_bytes p.0.0 ++ b_bytes p.0.1) p.1 × (GoodA p.0.0 × GoodB p.0.1)) same (whole, (t.1, u.1))
-
-    again : (x : A × B) (rest : List ℕ) → (GoodA x.0 × GoodB x.1) → both first second ((a_bytes x.0 ++ b_bytes x.1) ++ rest) ≡ Ok (x, rest)
-    again x rest good =
-        let grouped : (a_bytes x.0 ++ b_bytes x.1) ++ rest ≡ a_bytes x.0 ++ (b_bytes x.1 ++ rest) = append_assoc (a_bytes x.0) (b_bytes x.1) rest in
-        ap (both first second) grouped ∙ rw (field_a.laws.again x.0 (b_bytes x.1 ++ rest) good.0, field_b.laws.again x.1 rest good.1) refl
-
     stays : (bytes more : List ℕ) → Stays (both first second bytes) (both first second (bytes ++ more)) more
     stays bytes more =
         stays_bind (first bytes) _ _ more (field_a.laws.stays bytes more) (λ y. stays_bind (second y.1) _ _ more (field_b.laws.stays y.1 more) (λ z. refl))

@@ -8,6 +8,7 @@ use Rattle.usercodec.specs.Fields.{counted, Reading, ◌>>=◌, count_at}
 use Rattle.usercodec.specs.Laws.{Stays}
 use Rattle.usercodec.specs.Records.{items_at, counted_at}
 use Rattle.usercodec.proofs.Steps.{IsBytes, bind_ok, ok_is, Takes, Takes-then, stays_bind, NoTag, no_tag_bind}
+use Rattle.usercodec.proofs.PartLaws.{IsPart}
 use Rattle.usercodec.proofs.FieldLaws.{IsField, byte_field, checked_field}
 
 -- each item is good in view of those before it
@@ -15,32 +16,32 @@ abbrev pub AllGood : {A : Type 0} → (List A → A → Type 0) → List A → L
 AllGood IsGood held [] = Unit {0}
 AllGood IsGood held (x ∷ xs) = IsGood held x × AllGood IsGood (held ++ x ∷ []) xs
 
-moved : {A : Type 0} (held : List A) (x : A) (xs : List A) → (held ++ x ∷ []) ++ xs ≡ held ++ x ∷ xs
+pub moved : {A : Type 0} (held : List A) (x : A) (xs : List A) → (held ++ x ∷ []) ++ xs ≡ held ++ x ∷ xs
 moved held x xs = append_assoc held (x ∷ []) xs
 
 -- what reading so many items took: those that are held, and as many more
-record TakesItems {A : Type 0} (spelling : A → List ℕ) (IsGood : List A → A → Type 0) (count : ℕ) (held : List A) (bytes : List ℕ) (all : List A)
+pub record TakesItems {A : Type 0} (spelling : A → List ℕ) (IsGood : List A → A → Type 0) (count : ℕ) (held : List A) (bytes : List ℕ) (all : List A)
     (rest : List ℕ) : Type 0 where
-  later : List A
-  all_are : all ≡ held ++ later
-  so_many : length later ≡ count
-  front : Takes bytes (flat_map spelling later) rest
-  good : AllGood IsGood held later
+  pub later : List A
+  pub all_are : all ≡ held ++ later
+  pub so_many : length later ≡ count
+  pub front : Takes bytes (flat_map spelling later) rest
+  pub good : AllGood IsGood held later
 
-items_take : {A : Type 0} (item_at : List A → List ℕ → Reading A) (spelling : A → List ℕ) (IsGood : List A → A → Type 0)
-    → ((held : List A) → IsField (item_at held) spelling (IsGood held))
+pub items_take : {A : Type 0} (item_at : List A → List ℕ → Reading A) (spelling : A → List ℕ) (IsGood : List A → A → Type 0)
+    → ((held : List A) → IsPart (item_at held) spelling (IsGood held))
     → (count : ℕ) (held : List A) (bytes : List ℕ) (all : List A) (rest : List ℕ) → IsBytes bytes → items_at item_at count held bytes ≡ Ok (all, rest)
     → TakesItems spelling IsGood count held bytes all rest
 unfolding items_at
-items_take {A = A} item_at spelling IsGood field zero held bytes all rest fits e =
+items_take {A = A} item_at spelling IsGood part zero held bytes all rest fits e =
     let same = ok_is (held, bytes) (all, rest) e in
     subst (λ (p : List A × List ℕ). TakesItems spelling IsGood 0 held bytes p.0 p.1) same
     (record { later = []; all_are = sym (append-nil held); so_many = refl; front = record { parts = refl; rest_fits = fits }; good = tt })
-items_take {A = A} item_at spelling IsGood field (suc count) held bytes all rest fits e =
+items_take {A = A} item_at spelling IsGood part (suc count) held bytes all rest fits e =
     let a = bind_ok (item_at held bytes) (λ item. items_at item_at count (held ++ item.0 ∷ []) item.1) (all, rest) e in
     let x = a.0.0 in
-    let t = (field held).laws.takes bytes x a.0.1 fits a.1 in
-    let more = items_take item_at spelling IsGood field count (held ++ x ∷ []) a.0.1 all rest t.0.rest_fits a.2 in
+    let t = (part held).takes bytes x a.0.1 fits a.1 in
+    let more = items_take item_at spelling IsGood part count (held ++ x ∷ []) a.0.1 all rest t.0.rest_fits a.2 in
     let both = Takes-then bytes (spelling x) a.0.1 (flat_map spelling more.later) rest t.0 more.front in
     record {
       later = x ∷ more.later;
@@ -50,20 +51,20 @@ items_take {A = A} item_at spelling IsGood field (suc count) held bytes all rest
       good = (t.1, more.good);
     }
 
-items_again : {A : Type 0} (item_at : List A → List ℕ → Reading A) (spelling : A → List ℕ) (IsGood : List A → A → Type 0)
-    → ((held : List A) → IsField (item_at held) spelling (IsGood held))
+pub items_again : {A : Type 0} (item_at : List A → List ℕ → Reading A) (spelling : A → List ℕ) (IsGood : List A → A → Type 0)
+    → ((held : List A) → IsPart (item_at held) spelling (IsGood held))
     → (held later : List A) (rest : List ℕ) → AllGood IsGood held later
     → items_at item_at (length later) held (flat_map spelling later ++ rest) ≡ Ok (held ++ later, rest)
 unfolding items_at
-items_again item_at spelling IsGood field held [] rest good = ap (λ h. Ok (h, rest)) (sym (append-nil held))
-items_again item_at spelling IsGood field held (x ∷ later) rest good =
+items_again item_at spelling IsGood part held [] rest good = ap (λ h. Ok (h, rest)) (sym (append-nil held))
+items_again item_at spelling IsGood part held (x ∷ later) rest good =
     let after = flat_map spelling later ++ rest in
     let grouped : flat_map spelling (x ∷ later) ++ rest ≡ spelling x ++ after =
     ap (λ (b : List ℕ). b ++ rest) (flat_map-cons spelling x later) ∙ append_assoc (spelling x) (flat_map spelling later) rest in
-    let first : item_at held (spelling x ++ after) ≡ Ok (x, after) = (field held).laws.again x after good.0 in
+    let first : item_at held (spelling x ++ after) ≡ Ok (x, after) = (part held).again x after good.0 in
     ap (items_at item_at (suc (length later)) held) grouped
     ∙ ap (λ r. r >>= λ item. items_at item_at (length later) (held ++ item.0 ∷ []) item.1) first
-    ∙ items_again item_at spelling IsGood field (held ++ x ∷ []) later rest good.1
+    ∙ items_again item_at spelling IsGood part (held ++ x ∷ []) later rest good.1
     ∙ ap (λ h. Ok (h, rest)) (moved held x later)
 
 items_stay : {A : Type 0} (item_at : List A → List ℕ → Reading A) (spelling : A → List ℕ) (IsGood : List A → A → Type 0)
@@ -100,14 +101,14 @@ pub record AreCounted {A : Type 0} (IsGood : List A → A → Type 0) (most : �
 pub counted_field : {A : Type 0} (item_at : List A → List ℕ → Reading A) (spelling : A → List ℕ) (IsGood : List A → A → Type 0)
     → ((held : List A) → IsField (item_at held) spelling (IsGood held))
     → (most : ℕ) → most < 256 → IsField (counted_at most item_at) (counted spelling) (AreCounted IsGood most)
-counted_field {A = A} item_at spelling IsGood field most small = record { laws = record { takes = takes; again = again; stays = stays }; no_tag = no_tag }
+counted_field {A = A} item_at spelling IsGood field most small = record { laws = record { part = record { takes = takes; again = again }; stays = stays }; no_tag = no_tag }
   where
     takes : (bytes : List ℕ) (x : List A) (rest : List ℕ) → IsBytes bytes → counted_at most item_at bytes ≡ Ok (x, rest)
         → Takes bytes (counted spelling x) rest × AreCounted IsGood most x
     takes bytes x rest fits e =
         let a = bind_ok (count_at most bytes) (λ count. items_at item_at count.0 [] count.1) (x, rest) e in
-        let t = (count_field most small).laws.takes bytes a.0.0 a.0.1 fits a.1 in
-        let u = items_take item_at spelling IsGood field a.0.0 [] a.0.1 x rest t.0.rest_fits a.2 in
+        let t = (count_field most small).laws.part.takes bytes a.0.0 a.0.1 fits a.1 in
+        let u = items_take item_at spelling IsGood (λ held. (field held).laws.part) a.0.0 [] a.0.1 x rest t.0.rest_fits a.2 in
         let whole : Takes bytes (counted spelling u.later) rest =
         subst (λ (n : ℕ). Takes bytes (n ∷ flat_map spelling u.later) rest) (sym u.so_many)
         (Takes-then bytes (a.0.0 ∷ []) a.0.1 (flat_map spelling u.later) rest t.0 u.front) in
@@ -117,8 +118,8 @@ counted_field {A = A} item_at spelling IsGood field most small = record { laws =
 
     again : (x : List A) (rest : List ℕ) → AreCounted IsGood most x → counted_at most item_at (counted spelling x ++ rest) ≡ Ok (x, rest)
     again x rest good =
-        ap (λ r. r >>= λ count. items_at item_at count.0 [] count.1) ((count_field most small).laws.again (length x) (flat_map spelling x ++ rest) good.few)
-        ∙ items_again item_at spelling IsGood field [] x rest good.good
+        ap (λ r. r >>= λ count. items_at item_at count.0 [] count.1) ((count_field most small).laws.part.again (length x) (flat_map spelling x ++ rest) good.few)
+        ∙ items_again item_at spelling IsGood (λ held. (field held).laws.part) [] x rest good.good
 
     stays : (bytes more : List ℕ) → Stays (counted_at most item_at bytes) (counted_at most item_at (bytes ++ more)) more
     stays bytes more =

@@ -1,5 +1,6 @@
 pub mod ShapeLaws
 pub mod Steps
+pub mod PartLaws
 pub mod FieldLaws
 pub mod ChangeLaws
 pub mod SortLaws
@@ -9,4 +10,4 @@ pub mod ItemLaws
 pub mod NewLaws
 pub mod RecordLaws
 pub mod TagLaws
-pub mod PartLaws
+pub mod ReaderLaws

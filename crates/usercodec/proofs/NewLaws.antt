@@ -1,11 +1,11 @@
 -- Lists whose items are each unlike those before them: nothing is there twice.
-use Rattle.std.proofs.Common.{◌≡◌, Bool, true, false, ◌&&◌, List, [], ◌∷◌, ◌++◌, refl, sym, ap, ◌∙◌, append_assoc}
+use Rattle.std.proofs.Common.{◌≡◌, Bool, true, false, ◌&&◌, List, [], ◌∷◌, ◌++◌, refl, sym, ap, ◌∙◌}
 use Rattle.std.specs.Prelude.{not}
 use Rattle.std.specs.List.{list_any, list_all}
 use Rattle.std.proofs.lemmas.List.{append-nil}
 use Rattle.userfile.specs.Together.{repeats}
 use Rattle.userfile.proofs.RepeatLemmas.{or_false, or_both, and_true, and_both, repeats-push}
-use Rattle.usercodec.proofs.ItemLaws.{AllGood}
+use Rattle.usercodec.proofs.ItemLaws.{AllGood, moved}
 
 -- an item that passes its test and is unlike those that are held
 abbrev pub IsNew : {A : Type 0} → (A → Bool) → (A → A → Bool) → List A → A → Type 0
@@ -28,9 +28,6 @@ none_before : {A : Type 0} (same : A → A → Bool) → ((x y : A) → same x y
 none_before same symmetric [] x after e = refl
 none_before same symmetric (y ∷ before) x after e =
     or_both (symmetric x y ∙ none_at (same y) before x after (or_false e).0) (none_before same symmetric before x after (or_false e).1)
-
-moved : {A : Type 0} (held : List A) (x : A) (xs : List A) → (held ++ x ∷ []) ++ xs ≡ held ++ x ∷ xs
-moved held x xs = append_assoc held (x ∷ []) xs
 
 pub all_new : {A : Type 0} (test : A → Bool) (same : A → A → Bool) → ((x y : A) → same x y ≡ same y x) → (held xs : List A)
     → AllGood (IsNew test same) held xs → repeats same held ≡ false → (list_all test xs ≡ true) × (repeats same (held ++ xs) ≡ false)

@@ -1,153 +1,56 @@
--- Fields of frames, entries and bases: what is read is spelled so, and what is spelled so is read. For callers.
-use Rattle.std.proofs.Common.{◌≡◌, ℕ, ◌^◌, ◌<◌, true, eqb, List, [], ◌∷◌, ◌++◌, Option, Some, None, Ok, refl, sym, ap, subst, ◌∙◌, append_assoc, arith, inl}
-use Rattle.std.proofs.Common.{inr}
-use Rattle.std.specs.Int.{w16, w32}
-use Rattle.std.proofs.lemmas.Bool.{eqb-true}
-use Rattle.std.proofs.lemmas.Nat.{be_bytes_2, be_bytes_4, from_be_bytes-to_be_bytes_2, from_be_bytes-to_be_bytes_4}
-use Rattle.userfile.specs.declared.error.ChangeFault.{ChangeFault}
-use Rattle.userfile.specs.declared.error.ChangeFault.TheVariants.{BadHandle, BadMask, BadChannel, BadComment, NoSuchUser, UserExists, MaskExists}
-use Rattle.userfile.specs.declared.error.ChangeFault.TheVariants.{NoSuchMask, BanExists, NoSuchBan, Full}
-use Rattle.usercodec.specs.Fields.{number, Reading, ◌>>=◌, byte_at, number_at}
-use Rattle.usercodec.specs.Changes.{both, change_at, change_bytes, IsGoodChange}
-use Rattle.usercodec.proofs.Steps.{IsBytes, bind_ok, chosen, ok_is, Takes, Takes-then}
-use Rattle.usercodec.proofs.FieldLaws.{IsSort, IsWide, byte_field, number_field}
-use Rattle.usercodec.proofs.ChangeLaws.{change_sort}
-use Rattle.usercodec.specs.FaultBytes.{fault_byte, fault_from, known, fault_at}
+-- Parts of spellings: what is read is spelled so, and what is spelled so is read. One part and its test, what is made of it, and
+-- one part after another. For callers.
+use Rattle.std.proofs.Common.{◌≡◌, ℕ, Bool, true, cond, List, ◌++◌, Ok, Err, refl, ap, subst, sym, ◌∙◌, append_assoc}
+use Rattle.usercodec.specs.declared.fault.CodecFault.TheVariants.{NotCanonical}
+use Rattle.usercodec.specs.Fields.{Reading, ◌>>=◌, checked}
+use Rattle.usercodec.specs.Changes.{both, made}
+use Rattle.usercodec.proofs.Steps.{IsBytes, bind_ok, guard_ok, ok_is, Takes, Takes-then}
 
 -- values, how they are spelled and read, and which of them have a spelling
 pub record IsPart {A : Type 0} (read : List ℕ → Reading A) (spelling : A → List ℕ) (IsGood : A → Type 0) : Type 0 where
   pub takes : (bytes : List ℕ) (x : A) (rest : List ℕ) → IsBytes bytes → read bytes ≡ Ok (x, rest) → Takes bytes (spelling x) rest × IsGood x
   pub again : (x : A) (rest : List ℕ) → IsGood x → read (spelling x ++ rest) ≡ Ok (x, rest)
 
-pub of_sort : {A : Type 0} {read : List ℕ → Reading A} {spelling : A → List ℕ} {IsGood : A → Type 0} → IsSort read spelling IsGood
-    → IsPart read spelling IsGood
-of_sort sort = record { takes = sort.takes; again = sort.again }
+-- ---- a part and its test
 
--- ---- numbers and changes
-
-wide16 : IsWide w16 (2 ^ 16)
-wide16 = record {
-  len = λ n. refl;
-  back = λ bytes len fits. be_bytes_2 bytes _ len fits refl;
-  again = λ n lt. from_be_bytes-to_be_bytes_2 n lt;
-  below = λ bytes fits. omega (arith, fits 0, fits 1);
-}
-
-wide32 : IsWide w32 (2 ^ 32)
-wide32 = record {
-  len = λ n. refl;
-  back = λ bytes len fits. be_bytes_4 bytes _ len fits refl;
-  again = λ n lt. from_be_bytes-to_be_bytes_4 n lt;
-  below = λ bytes fits. omega (arith, fits 0, fits 1, fits 2, fits 3);
-}
-
-pub u16_part : IsPart (number_at w16) (number w16) (λ n. n < 2 ^ 16)
-u16_part = of_sort (number_field w16 (2 ^ 16) wide16).laws
-
-pub u32_part : IsPart (number_at w32) (number w32) (λ n. n < 2 ^ 32)
-u32_part = of_sort (number_field w32 (2 ^ 32) wide32).laws
-
-pub change_part : IsPart change_at change_bytes IsGoodChange
-change_part = of_sort change_sort
-
--- ---- why a change was refused
-
-some_is : {A : Type 0} (x y : A) → (let s : Option A = Some x in s) ≡ Some y → x ≡ y
-some_is x y e = cc
-
-byte_is : (byte n : ℕ) (fault x : ChangeFault) → eqb byte n ≡ true → (let s : Option ChangeFault = Some fault in s) ≡ Some x → fault_byte fault ≡ n
-    → fault_byte x ≡ byte
-byte_is byte n fault x same e is = ap fault_byte (sym (some_is fault x e)) ∙ is ∙ sym (eqb-true byte n same)
-
-pub fault_byte-from : (byte : ℕ) (x : ChangeFault) → fault_from byte ≡ Some x → fault_byte x ≡ byte
-unfolding fault_from
-fault_byte-from byte x e =
-    elim (chosen (eqb byte 1) _ _ _ e) [
-      | inl p ↦ byte_is byte 1 BadHandle x p.0 p.1 refl
-      | inr p ↦
-          elim (chosen (eqb byte 2) _ _ _ p.1) [
-            | inl p ↦ byte_is byte 2 UserExists x p.0 p.1 refl
-            | inr p ↦
-                elim (chosen (eqb byte 3) _ _ _ p.1) [
-                  | inl p ↦ byte_is byte 3 NoSuchUser x p.0 p.1 refl
-                  | inr p ↦
-                      elim (chosen (eqb byte 4) _ _ _ p.1) [
-                        | inl p ↦ byte_is byte 4 BadMask x p.0 p.1 refl
-                        | inr p ↦
-                            elim (chosen (eqb byte 5) _ _ _ p.1) [
-                              | inl p ↦ byte_is byte 5 MaskExists x p.0 p.1 refl
-                              | inr p ↦
-                                  elim (chosen (eqb byte 6) _ _ _ p.1) [
-                                    | inl p ↦ byte_is byte 6 NoSuchMask x p.0 p.1 refl
-                                    | inr p ↦
-                                        elim (chosen (eqb byte 7) _ _ _ p.1) [
-                                          | inl p ↦ byte_is byte 7 BadChannel x p.0 p.1 refl
-                                          | inr p ↦
-                                              elim (chosen (eqb byte 8) _ _ _ p.1) [
-                                                | inl p ↦ byte_is byte 8 BanExists x p.0 p.1 refl
-                                                | inr p ↦
-                                                    elim (chosen (eqb byte 9) _ _ _ p.1) [
-                                                      | inl p ↦ byte_is byte 9 NoSuchBan x p.0 p.1 refl
-                                                      | inr p ↦
-                                                          elim (chosen (eqb byte 10) _ _ _ p.1) [
-                                                            | inl p ↦ byte_is byte 10 BadComment x p.0 p.1 refl
-                                                            | inr p ↦
-                                                                elim (chosen (eqb byte 11) _ _ _ p.1) [
-                                                                  | inl p ↦ byte_is byte 11 Full x p.0 p.1 refl
-                                                                  | inr p ↦
-                                                                      absurd (none_is x p.1)
-                                                                ]
-                                                          ]
-                                                    ]
-                                              ]
-                                        ]
-                                  ]
-                            ]
-                      ]
-                ]
-          ]
-    ]
+pub checked_part : {A : Type 0} {read : List ℕ → Reading A} {spelling : A → List ℕ} {IsGood : A → Type 0} → IsPart read spelling IsGood
+    → (test : A → Bool) → IsPart (λ bytes. checked test (read bytes)) spelling (λ x. IsGood x × (test x ≡ true))
+checked_part {A = A} {read = read} {spelling = spelling} {IsGood = IsGood} part test = record { takes = takes; again = again }
   where
-    none_is : (x : ChangeFault) → (let n : Option ChangeFault = None in n) ≡ Some x → ⊥
-    none_is x e = cc
-
-pub fault_from-byte : (fault : ChangeFault) → fault_from (fault_byte fault) ≡ Some fault
-unfolding fault_from
-fault_from-byte BadHandle = refl
-fault_from-byte UserExists = refl
-fault_from-byte NoSuchUser = refl
-fault_from-byte BadMask = refl
-fault_from-byte MaskExists = refl
-fault_from-byte NoSuchMask = refl
-fault_from-byte BadChannel = refl
-fault_from-byte BanExists = refl
-fault_from-byte NoSuchBan = refl
-fault_from-byte BadComment = refl
-fault_from-byte Full = refl
-
-pub known_is : {A : Type 0} (value : Option A) (bytes : List ℕ) (x : A) (rest : List ℕ) → known value bytes ≡ Ok (x, rest) → (value ≡ Some x) × (bytes ≡ rest)
-known_is {A = A} (Some y) bytes x rest e =
-    let same = ok_is (y, bytes) (x, rest) e in
-    (ap (λ (p : A × List ℕ). Some p.0) same, ap (λ (p : A × List ℕ). p.1) same)
-known_is None bytes x rest e = absurd cc
-
-pub fault_part : IsPart fault_at (λ fault. fault_byte fault ∷ []) (λ fault. Unit {0})
-unfolding fault_at byte_at
-fault_part = record { takes = takes; again = again }
-  where
-    takes : (bytes : List ℕ) (x : ChangeFault) (rest : List ℕ) → IsBytes bytes → fault_at bytes ≡ Ok (x, rest)
-        → Takes bytes (fault_byte x ∷ []) rest × Unit {0}
+    takes : (bytes : List ℕ) (x : A) (rest : List ℕ) → IsBytes bytes → checked test (read bytes) ≡ Ok (x, rest)
+        → Takes bytes (spelling x) rest × (IsGood x × (test x ≡ true))
     takes bytes x rest fits e =
-        let a = bind_ok (byte_at bytes) (λ byte. known (fault_from byte.0) byte.1) (x, rest) e in
-        let t = (byte_field.laws.takes bytes a.0.0 a.0.1 fits a.1).0 in
-        let k = known_is (fault_from a.0.0) a.0.1 x rest a.2 in
-        let took : Takes bytes (fault_byte x ∷ []) a.0.1 = subst (λ (b : ℕ). Takes bytes (b ∷ []) a.0.1) (sym (fault_byte-from a.0.0 x k.0)) t in
-        (subst (λ (r : List ℕ). Takes bytes (fault_byte x ∷ []) r) k.1 took, tt)
+        let a = bind_ok (read bytes) (λ y. cond (test y.0) (Ok y) (Err NotCanonical)) (x, rest) e in
+        let g = guard_ok (test a.0.0) NotCanonical a.0 (x, rest) a.2 in
+        let t = part.takes bytes a.0.0 a.0.1 fits a.1 in
+        subst (λ (p : A × List ℕ). Takes bytes (spelling p.0) p.1 × (IsGood p.0 × (test p.0 ≡ true))) g.1 (t.0, (t.1, g.0))
 
-    again : (x : ChangeFault) (rest : List ℕ) → Unit {0} → fault_at ((fault_byte x ∷ []) ++ rest) ≡ Ok (x, rest)
-    again x rest good = rw (fault_from-byte x) refl
+    again : (x : A) (rest : List ℕ) → (IsGood x × (test x ≡ true)) → checked test (read (spelling x ++ rest)) ≡ Ok (x, rest)
+    again x rest good = rw (part.again x rest good.0, good.1) refl
 
--- ---- one field and then another
+-- ---- what is made of a value, which tells the value
+pub made_part : {A B : Type 0} {read : List ℕ → Reading A} {spelling : A → List ℕ} {IsGood : A → Type 0} → IsPart read spelling IsGood
+    → (to : A → B) (from : B → A) → ((y : B) → to (from y) ≡ y) → (spelled : B → List ℕ) → ((x : A) → spelled (to x) ≡ spelling x)
+    → ((y : B) → spelled y ≡ spelling (from y)) → (Fits : B → Type 0) → ((x : A) → IsGood x → Fits (to x)) → ((y : B) → Fits y → IsGood (from y))
+    → IsPart (λ bytes. made to (read bytes)) spelled Fits
+made_part {A = A} {B = B} {read = read} {spelling = spelling} {IsGood = IsGood} part to from back spelled there here Fits fit good = record {
+  takes =
+      takes;
+  again = again;
+}
+  where
+    takes : (bytes : List ℕ) (y : B) (rest : List ℕ) → IsBytes bytes → made to (read bytes) ≡ Ok (y, rest) → Takes bytes (spelled y) rest × Fits y
+    takes bytes y rest fits e =
+        let a = bind_ok (read bytes) (λ x. Ok (to x.0, x.1)) (y, rest) e in
+        let t = part.takes bytes a.0.0 a.0.1 fits a.1 in
+        let took : Takes bytes (spelled (to a.0.0)) a.0.1 = subst (λ (b : List ℕ). Takes bytes b a.0.1) (sym (there a.0.0)) t.0 in
+        subst (λ (p : B × List ℕ). Takes bytes (spelled p.0) p.1 × Fits p.0) (ok_is (to a.0.0, a.0.1) (y, rest) a.2) (took, fit a.0.0 t.1)
+
+    again : (y : B) (rest : List ℕ) → Fits y → made to (read (spelled y ++ rest)) ≡ Ok (y, rest)
+    again y rest fits =
+        ap (λ b. made to (read (b ++ rest))) (here y) ∙ ap (made to) (part.again (from y) rest (good y fits)) ∙ ap (λ z. Ok (z, rest)) (back y)
+
+-- ---- one part and then another
 
 pub both_part : {A B : Type 0} {first : List ℕ → Reading A} {second : List ℕ → Reading B} {a_bytes : A → List ℕ} {b_bytes : B → List ℕ} {GoodA : A → Type 0}
     {GoodB : B → Type 0}

@@ -49,7 +49,7 @@ same_channel a b = is_same a.channel b.channel
 
 entry_field : (held : List ChannelFlags) → IsField (entry_at held) entry_bytes (IsNew passes same_channel held)
 unfolding entry_at
-entry_field held = record { laws = record { takes = takes; again = again; stays = stays }; no_tag = no_tag }
+entry_field held = record { laws = record { part = record { takes = takes; again = again }; stays = stays }; no_tag = no_tag }
   where
     name_field : IsField (λ bytes. checked (λ name. not (has_channel name held)) (channel_at bytes)) text
         (λ name. (is_channel_name name ≡ true) × (not (has_channel name held) ≡ true))
@@ -70,8 +70,8 @@ entry_field held = record { laws = record { takes = takes; again = again; stays 
         (x, rest) e in
         let b = bind_ok (checked (λ bits. not (eqb bits 0)) (flags_at a.0.1)) (λ bits. Ok (record { channel = a.0.0; flags = bits.0 }, bits.1))
         (x, rest) a.2 in
-        let t = name_field.laws.takes bytes a.0.0 a.0.1 fits a.1 in
-        let u = letters_field.laws.takes a.0.1 b.0.0 b.0.1 t.0.rest_fits b.1 in
+        let t = name_field.laws.part.takes bytes a.0.0 a.0.1 fits a.1 in
+        let u = letters_field.laws.part.takes a.0.1 b.0.0 b.0.1 t.0.rest_fits b.1 in
         let made_is : ChannelFlags × List ℕ = (record { channel = a.0.0; flags = b.0.0 }, b.0.1) in
         subst (λ (p : ChannelFlags × List ℕ). Takes bytes (entry_bytes p.0) p.1 × IsNew passes same_channel held p.0) (ok_is made_is (x, rest) b.2)
         (Takes-then bytes (text a.0.0) a.0.1 (flags b.0.0) b.0.1 t.0 u.0, (and_both (and_both t.1.0 u.1.1) u.1.0, t.1.1))
@@ -85,8 +85,8 @@ entry_field held = record { laws = record { takes = takes; again = again; stays 
         ap (entry_at held) grouped
         ∙ ap (λ r. r >>= λ channel. checked (λ bits. not (eqb bits 0)) (flags_at channel.1) >>= λ bits. Ok
         (record { channel = channel.0; flags = bits.0 }, bits.1))
-        (name_field.laws.again x.channel after (own.0, good.1))
-        ∙ ap (λ r. r >>= λ bits. Ok (record { channel = x.channel; flags = bits.0 }, bits.1)) (letters_field.laws.again x.flags rest (parts.1, own.1))
+        (name_field.laws.part.again x.channel after (own.0, good.1))
+        ∙ ap (λ r. r >>= λ bits. Ok (record { channel = x.channel; flags = bits.0 }, bits.1)) (letters_field.laws.part.again x.flags rest (parts.1, own.1))
 
     stays : (bytes more : List ℕ) → Stays (entry_at held bytes) (entry_at held (bytes ++ more)) more
     stays bytes more =
@@ -117,7 +117,7 @@ new_user handle masks global channels bot = record { handle = handle; masks = ma
 
 pub user_field : IsField user_at user_bytes UserPasses
 unfolding user_at
-user_field = record { laws = record { takes = takes; again = again; stays = stays }; no_tag = no_tag }
+user_field = record { laws = record { part = record { takes = takes; again = again }; stays = stays }; no_tag = no_tag }
   where
     takes : (bytes : List ℕ) (x : User) (rest : List ℕ) → IsBytes bytes → user_at bytes ≡ Ok (x, rest) → Takes bytes (user_bytes x) rest × UserPasses x
     takes bytes x rest fits e =
@@ -128,11 +128,11 @@ user_field = record { laws = record { takes = takes; again = again; stays = stay
         let c = bind_ok (flags_at b.0.1) (λ c. entries_at c.1 >>= λ d. flags_at d.1 >>= λ e. Ok (new_user a.0.0 b.0.0 c.0 d.0 e.0, e.1)) (x, rest) b.2 in
         let d = bind_ok (entries_at c.0.1) (λ d. flags_at d.1 >>= λ e. Ok (new_user a.0.0 b.0.0 c.0.0 d.0 e.0, e.1)) (x, rest) c.2 in
         let f = bind_ok (flags_at d.0.1) (λ e. Ok (new_user a.0.0 b.0.0 c.0.0 d.0.0 e.0, e.1)) (x, rest) d.2 in
-        let ta = handle_field.laws.takes bytes a.0.0 a.0.1 fits a.1 in
-        let tb = masks_field.laws.takes a.0.1 b.0.0 b.0.1 ta.0.rest_fits b.1 in
-        let tc = flags_field.laws.takes b.0.1 c.0.0 c.0.1 tb.0.rest_fits c.1 in
-        let td = entries_field.laws.takes c.0.1 d.0.0 d.0.1 tc.0.rest_fits d.1 in
-        let tf = flags_field.laws.takes d.0.1 f.0.0 f.0.1 td.0.rest_fits f.1 in
+        let ta = handle_field.laws.part.takes bytes a.0.0 a.0.1 fits a.1 in
+        let tb = masks_field.laws.part.takes a.0.1 b.0.0 b.0.1 ta.0.rest_fits b.1 in
+        let tc = flags_field.laws.part.takes b.0.1 c.0.0 c.0.1 tb.0.rest_fits c.1 in
+        let td = entries_field.laws.part.takes c.0.1 d.0.0 d.0.1 tc.0.rest_fits d.1 in
+        let tf = flags_field.laws.part.takes d.0.1 f.0.0 f.0.1 td.0.rest_fits f.1 in
         let e4 = Takes-then c.0.1 (counted entry_bytes d.0.0) d.0.1 (flags f.0.0) f.0.1 td.0 tf.0 in
         let e3 = Takes-then b.0.1 (flags c.0.0) c.0.1 (counted entry_bytes d.0.0 ++ flags f.0.0) f.0.1 tc.0 e4 in
         let e2 = Takes-then a.0.1 (counted text b.0.0) b.0.1 (flags c.0.0 ++ (counted entry_bytes d.0.0 ++ flags f.0.0)) f.0.1 tb.0 e3 in
@@ -150,11 +150,11 @@ user_field = record { laws = record { takes = takes; again = again; stays = stay
         let grouped : user_bytes x ++ rest ≡ text x.handle ++ after_handle = simp append_assoc in
         ap user_at grouped
         ∙ rw (
-          handle_field.laws.again x.handle after_handle good.handle,
-          masks_field.laws.again x.masks after_masks good.masks,
-          flags_field.laws.again x.global after_global good.global,
-          entries_field.laws.again x.channels after_channels good.channels,
-          flags_field.laws.again x.bot rest good.bot,
+          handle_field.laws.part.again x.handle after_handle good.handle,
+          masks_field.laws.part.again x.masks after_masks good.masks,
+          flags_field.laws.part.again x.global after_global good.global,
+          entries_field.laws.part.again x.channels after_channels good.channels,
+          flags_field.laws.part.again x.bot rest good.bot,
         ) refl
 
     stays : (bytes more : List ℕ) → Stays (user_at bytes) (user_at (bytes ++ more)) more
@@ -249,7 +249,7 @@ tagged_takes : {A : Type 0} {read : List ℕ → Reading A} {spelling : A → Li
 tagged_takes {A = A} {read = read} {spelling = spelling} kind tag record_of field spelled good bytes x rest fits same e =
     let tag_is : tag ≡ kind = eqb-true tag kind same in
     let a = bind_ok (read bytes) (λ y. Ok (record_of y.0, y.1)) (x, rest) e in
-    let t = field.laws.takes bytes a.0.0 a.0.1 fits a.1 in
+    let t = field.laws.part.takes bytes a.0.0 a.0.1 fits a.1 in
     let front : tag ∷ bytes ≡ (kind ∷ spelling a.0.0) ++ a.0.1 = ap (λ (k : ℕ). k ∷ bytes) tag_is ∙ ap (λ (b : List ℕ). kind ∷ b) t.0.parts in
     let parts : tag ∷ bytes ≡ record_bytes (record_of a.0.0) ++ a.0.1 = front ∙ ap (λ (b : List ℕ). b ++ a.0.1) (sym (spelled a.0.0)) in
     subst (λ (p : Record × List ℕ). Taken tag bytes p.0 p.1) (ok_is (record_of a.0.0, a.0.1) (x, rest) a.2)
@@ -260,7 +260,7 @@ no_value x rest e = cc
 
 pub record_sort : IsSort record_at record_bytes IsGoodRecord
 unfolding record_at record_fields_at byte_at
-record_sort = record { takes = takes; again = again; stays = stays }
+record_sort = record { part = record { takes = takes; again = again }; stays = stays }
   where
     fields_take : (tag : ℕ) (bytes : List ℕ) (x : Record) (rest : List ℕ) → IsBytes bytes → record_fields_at tag bytes ≡ Ok (x, rest) → Taken tag bytes x rest
     fields_take tag bytes x rest fits e =
@@ -280,8 +280,8 @@ record_sort = record { takes = takes; again = again; stays = stays }
     takes (tag ∷ bytes) x rest fits e = fields_take tag bytes x rest (λ i. fits (suc i)) e
 
     again : (x : Record) (rest : List ℕ) → IsGoodRecord x → record_at (record_bytes x ++ rest) ≡ Ok (x, rest)
-    again (records.User user) rest good = ap (made records.User) (user_field.laws.again user rest (user_passes user good))
-    again (records.Ban ban) rest good = ap (made records.Ban) (ban_field.laws.again ban rest (ban_passes ban good))
+    again (records.User user) rest good = ap (made records.User) (user_field.laws.part.again user rest (user_passes user good))
+    again (records.Ban ban) rest good = ap (made records.Ban) (ban_field.laws.part.again ban rest (ban_passes ban good))
 
     stays : (bytes more : List ℕ) → Stays (record_at bytes) (record_at (bytes ++ more)) more
     stays bytes more = stays_bind (byte_at bytes) _ _ more (byte_field.laws.stays bytes more) (λ tag.

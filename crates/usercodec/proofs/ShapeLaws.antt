@@ -1,7 +1,8 @@
 -- What a good shape says of a change's fields, and how long such fields are.
-use Rattle.std.proofs.Common.{◌≡◌, ℕ, Bool, true, false, List, Option, None, Some, refl, sym, subst, arith}
+use Rattle.std.proofs.Common.{◌≡◌, ℕ, ◌<◌, Bool, true, false, List, length, Option, None, Some, refl, sym, subst, arith}
 use Rattle.std.specs.List.{list_all}
 use Rattle.std.proofs.lemmas.Bool.Decides.{nat_tests}
+use Rattle.std.proofs.lemmas.List.{length-append}
 use Rattle.rfccase.specs.Channels.{is_channel_name}
 use Rattle.userfile.specs.Shapes.{is_handle, is_hostmask, is_ban_channel, is_comment}
 use Rattle.userfile.proofs.RepeatLemmas.{and_true}
@@ -13,6 +14,7 @@ use Rattle.userfile.specs.declared.change.Change.{Change}
 use Rattle.userfile.specs.declared.change.Change.TheVariants.{AddUser, DelUser, AddHost, DelHost, SetGlobal, SetChan, SetBot, AddBan, DelBan}
 use Rattle.userfile.specs.declared.error.ChangeFault.{ChangeFault}
 use Rattle.usercodec.specs.Lengths.{IsShort, ChangeIsShort}
+use Rattle.usercodec.specs.Changes.{change_bytes}
 
 -- ---- lengths
 
@@ -99,6 +101,17 @@ short_texts (AddBan channel mask creator expires comment) e =
     (ban_channel_is_short channel p.0, hostmask_is_short mask p.1, handle_is_short creator p.2, comment_is_short comment p.3)
 short_texts (DelBan channel mask) e =
     let p = fields_pass (DelBan channel mask) e in (ban_channel_is_short channel p.0, hostmask_is_short mask p.1)
+
+pub change_is_short : (change : Change) → ChangeIsShort change → length (change_bytes change) < 2000
+change_is_short (AddUser handle) short = omega arith
+change_is_short (DelUser handle) short = omega arith
+change_is_short (AddHost handle mask) short = simp length-append (omega arith)
+change_is_short (DelHost handle mask) short = simp length-append (omega arith)
+change_is_short (SetGlobal handle bits) short = simp length-append (omega arith)
+change_is_short (SetChan handle channel bits) short = simp length-append (omega arith)
+change_is_short (SetBot handle bits) short = simp length-append (omega arith)
+change_is_short (AddBan channel mask creator expires comment) short = simp length-append (omega arith)
+change_is_short (DelBan channel mask) short = simp length-append (omega arith)
 
 -- ---- records
 

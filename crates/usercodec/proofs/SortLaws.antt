@@ -29,7 +29,7 @@ pub decodes : {A : Type 0} {read : List ℕ → Reading A} {spelling : A → Lis
     → (n ≤ length bytes) × ((length bytes - n ≤ length bytes) × (read bytes ≡ Ok (x, drop (length bytes - n) bytes)))
 decodes {read = read} {spelling = spelling} sort bytes start x rest n fits begins left e =
     let whole : read bytes ≡ Ok (x, rest) = ap read (sym begins) ∙ e in
-    let t = (sort.takes bytes x rest fits whole).0 in
+    let t = (sort.part.takes bytes x rest fits whole).0 in
     let le = rest-le bytes (spelling x) rest t in
     let dropped : rest ≡ drop (length bytes - n) bytes =
     rest-drop bytes (spelling x) rest t ∙ ap (λ (k : ℕ). drop (length bytes - k) bytes) (sym left) in
@@ -54,21 +54,21 @@ front_is bytes text used le e =
 pub is_good : {A : Type 0} {read : List ℕ → Reading A} {spelling : A → List ℕ} {IsGood : A → Type 0} → IsSort read spelling IsGood
     → (bytes : List ℕ) (answer : Result (Decoded A) (Failure CodecFault)) → IsBytes bytes → Decodes bytes answer (read bytes)
     → IfOk answer (λ x. IsGood x.value)
-is_good sort bytes (Ok x) fits d = (sort.takes bytes x.value (drop x.used bytes) fits d.1).1
+is_good sort bytes (Ok x) fits d = (sort.part.takes bytes x.value (drop x.used bytes) fits d.1).1
 is_good sort bytes (Err e) fits d = tt
 
 pub is_front : {A : Type 0} {read : List ℕ → Reading A} {spelling : A → List ℕ} {IsGood : A → Type 0} → IsSort read spelling IsGood
     → (bytes : List ℕ) (answer : Result (Decoded A) (Failure CodecFault)) → IsBytes bytes → Decodes bytes answer (read bytes)
     → IfOk answer (λ x. take x.used bytes ≡ spelling x.value)
 is_front {spelling = spelling} sort bytes (Ok x) fits d =
-    (front_is bytes (spelling x.value) x.used d.0 (sort.takes bytes x.value (drop x.used bytes) fits d.1).0.parts).0
+    (front_is bytes (spelling x.value) x.used d.0 (sort.part.takes bytes x.value (drop x.used bytes) fits d.1).0.parts).0
 is_front sort bytes (Err e) fits d = tt
 
 pub is_used : {A : Type 0} {read : List ℕ → Reading A} {spelling : A → List ℕ} {IsGood : A → Type 0} → IsSort read spelling IsGood
     → (bytes : List ℕ) (answer : Result (Decoded A) (Failure CodecFault)) → IsBytes bytes → Decodes bytes answer (read bytes)
     → IfOk answer (λ x. x.used ≡ length (spelling x.value))
 is_used {spelling = spelling} sort bytes (Ok x) fits d =
-    (front_is bytes (spelling x.value) x.used d.0 (sort.takes bytes x.value (drop x.used bytes) fits d.1).0.parts).1
+    (front_is bytes (spelling x.value) x.used d.0 (sort.part.takes bytes x.value (drop x.used bytes) fits d.1).0.parts).1
 is_used sort bytes (Err e) fits d = tt
 
 abbrev read_as : {A : Type 0} → A → List ℕ → Reading A
@@ -89,16 +89,16 @@ pub is_read : {A : Type 0} {read : List ℕ → Reading A} {spelling : A → Lis
     → (bytes : List ℕ) (answer : Result (Decoded A) (Failure CodecFault)) (x : A) (rest : List ℕ) → IsBytes bytes → Decodes bytes answer (read bytes)
     → IsGood x → bytes ≡ spelling x ++ rest → Reads answer x (length (spelling x))
 is_read {read = read} {spelling = spelling} sort bytes (Ok y) x rest fits d good parts =
-    let same = value_is y.value x (drop y.used bytes) rest (sym d.1 ∙ ap read parts ∙ sort.again x rest good) in
+    let same = value_is y.value x (drop y.used bytes) rest (sym d.1 ∙ ap read parts ∙ sort.part.again x rest good) in
     (same.0, is_used sort bytes (Ok y) fits d ∙ ap (λ v. length (spelling v)) same.0)
-is_read {read = read} sort bytes (Err (Refused fault)) x rest fits d good parts = not_refused fault x rest (sym d ∙ ap read parts ∙ sort.again x rest good)
+is_read {read = read} sort bytes (Err (Refused fault)) x rest fits d good parts = not_refused fault x rest (sym d ∙ ap read parts ∙ sort.part.again x rest good)
 is_read sort bytes (Err NoMemory) x rest fits d good parts = tt
 
 -- ---- no spelling begins another
 
 pub apart : {A : Type 0} {read : List ℕ → Reading A} {spelling : A → List ℕ} {IsGood : A → Type 0} → IsSort read spelling IsGood
     → (a b : A) (x y : List ℕ) → IsGood a → IsGood b → spelling a ++ x ≡ spelling b ++ y → (a ≡ b) × (x ≡ y)
-apart {read = read} sort a b x y good_a good_b same = value_is a b x y (sym (sort.again a x good_a) ∙ ap read same ∙ sort.again b y good_b)
+apart {read = read} sort a b x y good_a good_b same = value_is a b x y (sym (sort.part.again a x good_a) ∙ ap read same ∙ sort.part.again b y good_b)
 
 not_empty : (xs : List ℕ) (x : ℕ) (ys : List ℕ) → xs ++ x ∷ ys ≡ [] → ⊥
 not_empty [] x ys e = cc
@@ -110,7 +110,7 @@ pub cut : {A : Type 0} {read : List ℕ → Reading A} {spelling : A → List �
 cut {A = A} {read = read} {spelling = spelling} sort a front next rest good parts = by (read front) (sort.stays front (next ∷ rest))
   where
     whole : read (front ++ next ∷ rest) ≡ read_as a []
-    whole = ap read (sym parts ∙ sym (append-nil (spelling a))) ∙ sort.again a [] good
+    whole = ap read (sym parts ∙ sym (append-nil (spelling a))) ∙ sort.part.again a [] good
 
     by : (r : Reading A) → Stays r (read (front ++ next ∷ rest)) (next ∷ rest) → r ≡ Err Short
     by (Ok x) stays = absurd (not_empty x.1 next rest (value_is x.0 a (x.1 ++ next ∷ rest) [] (sym stays ∙ whole)).1)

@@ -8,7 +8,7 @@ ghost use Rattle.usercodec.specs.Changes.{ban_bytes, ban_at};
 use crate::fault::CodecError;
 use crate::reader::Reader;
 use crate::user_fields::hostmask;
-use crate::writer::{put_byte, put_number, put_text};
+use crate::writer::{put_byte, put_text, put_u64};
 use bytetext::{NoMemory, Text};
 use std::alloc::Global;
 use userfile::Ban;
@@ -35,7 +35,7 @@ pub fn put_ban(out: &mut Vec<u8>, ban: &Ban) -> Result<(), NoMemory>
     put_text(out, ban.channel.as_bytes())?;
     put_text(out, ban.mask.as_bytes())?;
     put_text(out, ban.creator.as_bytes())?;
-    put_number(out, ban.expires)?;
+    put_u64(out, ban.expires)?;
     put_text(out, ban.comment.as_bytes())
 }
 
@@ -46,7 +46,7 @@ pub(crate) fn ban_fields<'a>(reader: &mut Reader<'a>) -> Result<BanFields<'a>, C
     let channel = reader.ban_channel()?;
     let mask = reader.hostmask()?;
     let creator = reader.handle()?;
-    let expires = reader.number()?;
+    let expires = reader.u64()?;
     let comment = reader.comment()?;
     Ok(BanFields {
         channel,

@@ -12,7 +12,7 @@ use crate::change_fields::change;
 use crate::decoded::Decoded;
 use crate::fault::CodecError;
 use crate::reader::Reader;
-use crate::writer::{put_byte, put_flags, put_number, put_text};
+use crate::writer::{put_byte, put_flags, put_text, put_u64};
 use bytetext::{NoMemory, Text};
 use flagexpr::Flags;
 use std::alloc::Global;
@@ -71,7 +71,7 @@ fn put_fields(out: &mut Vec<u8>, change: &Change) -> Result<(), NoMemory>
         } => {
             put_two(out, 8, channel, mask)?;
             put_text(out, creator.as_bytes())?;
-            put_number(out, *expires)?;
+            put_u64(out, *expires)?;
             put_text(out, comment.as_bytes())
         }
         Change::DelBan { channel, mask } => put_two(out, 9, channel, mask),

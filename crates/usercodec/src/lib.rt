@@ -26,7 +26,8 @@
 //!
 //! Reading takes a value from the front of some bytes and says how many it used. It accepts nothing but the one
 //! spelling of a value that a userfile may hold, so what was read is written back byte for byte. [`laws_of_changes`]
-//! and [`laws_of_records`] say what follows for whoever frames or stores values: no spelling begins another.
+//! and [`laws_of_records`] say what follows for whoever frames or stores values: no spelling begins another. Whoever
+//! spells values of their own around these reads their fields with a [`Reader`].
 //!
 //! ```text
 //! let bytes = write_change(alloc, &Change::AddUser { handle })?;    // 01 05 a l i c e
@@ -54,5 +55,7 @@ pub use crate::decoded::Decoded;
 pub use crate::fault::{CodecError, CodecFault};
 pub use crate::fault_byte::{byte_of_fault, fault_of_byte};
 pub use crate::laws::{laws_of_changes, laws_of_records};
+pub use crate::reader::Reader;
 pub use crate::records::{Record, put_record, read_record, write_record};
 pub use crate::users::put_user;
+pub use crate::writer::{put_u16, put_u32};

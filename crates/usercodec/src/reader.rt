@@ -1,17 +1,31 @@
 // The fields at the front of some bytes.
 ghost use Rattle.std.specs.Prelude.{◌≡◌};
 
+use crate::change_fields::change;
 use crate::fault::{CodecError, CodecFault};
+use crate::fault_byte::fault_of_byte;
+use crate::records::{Record, tagged_record};
 use bytetext::Failure;
 use flagexpr::Flags;
 use rfccase::is_channel_name;
+use std::alloc::Global;
 use std::marker::Model;
-use userfile::{is_ban_channel, is_comment, is_handle, is_hostmask};
+use userfile::{Change, ChangeFault, is_ban_channel, is_comment, is_handle, is_hostmask};
 
-// The bytes that are still to be read. Contracts see them. Each method reads one field and steps over it; after a fault
-// nothing is said of the reader. None of them takes memory.
+/// Reads fields from the front of some bytes, one after the other. Contracts see the bytes that are still to be read.
+///
+/// Each call steps over the field that it answers; where it answers an error, the reader is as before. Numbers have
+/// their most significant byte first. Only [`change`](Reader::change) and [`record`](Reader::record) take memory.
+///
+/// ```text
+/// let mut reader = Reader::new(b"\x00\x02\x07alice");
+/// reader.u16()?       // 2
+/// reader.byte()?      // 7
+/// reader.bytes(5)?    // alice
+/// reader.byte()       // Short
+/// ```
 #[derive(Drop)]
-pub(crate) struct Reader<'a> {
+pub struct Reader<'a> {
     rest: &'a [u8],
 }
 
@@ -24,29 +38,37 @@ impl<'a> Model for Reader<'a> {
 }
 
 impl<'a> Reader<'a> {
-    ghost use Rattle.std.specs.Prelude.{◌≡◌, ◌≤◌, length, IfOk};
-    ghost use Rattle.std.specs.Int.{w64};
-    ghost use Rattle.usercodec.specs.Answers.{Gives};
-    ghost use Rattle.usercodec.specs.Fields.{byte_at, bytes_at, number_at, text_at, count_at, flags_at};
-    ghost use Rattle.usercodec.specs.Fields.{handle_at, hostmask_at, channel_at, ban_channel_at, comment_at};
+    ghost use Rattle.std.specs.Prelude.{◌≡◌, ◌↔◌, [], length, IfOk, OnErr, IsTrue};
+    ghost use Rattle.std.specs.Int.{w16, w32};
+    ghost use Rattle.usercodec.specs.Answers.{Gives, Makes};
+    ghost use Rattle.usercodec.specs.Fields.{byte_at, bytes_at, number_at};
+    ghost use Rattle.usercodec.specs.FaultBytes.{fault_at};
+    ghost use Rattle.usercodec.specs.Changes.{change_at};
+    ghost use Rattle.usercodec.specs.Records.{record_at};
 
-    pub(crate) fn new(bytes: &'a [u8]) -> Reader<'a>
+    /// A reader at the begin of some bytes.
+    pub fn new(bytes: &'a [u8]) -> Reader<'a>
         ensures { result ≡ bytes.now }
     {
         Reader { rest: bytes }
     }
 
-    // How many bytes are left.
-    pub(crate) fn len(&self) -> usize
-        ensures { result ≡ length self.now }
+    /// Whether no byte is left.
+    pub fn is_empty(&self) -> bool
+        ensures { IsTrue result ↔ (self.now ≡ []) }
     {
-        self.rest.len()
+        self.rest.is_empty()
     }
 
+    /// So many bytes.
+    ///
+    /// # Errors
+    /// `Refused` with [`CodecFault::Short`] where fewer are left.
     #[tactic(auto, unfolding(crate::specs::Fields::bytes_at))]
-    fn bytes(&mut self, count: usize) -> Result<&'a [u8], CodecError>
-        ensures bytes { Gives (λ bytes. (bytes.now, self.new)) result (bytes_at count self.old) }
+    pub fn bytes(&mut self, count: usize) -> Result<&'a [u8], CodecError>
+        ensures value { Gives (λ bytes. (bytes.now, self.new)) result (bytes_at count self.old) }
         ensures length { IfOk result (λ bytes. length bytes.now ≡ count) }
+        ensures unchanged { OnErr result (self.new ≡ self.old) }
     {
         if self.rest.len() < count {
             return Err(Failure::Refused(CodecFault::Short));
@@ -56,9 +78,14 @@ impl<'a> Reader<'a> {
         Ok(front)
     }
 
+    /// One byte.
+    ///
+    /// # Errors
+    /// `Refused` with [`CodecFault::Short`] where none is left.
     #[tactic(auto, unfolding(crate::specs::Fields::byte_at))]
-    pub(crate) fn byte(&mut self) -> Result<u8, CodecError>
-        ensures { Gives (λ byte. (byte, self.new)) result (byte_at self.old) }
+    pub fn byte(&mut self) -> Result<u8, CodecError>
+        ensures value { Gives (λ byte. (byte, self.new)) result (byte_at self.old) }
+        ensures unchanged { OnErr result (self.new ≡ self.old) }
     {
         match self.rest {
             [] => Err(Failure::Refused(CodecFault::Short)),
@@ -70,8 +97,100 @@ impl<'a> Reader<'a> {
         }
     }
 
+    /// A number of two bytes.
+    ///
+    /// # Errors
+    /// As of [`bytes`](Reader::bytes).
     #[tactic(auto, unfolding(crate::specs::Fields::number_at))]
-    pub(crate) fn number(&mut self) -> Result<u64, CodecError>
+    pub fn u16(&mut self) -> Result<u16, CodecError>
+        ensures value { Gives (λ n. (n, self.new)) result (number_at w16 self.old) }
+        ensures unchanged { OnErr result (self.new ≡ self.old) }
+    {
+        let digits = self.bytes(2)?;
+        Ok(u16::from_be_bytes([digits[0], digits[1]]))
+    }
+
+    /// A number of four bytes.
+    ///
+    /// # Errors
+    /// As of [`bytes`](Reader::bytes).
+    #[tactic(auto, unfolding(crate::specs::Fields::number_at))]
+    pub fn u32(&mut self) -> Result<u32, CodecError>
+        ensures value { Gives (λ n. (n, self.new)) result (number_at w32 self.old) }
+        ensures unchanged { OnErr result (self.new ≡ self.old) }
+    {
+        let digits = self.bytes(4)?;
+        Ok(u32::from_be_bytes([digits[0], digits[1], digits[2], digits[3]]))
+    }
+
+    /// Why the userfile refused a change: see [`fault_of_byte`].
+    ///
+    /// # Errors
+    /// `Refused` with [`CodecFault::Short`] where no byte is left, `NotCanonical` where the byte tells no fault.
+    #[tactic(auto, unfolding(crate::specs::FaultBytes::fault_at, crate::specs::Fields::byte_at))]
+    pub fn fault(&mut self) -> Result<ChangeFault, CodecError>
+        ensures value { Gives (λ fault. (fault, self.new)) result (fault_at self.old) }
+        ensures unchanged { OnErr result (self.new ≡ self.old) }
+    {
+        let mut ahead = Reader { rest: self.rest };
+        let byte = ahead.byte()?;
+        match fault_of_byte(byte) {
+            Some(fault) => {
+                self.rest = ahead.rest;
+                Ok(fault)
+            }
+            None => Err(Failure::Refused(CodecFault::NotCanonical)),
+        }
+    }
+
+    /// A change: see [`read_change`](crate::read_change).
+    ///
+    /// # Errors
+    /// `Refused` with the first fault of the bytes from the left, `NoMemory` where there is none and room for the
+    /// change's texts is refused.
+    pub fn change(&mut self, alloc: Global) -> Result<Change, CodecError>
+        ensures value { Makes (λ change. (change, self.new)) result (change_at self.old) }
+        ensures unchanged { OnErr result (self.new ≡ self.old) }
+    {
+        let mut ahead = Reader { rest: self.rest };
+        let change = change(alloc, &mut ahead)?;
+        self.rest = ahead.rest;
+        Ok(change)
+    }
+
+    /// A record: see [`read_record`](crate::read_record).
+    ///
+    /// # Errors
+    /// `Refused` with the first fault of the bytes from the left, `NoMemory` where there is none and room for the
+    /// record is refused.
+    pub fn record(&mut self, alloc: Global) -> Result<Record, CodecError>
+        ensures value { Makes (λ value. (value, self.new)) result (record_at self.old) }
+        ensures unchanged { OnErr result (self.new ≡ self.old) }
+    {
+        let mut ahead = Reader { rest: self.rest };
+        let value = tagged_record(alloc, &mut ahead)?;
+        self.rest = ahead.rest;
+        Ok(value)
+    }
+}
+
+// The fields of changes and records. After a fault nothing is said of the reader.
+impl<'a> Reader<'a> {
+    ghost use Rattle.std.specs.Prelude.{◌≡◌, ◌≤◌, length, IfOk};
+    ghost use Rattle.std.specs.Int.{w64};
+    ghost use Rattle.usercodec.specs.Answers.{Gives};
+    ghost use Rattle.usercodec.specs.Fields.{number_at, text_at, count_at, flags_at};
+    ghost use Rattle.usercodec.specs.Fields.{handle_at, hostmask_at, channel_at, ban_channel_at, comment_at};
+
+    // How many bytes are left.
+    pub(crate) fn len(&self) -> usize
+        ensures { result ≡ length self.now }
+    {
+        self.rest.len()
+    }
+
+    #[tactic(auto, unfolding(crate::specs::Fields::number_at))]
+    pub(crate) fn u64(&mut self) -> Result<u64, CodecError>
         ensures { Gives (λ n. (n, self.new)) result (number_at w64 self.old) }
     {
         let digits = self.bytes(8)?;
@@ -101,7 +220,7 @@ impl<'a> Reader<'a> {
     pub(crate) fn flags(&mut self) -> Result<Flags, CodecError>
         ensures { Gives (λ flags. (flags, self.new)) result (flags_at self.old) }
     {
-        let bits = self.number()?;
+        let bits = self.u64()?;
         match Flags::from_bits(bits) {
             Some(flags) => Ok(flags),
             None => Err(Failure::Refused(CodecFault::NotCanonical)),

@@ -26,14 +26,8 @@ pub enum Record {
 impl TryCopy for Record {
     fn copy(&self, alloc: Global) -> Result<Record, NoMemory> {
         match self {
-            Record::User(user) => match user.copy(alloc) {
-                Ok(user) => Ok(Record::User(user)),
-                Err(NoMemory) => Err(NoMemory),
-            },
-            Record::Ban(ban) => match ban.copy(alloc) {
-                Ok(ban) => Ok(Record::Ban(ban)),
-                Err(NoMemory) => Err(NoMemory),
-            },
+            Record::User(user) => Ok(Record::User(user.copy(alloc)?)),
+            Record::Ban(ban) => Ok(Record::Ban(ban.copy(alloc)?)),
         }
     }
 }
@@ -88,7 +82,7 @@ fn decode(alloc: Global, bytes: &[u8]) -> Result<Decoded<Record>, CodecError>
     ensures { Decodes bytes.now result (record_at bytes.now) }
 {
     let mut reader = Reader::new(bytes);
-    let value = tagged(alloc, &mut reader)?;
+    let value = tagged_record(alloc, &mut reader)?;
     Ok(Decoded {
         value,
         used: bytes.len() - reader.len(),
@@ -96,7 +90,7 @@ fn decode(alloc: Global, bytes: &[u8]) -> Result<Decoded<Record>, CodecError>
 }
 
 #[tactic(auto, unfolding(crate::specs::Records::record_at))]
-fn tagged(alloc: Global, reader: &mut Reader<'_>) -> Result<Record, CodecError>
+pub(crate) fn tagged_record(alloc: Global, reader: &mut Reader<'_>) -> Result<Record, CodecError>
     ensures { Makes (λ value. (value, reader.new)) result (record_at reader.old) }
 {
     let tag = reader.byte()?;

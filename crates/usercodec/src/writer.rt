@@ -1,6 +1,6 @@
 // Fields at the end of some bytes.
 ghost use Rattle.std.specs.Prelude.{◌≡◌, ◌++◌, ◌∷◌, [], ◌<◌, OnOk, length};
-ghost use Rattle.std.specs.Int.{w64};
+ghost use Rattle.std.specs.Int.{w16, w32, w64};
 ghost use Rattle.usercodec.specs.Fields.{number, text, flags};
 
 use bytetext::NoMemory;
@@ -13,7 +13,29 @@ pub(crate) fn put_byte(out: &mut Vec<u8>, byte: u8) -> Result<(), NoMemory>
     Ok(())
 }
 
-pub(crate) fn put_number(out: &mut Vec<u8>, n: u64) -> Result<(), NoMemory>
+/// Puts a number after some bytes, its most significant byte first.
+///
+/// # Errors
+/// `NoMemory` where room for it is refused.
+pub fn put_u16(out: &mut Vec<u8>, n: u16) -> Result<(), NoMemory>
+    ensures { OnOk result (out.new.items ≡ out.old.items ++ number w16 n) }
+{
+    out.extend_from_slice(&n.to_be_bytes())?;
+    Ok(())
+}
+
+/// Puts a number after some bytes, its most significant byte first.
+///
+/// # Errors
+/// `NoMemory` where room for it is refused.
+pub fn put_u32(out: &mut Vec<u8>, n: u32) -> Result<(), NoMemory>
+    ensures { OnOk result (out.new.items ≡ out.old.items ++ number w32 n) }
+{
+    out.extend_from_slice(&n.to_be_bytes())?;
+    Ok(())
+}
+
+pub(crate) fn put_u64(out: &mut Vec<u8>, n: u64) -> Result<(), NoMemory>
     ensures { OnOk result (out.new.items ≡ out.old.items ++ number w64 n) }
 {
     out.extend_from_slice(&n.to_be_bytes())?;
@@ -23,7 +45,7 @@ pub(crate) fn put_number(out: &mut Vec<u8>, n: u64) -> Result<(), NoMemory>
 pub(crate) fn put_flags(out: &mut Vec<u8>, letters: Flags) -> Result<(), NoMemory>
     ensures { OnOk result (out.new.items ≡ out.old.items ++ flags letters) }
 {
-    put_number(out, letters.bits())
+    put_u64(out, letters.bits())
 }
 
 // No text of a change or a record has more than 120 bytes.

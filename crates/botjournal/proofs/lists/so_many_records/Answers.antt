@@ -6,17 +6,17 @@ use Rattle.botjournal.proofs.lists.so_many_records.Goals as goal
 
 pub returns-in-Err : goal.returns-in-Err
 returns-in-Err c =
-    fails (alone record_at) c.in-Err.error c.args.count c.loop.counter c.loop.records.items c.loop.fields
-    (items_at (alone record_at) c.args.count [] c.args.fields.now) c.loop-test.true (fails_may c.in-Err.error (record_at c.loop.fields) c.in-Err.ensures)
+    fails (alone record_at) c.in-Err.error c.args.count c.loop.counter c.loop.records.items c.loop.reader
+    (items_at (alone record_at) c.args.count [] c.args.reader.now) c.loop-test.true (fails_may c.in-Err.error (record_at c.loop.reader) c.in-Err.ensures.value)
     c.loop.invariant
 
 pub loop-preserved : goal.loop-preserved
 loop-preserved c =
-    rw c.in_ok-push-in-Ok.ensures.items (goes_on (alone record_at) c.args.count c.loop.counter c.loop.records.items c.loop.fields c.in-Ok.value
+    rw c.in_ok-push-in-Ok.ensures.items (goes_on (alone record_at) c.args.count c.loop.counter c.loop.records.items c.loop.reader c.in-Ok.value
     c.record.new.self
-    (items_at (alone record_at) c.args.count [] c.args.fields.now) c.loop.records.items c.loop-test.true refl c.in-Ok.ensures c.loop.invariant)
+    (items_at (alone record_at) c.args.count [] c.args.reader.now) c.loop.records.items c.loop-test.true refl c.in-Ok.ensures.value c.loop.invariant)
 
 pub returns : goal.returns
 returns c =
-    is_done (alone record_at) c.args.count c.loop.counter c.loop.records.items c.loop.fields (items_at (alone record_at) c.args.count [] c.args.fields.now)
+    is_done (alone record_at) c.args.count c.loop.counter c.loop.records.items c.loop.reader (items_at (alone record_at) c.args.count [] c.args.reader.now)
     c.loop-test.false c.loop.invariant

@@ -7,17 +7,17 @@ use Rattle.botjournal.proofs.lists.so_many_replies.Goals as goal
 
 pub returns-in-Err : goal.returns-in-Err
 returns-in-Err c =
-    fails (alone reply_at) c.in-Err.error c.args.count c.loop.counter c.loop.replies.items c.loop.fields
-    (items_at (alone reply_at) c.args.count [] c.args.fields.now) c.loop-test.true (fails_told c.in-Err.error (reply_at c.loop.fields) c.in-Err.ensures)
+    fails (alone reply_at) c.in-Err.error c.args.count c.loop.counter c.loop.replies.items c.loop.reader
+    (items_at (alone reply_at) c.args.count [] c.args.reader.now) c.loop-test.true (fails_told c.in-Err.error (reply_at c.loop.reader) c.in-Err.ensures)
     c.loop.invariant
 
 pub loop-preserved : goal.loop-preserved
 loop-preserved c =
-    rw c.in_ok-push-in-Ok.ensures.items (goes_on (alone reply_at) c.args.count c.loop.counter c.loop.replies.items c.loop.fields c.in-Ok.reply
-    c.reply.new.fields
-    (items_at (alone reply_at) c.args.count [] c.args.fields.now) c.loop.replies.items c.loop-test.true refl c.in-Ok.ensures c.loop.invariant)
+    rw c.in_ok-push-in-Ok.ensures.items (goes_on (alone reply_at) c.args.count c.loop.counter c.loop.replies.items c.loop.reader c.in-Ok.reply
+    c.reply.new.reader
+    (items_at (alone reply_at) c.args.count [] c.args.reader.now) c.loop.replies.items c.loop-test.true refl c.in-Ok.ensures c.loop.invariant)
 
 pub returns : goal.returns
 returns c =
-    is_done (alone reply_at) c.args.count c.loop.counter c.loop.replies.items c.loop.fields (items_at (alone reply_at) c.args.count [] c.args.fields.now)
+    is_done (alone reply_at) c.args.count c.loop.counter c.loop.replies.items c.loop.reader (items_at (alone reply_at) c.args.count [] c.args.reader.now)
     c.loop-test.false c.loop.invariant

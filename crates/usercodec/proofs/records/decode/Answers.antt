@@ -5,11 +5,11 @@ use Rattle.usercodec.proofs.records.decode.Goals as goal
 
 pub overflow_sub-result : goal.overflow_sub-result
 overflow_sub-result c =
-    (decodes record_sort c.args.bytes.now c.new-reader.result c.in_ok-value.value c.tagged.new.reader c.len.result
+    (decodes record_sort c.args.bytes.now c.new-reader.result c.in_ok-value.value c.tagged_record.new.reader c.len.result
     (λ i. omega (arith, c.type_inv.bytes i)) c.new-reader.ensures c.len.ensures c.in_ok-value.ensures).0
 
 pub returns : goal.returns
 returns c =
-    let whole = (decodes record_sort c.args.bytes.now c.new-reader.result c.in_ok-value.value c.tagged.new.reader c.len.result
+    let whole = (decodes record_sort c.args.bytes.now c.new-reader.result c.in_ok-value.value c.tagged_record.new.reader c.len.result
     (λ i. omega (arith, c.type_inv.bytes i)) c.new-reader.ensures c.len.ensures c.in_ok-value.ensures).1 in
     (whole.0, whole.1)
