@@ -10,3 +10,4 @@ pub mod Appending
 pub mod Rebasing
 pub mod Choosing
 pub mod Creating
+pub mod Recovering

@@ -5,3 +5,4 @@ pub mod Reading
 pub mod Writing
 pub mod Journal
 pub mod Opening
+pub mod Recovery

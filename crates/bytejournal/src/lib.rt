@@ -16,7 +16,8 @@
 //!
 //! After a disk's fault the journal is spent: what was being written counts or doesn't, and opening it again tells.
 //! `NotAJournal` never comes from disks that `create` made and only this journal wrote: at each moment of each call
-//! every image that a crash may leave means the contents before the call or after it.
+//! every image that a crash may leave means the contents before the call or after it. [`laws_of_journals`] says so of
+//! any number of calls and crashes.
 #![tactic(auto)]
 
 mod fault;
@@ -24,9 +25,11 @@ mod gate;
 mod journal;
 mod opening;
 mod reading;
+mod recovery;
 mod spelling;
 mod writing;
 
 pub use crate::fault::{JournalError, JournalFault};
 pub use crate::journal::Journal;
 pub use crate::opening::{Disks, Opened, Returned};
+pub use crate::recovery::laws_of_journals;

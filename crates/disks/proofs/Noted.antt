@@ -73,14 +73,17 @@ kept events past event content torn content' torn' at n same first content_room 
       torn_fits = omega (arith, room', is.torn_fits, written.no_longer, fits');
     }
 
+-- the disk with these in place of its own; what it leaves and what is planned make no difference to its state
+abbrev pub changed : Memory → List Event → List ℕ → ℕ → ℕ → Memory
+changed old events content failures room = record old { events = events; content = content; failures = failures; room = room }
+
 -- a sync that is noted changes no byte, and a crash leaves what a read gives
 pub synced : (old : Memory) (events past : List Event) (event : Event) (content : List ℕ) (failures room : ℕ) → old.events ≡ past
     → old.content ≡ content → events ≡ event ∷ past → event.is_write ≡ false → event.seen ≡ content
-    → SameBytes (state_of old) (state_of (record { events = events; content = content; failures = failures; room = room }))
+    → SameBytes (state_of old) (state_of (changed old events content failures room))
 synced old events past event content failures room past_is content_is noted syncs seen_is =
-    subst (λ (c : List ℕ). SameBytes (state_of old) (state_of (record { events = events; content = c; failures = failures; room = room }))) content_is
-    (subst (λ (es : List Event). SameBytes (state_of old)
-    (state_of (record { events = es; content = old.content; failures = failures; room = room }))) (sym (noted
+    subst (λ (c : List ℕ). SameBytes (state_of old) (state_of (changed old events c failures room))) content_is
+    (subst (λ (es : List Event). SameBytes (state_of old) (state_of (changed old es old.content failures room))) (sym (noted
     ∙ ap (λ (p : List Event). event ∷ p) (sym past_is)))
     (record {
       seen = refl;

@@ -1,7 +1,7 @@
 // Texts put over bytes in room that is there.
-ghost use Rattle.std.specs.Prelude.{◌≡◌, ◌<◌, ◌≤◌, ◌+◌, ◌++◌, length, take, drop, vec_len, OnOk};
+ghost use Rattle.std.specs.Prelude.{◌≡◌, ◌<◌, ◌≤◌, ◌+◌, ◌++◌, length, take, drop, replicate, vec_len, OnOk};
 ghost use Rattle.std.specs.Vec.{vec_capacity};
-ghost use Rattle.storage.specs.Calls.{Holds, Torn, read_count};
+ghost use Rattle.storage.specs.Calls.{Holds, read_count};
 
 use bytetext::NoMemory;
 
@@ -44,11 +44,10 @@ pub(crate) fn put(bytes: &mut Vec<u8>, at: usize, text: &[u8])
 /// Sets the bytes of a range.
 pub(crate) fn fill(bytes: &mut [u8], at: usize, count: usize, byte: u8)
     requires { at + count ≤ length bytes.old }
-    ensures { Torn at count bytes.old bytes.new }
+    ensures { Holds bytes.old at (replicate count byte) bytes.new }
 {
-    for i in at..at + count {
-        bytes[i] = byte;
-    }
+    let end = at + count;
+    bytes[at..end].fill(byte);
 }
 
 /// Makes `copy` the same as `bytes`, where the first `same` bytes are the same already.

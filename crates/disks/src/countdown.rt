@@ -1,7 +1,12 @@
 // When a planned fault is due.
+ghost use Rattle.std.specs.Prelude.{◌≡◌, ◌↔◌, IsTrue};
+ghost use Rattle.disks.specs.Plans.{IsDue, fewer, fewer_once};
 
 /// Whether a call fails whose fault was planned: once the count is 0 it and all later ones do.
-pub(crate) fn is_over(left: &mut Option<u64>) -> bool {
+pub(crate) fn is_over(left: &mut Option<u64>) -> bool
+    ensures due { IsTrue result ↔ IsDue left.old }
+    ensures counted { left.new ≡ fewer left.old }
+{
     match *left {
         None => false,
         Some(0) => true,
@@ -13,10 +18,19 @@ pub(crate) fn is_over(left: &mut Option<u64>) -> bool {
 }
 
 /// Whether a call fails whose fault was planned: once the count is 0 it does, and no later one.
-pub(crate) fn is_due(left: &mut Option<u64>) -> bool {
-    let over = is_over(left);
-    if over {
-        *left = None;
+pub(crate) fn is_due(left: &mut Option<u64>) -> bool
+    ensures due { IsTrue result ↔ IsDue left.old }
+    ensures counted { left.new ≡ fewer_once left.old }
+{
+    match *left {
+        None => false,
+        Some(0) => {
+            *left = None;
+            true
+        }
+        Some(count) => {
+            *left = Some(count - 1);
+            false
+        }
     }
-    over
 }

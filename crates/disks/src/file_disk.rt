@@ -6,8 +6,11 @@ ghost use Rattle.disks.specs.Laws.{seen_is_left_of, counts_now_of, only_now_of};
 use crate::mem_disk::MemDisk;
 use bytetext::{Failure, NoMemory};
 use std::alloc::Global;
-use std::fs::{File, TryLockError};
+use std::fs::{File, OpenOptions, TryLockError};
+use std::io;
+use std::io::ErrorKind;
 use std::os::unix::fs::FileExt;
+use std::rt::Files;
 use storage::{Disk, DiskFault};
 use thiserror::Error;
 
@@ -17,7 +20,7 @@ pub enum FileFault {
     /// Another program, or another disk of this one, holds the file's lock.
     #[error("the file is in use: end the program that uses it")]
     InUse,
-    /// The file couldn't be locked, brought to its device or read.
+    /// The file couldn't be opened, locked, brought to its device or read.
     #[error("the file can't be read: give one that can be read and written")]
     Unreadable,
 }
@@ -44,7 +47,8 @@ impl FileDisk {
     /// that no second program uses it; what it holds is brought to its device, and is then read.
     ///
     /// # Errors
-    /// `InUse` and `Unreadable` as they say; `NoMemory` where room for what the file holds is refused.
+    /// `InUse` and `Unreadable` as they say; `NoMemory` where room for what the file holds is refused, or the system
+    /// has none.
     pub fn new(alloc: Global, file: File) -> Result<FileDisk, FileDiskError>
         ensures { IfOk result (λ disk. disk.mirror.events ≡ []) }
     {
@@ -57,6 +61,24 @@ impl FileDisk {
             mirror,
             broken: false,
         })
+    }
+
+    /// The disk in the file at a path, which is made where it is missing; else as of `new`.
+    ///
+    /// # Errors
+    /// `Unreadable` where the file can't be opened for reading and writing; else as of `new`.
+    pub fn open<R: AllocGlobal + Files<File = File>>(
+        rt: &R,
+        path: &str,
+    ) -> Result<FileDisk, FileDiskError>
+        ensures { IfOk result (λ disk. disk.mirror.events ≡ []) }
+    {
+        let mut options = OpenOptions::new();
+        options.read(true).write(true).create(true);
+        match options.open(rt, path) {
+            Ok(file) => FileDisk::new(rt.alloc(), file),
+            Err(error) => Err(error_of(error)),
+        }
     }
 
     /// Notes a fault of the file.
@@ -74,23 +96,31 @@ fn lock(file: &File) -> Result<(), FileDiskError> {
     match file.try_lock() {
         Ok(()) => Ok(()),
         Err(TryLockError::WouldBlock) => Err(Failure::Refused(FileFault::InUse)),
-        Err(TryLockError::Error(_)) => Err(Failure::Refused(FileFault::Unreadable)),
+        Err(TryLockError::Error(error)) => Err(error_of(error)),
+    }
+}
+
+/// Why a file that the system refuses can't be used.
+fn error_of(error: io::Error) -> FileDiskError {
+    match error.kind() {
+        ErrorKind::OutOfMemory => Failure::NoMemory,
+        _ => Failure::Refused(FileFault::Unreadable),
     }
 }
 
 /// What a file holds, after it was brought to its device.
 fn read_file(alloc: Global, file: &File) -> Result<Vec<u8>, FileDiskError> {
-    if file.sync_all().is_err() {
-        return Err(Failure::Refused(FileFault::Unreadable));
+    if let Err(error) = file.sync_all() {
+        return Err(error_of(error));
     }
     let len = match file.metadata() {
         Ok(metadata) => metadata.len() as usize,
-        Err(_) => return Err(Failure::Refused(FileFault::Unreadable)),
+        Err(error) => return Err(error_of(error)),
     };
     let mut bytes = vec![in alloc; 0; len]?;
     match file.read_exact_at(&mut bytes, 0) {
         Ok(()) => Ok(bytes),
-        Err(_) => Err(Failure::Refused(FileFault::Unreadable)),
+        Err(error) => Err(error_of(error)),
     }
 }
 

@@ -1,6 +1,10 @@
 // A disk in memory, whose faults and crashes can be planned.
-ghost use Rattle.std.specs.Prelude.{◌≡◌, ◌<◌, [], IfOk};
-ghost use Rattle.disks.specs.Memory.{state_of, Fails};
+ghost use Rattle.std.specs.Prelude.{◌≡◌, ◌<◌, ◌≤◌, ◌+◌, ◌++◌, ◌↔◌, [], length, take, drop, IfOk, OnOk, OnErr, IsErr};
+ghost use Rattle.storage.specs.State.{IsSettled};
+ghost use Rattle.storage.specs.Calls.{Holds, Tears, Elapses, HasCause, Spends, SameBytes, read_count};
+ghost use Rattle.disks.specs.declared.tear.Tear.TheVariants.{New as all_written};
+ghost use Rattle.disks.specs.Plans.{IsDue, Leaves, no_plan, with_crash, with_read, with_tear, after_call, after_read, after_crash};
+ghost use Rattle.disks.specs.Memory.{state_of, empty, with_plan, Fails};
 ghost use Rattle.disks.specs.Laws.{seen_is_left_of, counts_now_of, only_now_of};
 
 use crate::bytes::{copy_rest, make_room, put, read_from};
@@ -37,7 +41,14 @@ impl Model for MemDisk {
 
     ghost Value = { Memory };
 
-    ghost view = { λ d. record { events = d.history.events; content = d.content.items; failures = d.failures; room = min (vec_capacity d.content) (vec_capacity d.torn) } };
+    ghost view = { λ d. record {
+      events = d.history.events;
+      content = d.content.items;
+      left = d.torn.items;
+      plan = record { tear = d.tear; works = d.works; reads = d.reads };
+      failures = d.failures;
+      room = min (vec_capacity d.content) (vec_capacity d.torn);
+    } };
 
     ghost invariant = { λ d. IsKept d.history.events d.content.items d.torn.items d.same (vec_capacity d.content) (vec_capacity d.torn) };
 }
@@ -45,7 +56,7 @@ impl Model for MemDisk {
 impl MemDisk {
     /// An empty disk, which grows on this allocator. Takes no memory.
     pub fn new(alloc: Global) -> MemDisk
-        ensures { result ≡ record { events = []; content = []; failures = 0; room = 0 } }
+        ensures { result ≡ empty }
     {
         MemDisk {
             content: Vec::new(alloc),
@@ -66,6 +77,8 @@ impl MemDisk {
     pub fn holding(alloc: Global, content: Vec<u8>) -> Result<MemDisk, NoMemory>
         ensures events { IfOk result (λ disk. disk.events ≡ []) }
         ensures content { IfOk result (λ disk. disk.content ≡ content.items) }
+        ensures left { IfOk result (λ disk. disk.left ≡ content.items) }
+        ensures plan { IfOk result (λ disk. disk.plan ≡ no_plan) }
     {
         let torn = Vec::from_slice(alloc, &content)?;
         let same = content.len();
@@ -83,7 +96,7 @@ impl MemDisk {
 
     /// Lets a crash leave all that was written.
     pub(crate) fn keep_writes(&mut self)
-        ensures { self.new ≡ self.old }
+        ensures { self.new ≡ with_plan (with_tear all_written self.old.plan) self.old }
     {
         self.tear = Tear::New;
     }
@@ -93,7 +106,7 @@ impl MemDisk {
     /// Call it with nothing pending.
     pub fn plan(&mut self, fail_at: u64, tear: Tear)
         requires { 0 < fail_at }
-        ensures { self.new ≡ self.old }
+        ensures { self.new ≡ with_plan (with_crash fail_at tear self.old.plan) self.old }
     {
         self.works = Some(fail_at - 1);
         self.tear = tear;
@@ -102,7 +115,7 @@ impl MemDisk {
     /// Plans that the stated read (from 1) from now on fails, once, whatever `reopen` does between.
     pub fn plan_read(&mut self, fail_at: u64)
         requires { 0 < fail_at }
-        ensures { self.new ≡ self.old }
+        ensures { self.new ≡ with_plan (with_read fail_at self.old.plan) self.old }
     {
         self.reads = Some(fail_at - 1);
     }
@@ -132,7 +145,18 @@ impl Disk for MemDisk {
         self.failures
     }
 
-    fn read(&mut self, at: usize, buf: &mut [u8]) -> Result<usize, DiskFault> {
+    /// A read fails exactly where that is planned.
+    fn read(&mut self, at: usize, buf: &mut [u8]) -> Result<usize, DiskFault>
+        ensures count { IfOk result (λ n. n ≡ read_count (state_of self.old).seen at (length buf.old)) }
+        ensures bytes { IfOk result (λ n. buf.new ≡ take n (drop at (state_of self.old).seen) ++ drop n buf.old) }
+        ensures same { SameBytes (state_of self.old) (state_of self.new) }
+        ensures room { Spends 0 (state_of self.old) (state_of self.new) }
+        ensures cause { HasCause (state_of self.old) (state_of self.new) result }
+
+        ensures fails { IsErr result ↔ IsDue self.old.plan.reads }
+        ensures plan { self.new.plan ≡ after_read self.old.plan }
+        ensures left { self.new.left ≡ self.old.left }
+    {
         if is_due(&mut self.reads) {
             self.failures = self.failures.saturating_add(1);
             return Err(DiskFault);
@@ -140,12 +164,35 @@ impl Disk for MemDisk {
         Ok(read_from(&self.content, at, buf))
     }
 
-    fn reserve(&mut self, end: usize, _calls: usize) -> Result<(), NoMemory> {
+    fn reserve(&mut self, end: usize, calls: usize) -> Result<(), NoMemory>
+        ensures calls { OnOk result (calls ≤ (state_of self.new).calls) }
+        ensures end { OnOk result (end ≤ (state_of self.new).end) }
+        ensures same { SameBytes (state_of self.old) (state_of self.new) }
+        ensures room { Spends 0 (state_of self.old) (state_of self.new) }
+        ensures never_fails { (state_of self.new).failed ≡ (state_of self.old).failed }
+
+        ensures plan { self.new.plan ≡ self.old.plan }
+        ensures left { self.new.left ≡ self.old.left }
+    {
         make_room(&mut self.content, end)?;
         make_room(&mut self.torn, end)
     }
 
-    fn write_at(&mut self, at: usize, bytes: &[u8]) -> Result<(), DiskFault> {
+    /// A write fails exactly where that is planned. Until it is kept the crash leaves the planned tear of it.
+    fn write_at(&mut self, at: usize, bytes: &[u8]) -> Result<(), DiskFault>
+        requires inside { at ≤ length (state_of self.old).seen }
+        requires room { at + length bytes.now ≤ (state_of self.old).end }
+        requires call { 0 < (state_of self.old).calls }
+        ensures written { OnOk result (Holds (state_of self.old).seen at bytes.now (state_of self.new).seen) }
+        ensures tears { Tears at (length bytes.now) (state_of self.old) (state_of self.new) }
+        ensures time { Elapses (state_of self.old) (state_of self.new) }
+        ensures room { Spends 1 (state_of self.old) (state_of self.new) }
+        ensures cause { HasCause (state_of self.old) (state_of self.new) result }
+
+        ensures fails { IsErr result ↔ IsDue self.old.plan.works }
+        ensures plan { self.new.plan ≡ after_call self.old.plan }
+        ensures left { Leaves self.old.plan.tear at bytes.now self.old.left self.new.left }
+    {
         self.history
             .note(&[1, at as u64, bytes.len() as u64], &self.content);
         tear_range(&mut self.torn, self.tear, at, bytes);
@@ -158,7 +205,19 @@ impl Disk for MemDisk {
         Ok(())
     }
 
-    fn sync(&mut self) -> Result<(), DiskFault> {
+    /// A sync fails exactly where that is planned. After one that works a crash leaves what a read gives.
+    fn sync(&mut self) -> Result<(), DiskFault>
+        requires { 0 < (state_of self.old).calls }
+        ensures settled { OnOk result (IsSettled (state_of self.new)) }
+        ensures same { SameBytes (state_of self.old) (state_of self.new) }
+        ensures room { Spends 1 (state_of self.old) (state_of self.new) }
+        ensures cause { HasCause (state_of self.old) (state_of self.new) result }
+
+        ensures fails { IsErr result ↔ IsDue self.old.plan.works }
+        ensures plan { self.new.plan ≡ after_call self.old.plan }
+        ensures kept { OnOk result (self.new.left ≡ self.old.content) }
+        ensures not_kept { OnErr result (self.new.left ≡ self.old.left) }
+    {
         if is_over(&mut self.works) {
             self.failures = self.failures.saturating_add(1);
             return Err(DiskFault);
@@ -169,7 +228,17 @@ impl Disk for MemDisk {
         Ok(())
     }
 
-    fn reopen(&mut self) {
+    /// The planned crash: it ends the plan of a write or sync, not that of a read.
+    fn reopen(&mut self)
+        ensures left { (state_of self.old).may_leave (state_of self.new).seen }
+        ensures settled { IsSettled (state_of self.new) }
+        ensures time { Elapses (state_of self.old) (state_of self.new) }
+        ensures never_fails { (state_of self.new).failed ≡ (state_of self.old).failed }
+
+        ensures crashed { self.new.content ≡ self.old.left }
+        ensures kept { self.new.left ≡ self.old.left }
+        ensures plan { self.new.plan ≡ after_crash self.old.plan }
+    {
         self.history.note(&[0, 0, 0], &self.content);
         mem::swap(&mut self.content, &mut self.torn);
         copy_rest(&mut self.torn, &self.content, self.same);

@@ -2,6 +2,7 @@
 ghost use Rattle.std.specs.Prelude.{◌≡◌, ◌≤◌, ◌+◌, length, vec_len};
 ghost use Rattle.std.specs.Vec.{vec_capacity};
 ghost use Rattle.storage.specs.Calls.{Torn};
+ghost use Rattle.disks.specs.Plans.{Leaves};
 
 use crate::bytes::{fill, put};
 
@@ -20,6 +21,7 @@ pub enum Tear {
 pub(crate) fn tear_range(image: &mut Vec<u8>, tear: Tear, at: usize, text: &[u8])
     requires { at + length text.now ≤ vec_capacity image.old }
     ensures torn { Torn at (length text.now) image.old.items image.new.items }
+    ensures leaves { Leaves tear at text.now image.old.items image.new.items }
     ensures capacity { vec_capacity image.new ≡ vec_capacity image.old }
 {
     if at > image.len() {

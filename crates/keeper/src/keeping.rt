@@ -10,7 +10,7 @@ use bytetext::Text;
 use disks::FileDisk;
 use itoa::Buffer;
 use std::alloc::Global;
-use std::fs::{File, OpenOptions};
+use std::fs::File;
 use std::rt::Files;
 use storage::Disk;
 
@@ -24,7 +24,9 @@ pub fn keep<R: AllocGlobal + Files<File = File> + Print>(
     second: &str,
     count: u64,
 ) -> Result<(), Stop> {
-    let mut kept = opened(rt.alloc(), disk_of(rt, first)?, disk_of(rt, second)?)?;
+    let first = FileDisk::open(rt, first)?;
+    let second = FileDisk::open(rt, second)?;
+    let mut kept = opened(rt.alloc(), first, second)?;
     println!(rt; "held {}", kept.last)?;
     for _ in 0..count {
         append_next(rt.alloc(), &mut kept)?;
@@ -38,16 +40,6 @@ pub fn keep<R: AllocGlobal + Files<File = File> + Print>(
 struct Kept {
     journal: Journal<FileDisk>,
     last: u64,
-}
-
-// The disk in a file.
-fn disk_of<R: AllocGlobal + Files<File = File>>(rt: &R, path: &str) -> Result<FileDisk, Stop>
-    ensures { IfOk result (λ disk. IsSettled (state_of disk.mirror)) }
-{
-    let mut options = OpenOptions::new();
-    options.read(true).write(true).create(true);
-    let file = options.open(rt, path)?;
-    Ok(FileDisk::new(rt.alloc(), file)?)
 }
 
 // The journal on these disks, which is made where both are empty.

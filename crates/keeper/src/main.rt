@@ -10,7 +10,8 @@
 //! entry that was told is missing.
 //!
 //! The program ends with status 0; 1 where the files hold something else or a disk fails; 2 for other words; 3 where
-//! the files or standard output can't be used; 4 where memory runs out.
+//! a file can't be opened, is in use or can't be read, and where the command line can't be read or standard output
+//! can't be written; 4 where memory runs out. Standard error tells which.
 #![tactic(auto)]
 
 mod keeping;

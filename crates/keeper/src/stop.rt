@@ -1,7 +1,7 @@
 // Why the program ends early.
-use bytejournal::JournalError;
+use bytejournal::{JournalError, JournalFault};
 use bytetext::NoMemory;
-use disks::FileDiskError;
+use disks::{FileDiskError, FileFault};
 use std::alloc::AllocError;
 use std::io;
 use std::io::ErrorKind;
@@ -11,16 +11,19 @@ use thiserror::Error;
 #[derive(Clone, Copy, Debug, Error)]
 pub enum Stop {
     /// The journal refused a call.
-    #[error("{0}: the files hold another journal, or a disk failed")]
-    Journal(&'static str),
+    #[error("{0}")]
+    Journal(JournalFault),
     /// What the journal holds is not the numbers from 1.
     #[error("the journal doesn't hold the numbers from 1: give other files")]
     OtherEntries,
     /// The command line is not understood.
     #[error("say keeper FILE FILE [COUNT]")]
     Words,
-    /// A file or standard output can't be used.
-    #[error("a file or standard output can't be used")]
+    /// A file can't be used as a disk.
+    #[error("{0}")]
+    File(FileFault),
+    /// The command line can't be read, or standard output can't be written.
+    #[error("the command line can't be read, or standard output can't be written")]
     Stream,
     /// A growth was refused.
     #[error("out of memory: free some and try again")]
@@ -33,7 +36,7 @@ impl Stop {
         match self {
             Stop::Journal(_) | Stop::OtherEntries => 1,
             Stop::Words => 2,
-            Stop::Stream => 3,
+            Stop::File(_) | Stop::Stream => 3,
             Stop::NoMemory => 4,
         }
     }
@@ -42,7 +45,7 @@ impl Stop {
 impl From<JournalError> for Stop {
     fn from(error: JournalError) -> Stop {
         match error {
-            JournalError::Refused(fault) => Stop::Journal(fault.code()),
+            JournalError::Refused(fault) => Stop::Journal(fault),
             JournalError::NoMemory => Stop::NoMemory,
         }
     }
@@ -51,7 +54,7 @@ impl From<JournalError> for Stop {
 impl From<FileDiskError> for Stop {
     fn from(error: FileDiskError) -> Stop {
         match error {
-            FileDiskError::Refused(_) => Stop::Stream,
+            FileDiskError::Refused(fault) => Stop::File(fault),
             FileDiskError::NoMemory => Stop::NoMemory,
         }
     }

@@ -23,6 +23,9 @@ pub fn asked_of<R: AllocGlobal + Env>(rt: &R) -> Result<Asked, Stop> {
         Some(word) => word.as_str().parse::<u64>().map_err(|_| Stop::Words)?,
         None => u64::MAX,
     };
+    if words.next().is_some() {
+        return Err(Stop::Words);
+    }
     Ok(Asked {
         first,
         second,

@@ -1,0 +1,96 @@
+-- A journal over many calls and crashes. Each call is what the clauses of `Journal` say of it.
+use Rattle.std.specs.Prelude.{◌≡◌, ◌≢◌, false, true, ℕ, Option, List, IsSome, option_map, Result, Ok, Err}
+use Rattle.bytetext.specs.declared.failure.Failure.{Failure}
+use Rattle.bytetext.specs.declared.failure.Failure.TheVariants.{Refused}
+use Rattle.storage.specs.State.{State, IsSettled}
+use Rattle.bytejournal.specs.declared.fault.JournalFault.{JournalFault}
+use Rattle.bytejournal.specs.declared.fault.JournalFault.TheVariants.{NotAJournal}
+use Rattle.bytejournal.specs.declared.journal.Journal.{Journal}
+use Rattle.bytejournal.specs.declared.opening.Opened.{Opened}
+use Rattle.bytejournal.specs.declared.opening.Returned.{Returned}
+use Rattle.bytejournal.specs.Meaning.{meaning, added, rebased, IsWhole}
+use Rattle.bytejournal.specs.Journal.{IsEither, AnyMoment, IsSound, Appends, Rebases, contents_of, first_disk, second_disk}
+use Rattle.bytejournal.specs.Opening.{Reopened, Opens, Restarts}
+
+-- two images are a journal's: they mean its contents, and all their gates are there
+pub record IsJournal (first second : List ℕ) : Type 0 where
+  pub some : IsSome (meaning first second)
+  pub first_whole : IsWhole first
+  pub second_whole : IsWhole second
+
+-- where a journal is: in a program, or on two disks that no program uses
+pub data Stage (D : Type 0) : Type 0 where
+  InProgram : (journal : Journal D) → Stage D
+  OnDisks : (first second : D) → Stage D
+
+module _ {D : Type 0} where
+  abbrev pub first_of : Stage D → D
+  first_of (InProgram journal) = first_disk journal
+  first_of (OnDisks first second) = first
+
+  abbrev pub second_of : Stage D → D
+  second_of (InProgram journal) = second_disk journal
+  second_of (OnDisks first second) = second
+
+  -- the journal that was opened, or the disks that were handed back
+  abbrev pub after_opening : Result (Opened D) (Returned D) → Stage D
+  after_opening (Ok opened) = InProgram opened.journal
+  after_opening (Err returned) = OnDisks returned.disks.first returned.disks.second
+
+  -- the disks were not refused for holding no journal, and all gates were there
+  abbrev pub FindsJournal : Result (Opened D) (Returned D) → Type 0
+  FindsJournal (Ok opened) = opened.whole ≡ true
+  FindsJournal (Err returned) = returned.error ≢ Refused NotAJournal
+
+module _ {D : Type 0} (state : D → State) where
+  -- whatever a crash leaves on these disks now is a journal
+  abbrev pub IsRecoverable : D → D → Type 0
+  IsRecoverable first second = (x y : List ℕ) → (state first).may_leave x → (state second).may_leave y → IsJournal x y
+
+  -- The clauses of `append`, and those of `rebase`.
+  pub record Appended (old : Journal D) (entry : List ℕ) (result : Result (Unit {0}) (Failure JournalFault)) (new : Journal D) : Type 0 where
+    pub sound : IsSound state new
+    pub row : Appends state old entry result new
+    pub any_moment : old.spent ≡ false
+        → AnyMoment state old new (IsEither (contents_of state old) (option_map (added entry) (contents_of state old)))
+
+  pub record Rebased (old : Journal D) (base : List ℕ) (result : Result (Unit {0}) (Failure JournalFault)) (new : Journal D) : Type 0 where
+    pub sound : IsSound state new
+    pub row : Rebases state old base result new
+    pub any_moment : old.spent ≡ false
+        → AnyMoment state old new (IsEither (contents_of state old) (option_map (rebased base) (contents_of state old)))
+
+  -- a call that returned
+  pub data Calls : Stage D → Stage D → Type 0 where
+    append : {old new : Journal D} (entry : List ℕ) (result : Result (Unit {0}) (Failure JournalFault)) → Appended old entry result new
+        → Calls (InProgram old) (InProgram new)
+    rebase : {old new : Journal D} (base : List ℕ) (result : Result (Unit {0}) (Failure JournalFault)) → Rebased old base result new
+        → Calls (InProgram old) (InProgram new)
+    restart : {journal : Journal D} (result : Result (Opened D) (Returned D)) → Restarts state journal result
+        → Calls (InProgram journal) (after_opening result)
+    into_disks : {journal : Journal D} → Calls (InProgram journal) (OnDisks (first_disk journal) (second_disk journal))
+    reopen : {first second first' second' : D} → Reopened (state first) (state first') → Reopened (state second) (state second')
+        → Calls (OnDisks first second) (OnDisks first' second')
+    opening : {first second : D} (result : Result (Opened D) (Returned D)) → IsSettled (state first) → IsSettled (state second)
+        → Opens state first second result → Calls (OnDisks first second) (after_opening result)
+
+  -- of the disk between these two moments a crash left this one, and nothing is pending
+  pub record IsLeft (from until left : D) : Type 0 where
+    pub image : (state until).left_since (state from).moment (state left).seen
+    pub settled : IsSettled (state left)
+
+  -- a call that returned, or one that a crash ended at any moment
+  pub data Happens : Stage D → Stage D → Type 0 where
+    returned : {old new : Stage D} → Calls old new → Happens old new
+    crashed : {old new : Stage D} {first second : D} → Calls old new → IsLeft (first_of old) (first_of new) first
+        → IsLeft (second_of old) (second_of new) second → Happens old (OnDisks first second)
+
+  -- any number of calls and crashes, one after another
+  pub data Lives : Stage D → Stage D → Type 0 where
+    so_far : {stage : Stage D} → Lives stage stage
+    more : {first next last : Stage D} → Happens first next → Lives next last → Lives first last
+
+  -- a journal that a program holds may be called, and whatever a crash leaves is a journal
+  abbrev pub IsIntact : Stage D → Type 0
+  IsIntact (InProgram journal) = IsSound state journal × IsRecoverable (first_disk journal) (second_disk journal)
+  IsIntact (OnDisks first second) = IsRecoverable first second
