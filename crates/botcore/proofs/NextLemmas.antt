@@ -10,7 +10,7 @@ use Rattle.std.specs.List.{list_any}
 use Rattle.std.proofs.lemmas.List.{length-map, drop-map}
 use Rattle.botcore.specs.declared.made_call.MadeCall.{MadeCall}
 use Rattle.botcore.specs.Made.{Made, IsMade, IsFrontMade, entry_of}
-use Rattle.botcore.specs.Dispatching.{Setting, is_one, has_one, is_logged, is_silencing, next_after, told, told_from}
+use Rattle.botcore.specs.Dispatching.{Setting, is_one, is_raw, has_one, has_raw_one, is_logged, is_silencing, next_after, told, told_from}
 use Rattle.botcore.specs.Occasions.{kind_of}
 use Rattle.botcore.specs.declared.next.Next.{Next}
 use Rattle.botcore.specs.declared.next.Next.TheVariants.{Go}
@@ -30,6 +30,10 @@ is_logged_entries calls = ap not (by calls)
         ≡ list_any (λ m. is_silencing m.call.kind && is_one m.reply.code) calls
     by [] = refl
     by (m ∷ ms) = ap (λ b. (is_silencing m.call.kind && is_one m.reply.code) || b) (by ms)
+
+pub has_raw_one_entries : (calls : List MadeCall) → has_raw_one (map entry_of calls) ≡ list_any (λ m. is_raw m.call.kind && is_one m.reply.code) calls
+has_raw_one_entries [] = refl
+has_raw_one_entries (m ∷ ms) = ap (λ b. (is_raw m.call.kind && is_one m.reply.code) || b) (has_raw_one_entries ms)
 
 -- the calls that came with a part of what was made
 pub calls_since-part : (code_of : List ℕ → Call → Code) (may : List ℕ → Call → List Action → Type 0) (old new : Made) (before part : List Telling) (count : ℕ)

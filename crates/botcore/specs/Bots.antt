@@ -6,9 +6,6 @@ use Rattle.chanstate.specs.declared.state.ChanState.{ChanState}
 use Rattle.chanstate.specs.Views.{connected}
 use Rattle.procstore.specs.declared.call.Call.{Call}
 use Rattle.procstore.specs.declared.reply.Code.{Code}
-use Rattle.sharelink.specs.Meets.{Row}
-use Rattle.sharelink.specs.HubRules.{Hub}
-use Rattle.sharelink.specs.LeafRules.{Leaf}
 use Rattle.bindtable.specs.Tables.{Table, no_binds}
 use Rattle.botcore.specs.declared.config.Config.{Config}
 use Rattle.botcore.specs.declared.fault.BotFault.{BotFault}
@@ -16,7 +13,7 @@ use Rattle.botcore.specs.declared.link.Link.{Link}
 use Rattle.botcore.specs.Configs.{IsGood}
 use Rattle.botcore.specs.Dispatching.{Setting}
 use Rattle.botcore.specs.Dispatched.{setting_of}
-use Rattle.botcore.specs.Links.{new_link, link_row, link_records}
+use Rattle.botcore.specs.Links.{new_link, link_records}
 
 -- who it is, its end of the link, its binds, oldest first, and the channels that it is on
 pub record Bot : Type 0 where
@@ -34,14 +31,6 @@ new_bot config =
 abbrev pub IsWhyNot : Config → Failure BotFault → Type 0
 IsWhyNot config (Refused fault) = ¬ IsGood config
 IsWhyNot config NoMemory = IsGood config
-
--- a row of the link, as a row of the bot
-abbrev pub bot_row : Bot → (Hub → Row Hub) → (Leaf → Row Leaf) → Row Bot
-bot_row bot hub_row leaf_row =
-    record {
-      answer = (link_row bot.link hub_row leaf_row).answer;
-      after = record bot { link = (link_row bot.link hub_row leaf_row).after };
-    }
 
 -- what the calls of a bot depend on, with a store of these names
 abbrev pub bot_setting : (List ℕ → Call → Code) → List (List ℕ) → Bot → Setting

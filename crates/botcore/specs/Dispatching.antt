@@ -118,3 +118,9 @@ is_silencing Pubm = true
 -- whether a line of these calls is logged
 abbrev pub is_logged : List Entry → Bool
 is_logged calls = not (list_any (λ e. is_silencing e.call.kind && is_one e.code) calls)
+
+-- ---- what follows a line
+
+-- whether a raw call has code 1, after which the line is not taken into the channel state
+abbrev pub has_raw_one : List Entry → Bool
+has_raw_one calls = list_any (λ e. is_raw e.call.kind && is_one e.code) calls

@@ -1,8 +1,12 @@
 pub mod Bots
 pub mod Calls
+pub mod Codes
 pub mod Configs
 pub mod Dispatched
 pub mod Dispatching
+pub mod Lines
 pub mod Links
 pub mod Made
 pub mod Occasions
+pub mod Reports
+pub mod Steps

@@ -1,9 +1,11 @@
 -- A bot's end of the sharing link, be it the hub's or a leaf's.
-use Rattle.std.specs.Prelude.{ℕ, ◌==◌, if◌then◌else◌}
+use Rattle.std.specs.Prelude.{ℕ, ◌==◌, List, length, if◌then◌else◌}
 use Rattle.userfile.specs.Records.{Records}
+use Rattle.userfile.specs.declared.change.Change.{Change}
+use Rattle.sharewire.specs.declared.packet.Packet.{Packet}
 use Rattle.sharelink.specs.Meets.{Row}
-use Rattle.sharelink.specs.HubRules.{Hub, new_hub, version_of}
-use Rattle.sharelink.specs.LeafRules.{Leaf, new_leaf}
+use Rattle.sharelink.specs.HubRules.{Hub, new_hub, version_of, hub_asked, hub_pumped, hub_received, with_asks, with_oldest}
+use Rattle.sharelink.specs.LeafRules.{Leaf, new_leaf, leaf_asked, leaf_pumped, leaf_received}
 use Rattle.botcore.specs.declared.link.Link.{Link}
 use Rattle.botcore.specs.declared.link.Link.TheVariants.{Hub as hub_end, Leaf as leaf_end}
 
@@ -23,3 +25,30 @@ link_version (leaf_end leaf) = leaf.version
 abbrev pub link_row : Link → (Hub → Row Hub) → (Leaf → Row Leaf) → Row Link
 link_row (hub_end hub) hub_row leaf_row = record { answer = (hub_row hub).answer; after = hub_end (hub_row hub).after }
 link_row (leaf_end leaf) hub_row leaf_row = record { answer = (leaf_row leaf).answer; after = leaf_end (leaf_row leaf).after }
+
+-- ---- the calls of a link
+
+abbrev pub link_asked : Link → Change → Row Link
+link_asked link change = link_row link (λ hub. hub_asked hub change) (λ leaf. leaf_asked leaf change)
+
+abbrev pub link_pumped : Link → Row Link
+link_pumped link = link_row link hub_pumped leaf_pumped
+
+abbrev pub link_received : Link → Packet → Row Link
+link_received link packet = link_row link (λ hub. hub_received hub packet) (λ leaf. leaf_received leaf packet)
+
+-- ---- the asks that wait; none do at a leaf
+
+abbrev pub ask_count : Link → ℕ
+ask_count (hub_end hub) = length hub.waiting
+ask_count (leaf_end leaf) = 0
+
+-- the link with these asks after those that wait
+abbrev pub link_with_asks : Link → List Change → Link
+link_with_asks (hub_end hub) asks = hub_end (with_asks hub asks)
+link_with_asks (leaf_end leaf) asks = leaf_end leaf
+
+-- the link with its oldest asks alone, at most so many
+abbrev pub link_with_oldest : Link → ℕ → Link
+link_with_oldest (hub_end hub) count = hub_end (with_oldest hub count)
+link_with_oldest (leaf_end leaf) count = leaf_end leaf

@@ -4,20 +4,21 @@ ghost use Rattle.botcore.specs.Dispatching.{is_word};
 ghost use Rattle.botcore.specs.Dispatched.{setting_in, IsDispatched};
 
 use crate::made_call::{MadeCall, Unbound};
-use crate::next::{Next, is_logged, is_word, next_of};
+use crate::next::{Next, is_word, next_of};
 use crate::occasion::{call_by, kind_of, person_of};
+use crate::report::MadeCalls;
 use crate::scene::Scene;
 use bindtable::{Bind, Called, Event as Occurrence};
-use bytetext::{Failure, NoMemory, TryCopy};
+use bytetext::{Failure, NoMemory, Seq, TryCopy};
 use chanstate::Event;
 use procstore::{Call, CallFault, Kind, ProcStore, Promise, Run};
 use std::alloc::Global;
 use std::marker::Model;
 
-/// The calls that were made for some events, and the binds that were left out since the store lacks their procs.
-/// Contracts see the two lists, each in order.
+// The calls that were made for some events, and the binds that were left out since the store lacks their procs: a bind
+// stands there once for each event that calls it. Contracts see the two lists, each in order.
 #[derive(Drop)]
-pub struct Dispatch {
+pub(crate) struct Dispatch {
     calls: Vec<MadeCall>,
     unbound: Vec<Unbound>,
 }
@@ -31,14 +32,14 @@ impl Model for Dispatch {
 }
 
 impl Dispatch {
-    ghost use Rattle.std.specs.Prelude.{◌≡◌, ◌∷◌, [], OnOk, OnErr, IfOk, drop, length, map, false};
+    ghost use Rattle.std.specs.Prelude.{◌≡◌, ◌∷◌, [], OnOk, OnErr, IfOk, drop, length, false};
     ghost use Rattle.botcore.specs.Calls.{told_all};
-    ghost use Rattle.botcore.specs.Made.{Adds, AddsFront, entry_of};
-    ghost use Rattle.botcore.specs.Dispatching.{told, told_alone, is_logged};
+    ghost use Rattle.botcore.specs.Made.{Adds, AddsFront};
+    ghost use Rattle.botcore.specs.Dispatching.{told, told_alone};
     ghost use Rattle.botcore.specs.Dispatched.{setting_in, AddsEvent};
 
-    /// No call, and no bind left out. Takes no memory.
-    pub fn new(alloc: Global) -> Dispatch
+    // No call, and no bind left out. Takes no memory.
+    pub(crate) fn new(alloc: Global) -> Dispatch
         ensures { result ≡ record { calls = []; unbound = [] } }
     {
         Dispatch {
@@ -47,26 +48,12 @@ impl Dispatch {
         }
     }
 
-    /// The calls that were made, in order.
-    pub fn calls(&self) -> &[MadeCall]
-        ensures { result.now ≡ self.now.calls }
+    // The calls and the binds, each in order. Takes no memory.
+    pub(crate) fn into_parts(self) -> (MadeCalls, Vec<Unbound>)
+        ensures calls { result.0 ≡ self.calls }
+        ensures unbound { result.1.items ≡ self.unbound }
     {
-        self.calls.as_slice()
-    }
-
-    /// The binds that were left out since the store lacks their procs, in order. A bind stands here once for each event
-    /// that calls it.
-    pub fn unbound(&self) -> &[Unbound]
-        ensures { result.now ≡ self.now.unbound }
-    {
-        self.unbound.as_slice()
-    }
-
-    /// Whether the line of these calls is logged: no raw, `msgm`, `pubm` or `notc` proc has answered 1.
-    pub fn is_logged(&self) -> bool
-        ensures { result ≡ is_logged (map entry_of self.now.calls) }
-    {
-        is_logged(self.calls.as_slice())
+        (Seq::new(self.calls), self.unbound)
     }
 
     // Calls the proc of a bind, or notes that the store lacks it.
@@ -242,15 +229,14 @@ impl Dispatch {
     }
 }
 
-/// Calls the procs that the events of a message call.
-///
-/// Each event calls the binds of its kind whose mask and flags let it, oldest first. Where a raw proc answers 1,
-/// nothing follows the raw event. Where the scene is exclusive, the first word of a text calls nothing once a proc was
-/// called for the whole of that text. A bind whose proc is not in the store is left out and told.
-///
-/// # Errors
-/// The calls that were made, where memory ran out before all were: they are the first of those that would be made.
-pub fn call_procs<P: Promise, B: Run>(
+// Calls the procs that the events of a message call.
+//
+// Each event calls the binds of its kind whose mask and flags let it, oldest first. Where a raw proc answers 1,
+// nothing follows the raw event. Where the scene is exclusive, the first word of a text calls nothing once a proc was
+// called for the whole of that text. A bind whose proc is not in the store is left out and told.
+//
+// An error has the calls that were made before memory ran out: they are the first of those that would be made.
+pub(crate) fn call_procs<P: Promise, B: Run>(
     alloc: Global,
     scene: &Scene<'_, P, B>,
     events: &[Event],

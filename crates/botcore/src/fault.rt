@@ -1,8 +1,14 @@
-// Why a bot is not made.
+// Why a bot is not made, and what goes wrong in its steps.
 ghost use Rattle.std.specs.Prelude.{◌≡◌};
+ghost use Rattle.std.specs.Option.{option_copied};
 ghost use Rattle.botcore.specs.Configs.{code_of};
+ghost use Rattle.botcore.specs.Codes.{refusal_code, fault_word, fault_proc};
 
-use bytetext::Failure;
+use crate::made_call::Unbound;
+use bindtable::BindFault;
+use bytetext::{Failure, NoMemory, TryCopy};
+use sharelink::LinkFault;
+use std::alloc::Global;
 use thiserror::Error;
 
 /// Why a bot is not made, in the order in which it is tested.
@@ -26,3 +32,66 @@ impl BotFault {
 
 /// Why a bot was not made: a fault, or out of memory where there is none.
 pub type BotError = Failure<BotFault>;
+
+/// Why a step is refused.
+#[derive(Clone, Copy, Debug, PartialEq, Eq, Error)]
+pub enum Refusal {
+    /// The link refuses an ask, a pump or a packet.
+    #[error("{0}")]
+    Link(LinkFault),
+    /// The table of binds refuses to make a bind or to take one away.
+    #[error("{0}")]
+    Bind(BindFault),
+}
+
+impl Refusal {
+    /// The letter and number that transcripts print.
+    pub fn code(self) -> &'static str
+        ensures { result.now ≡ refusal_code self }
+    {
+        match self {
+            Refusal::Link(fault) => fault.code(),
+            Refusal::Bind(fault) => fault.code(),
+        }
+    }
+}
+
+/// What went wrong in a step that is done all the same.
+#[derive(Debug, Drop)]
+pub enum Fault {
+    /// A bind was left out, since the store lacks its proc.
+    Unbound(Unbound),
+    /// What a proc asked for was refused and left out.
+    Action(LinkFault),
+}
+
+impl Fault {
+    /// The word that transcripts print: `Unbound`, or the letter and number of an action's refusal.
+    pub fn word(&self) -> &'static str
+        ensures { result.now ≡ fault_word self.now }
+    {
+        match self {
+            Fault::Unbound(_) => "Unbound",
+            Fault::Action(fault) => fault.code(),
+        }
+    }
+
+    /// The name of the proc that the store lacks; none of an action.
+    pub fn proc(&self) -> Option<&[u8]>
+        ensures { option_copied result ≡ fault_proc self.now }
+    {
+        match self {
+            Fault::Unbound(unbound) => Some(unbound.proc.as_bytes()),
+            Fault::Action(_) => None,
+        }
+    }
+}
+
+impl TryCopy for Fault {
+    fn copy(&self, alloc: Global) -> Result<Fault, NoMemory> {
+        match self {
+            Fault::Unbound(unbound) => Ok(Fault::Unbound(unbound.copy(alloc)?)),
+            Fault::Action(fault) => Ok(Fault::Action(*fault)),
+        }
+    }
+}

@@ -1,38 +1,43 @@
-//! One bot: what it is told before it is made, and which procs an event of its channels calls.
+//! One bot: what it is told, which procs that calls, and what it makes of their answers.
 //!
-//! A [`Config`] says who a bot is. [`Config::refusal`] tests it before anything is made.
+//! A [`Config`] says who a bot is. [`Bot::new`] makes it, and [`Bot::step`] does one step: it takes an [`Event`] and
+//! gives a [`Report`]. A message of the server calls procs of the store that the caller lends; every other event calls
+//! none.
 //!
-//! [`call_procs`] calls the procs that the events of a message call: for each event the binds of its kind whose mask
-//! and flags let it, oldest first, each proc with the event's arguments and the person's handle. What it gives, a
-//! [`Dispatch`], is exactly the calls that `specs/Dispatching.antt` defines, each with a reply that keeps its proc's
-//! promise, and the binds that were left out since the store lacks their procs.
+//! What a step may report and leave is stated whole in `specs/Steps.antt`. The calls of a message are those of
+//! `specs/Dispatching.antt`, each with a reply that keeps its proc's promise, and what they leave is `after_line` in
+//! `specs/Lines.antt`. A step that runs out of memory leaves the bot as it was.
 //!
 //! ```text
-//! let events = events(alloc, &message, &state)?;
-//! let scene = Scene { store: &store, binds: &binds, userfile: &userfile, exclusive: config.exclusive };
-//! match call_procs(alloc, &scene, &events) {
-//!     Ok(made) => made.calls(),        // all calls, in order
-//!     Err(made) => made.calls(),       // memory ran out after these
-//! }
+//! let mut bot = Bot::new(alloc, config)?;
+//! let asked = NewBind { kind: Kind::Msg, flags, mask, proc };
+//! bot.step(alloc, &store, Event::Bind(asked));            // Done, Bound(1)
+//! let line = read_line(alloc, b":a!b@c PRIVMSG egg0 :hi dave")?;
+//! let report = bot.step(alloc, &store, Event::Line(line));
+//! report.calls.as_slice()                                  // the calls that were made, each with its reply
 //! ```
 #![tactic(auto)]
 
 mod bot;
 mod config;
 mod dispatch;
+mod event;
 mod fault;
 mod limits;
+mod line;
 mod link;
 mod made_call;
 mod next;
 mod occasion;
+mod report;
 mod scene;
+mod step;
 
 pub use crate::bot::Bot;
 pub use crate::config::Config;
-pub use crate::dispatch::{Dispatch, call_procs};
-pub use crate::fault::{BotError, BotFault};
+pub use crate::event::{Event, NewBind, OldBind};
+pub use crate::fault::{BotError, BotFault, Fault, Refusal};
 pub use crate::limits::MAX_NICK;
 pub use crate::link::Link;
 pub use crate::made_call::{MadeCall, Unbound};
-pub use crate::scene::Scene;
+pub use crate::report::{End, Faults, MadeCalls, Note, Report};

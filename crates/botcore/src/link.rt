@@ -1,15 +1,19 @@
 // A bot's end of the sharing link.
-ghost use Rattle.std.specs.Prelude.{◌≡◌, ◌≤◌, length, IfOk};
-ghost use Rattle.sharelink.specs.Meets.{Meets};
-ghost use Rattle.sharelink.specs.HubRules.{hub_asked, hub_pumped, hub_received};
-ghost use Rattle.sharelink.specs.LeafRules.{leaf_asked, leaf_pumped, leaf_received};
-ghost use Rattle.botcore.specs.Links.{new_link, link_row, link_records, link_version};
+ghost use Rattle.std.specs.Prelude.{◌≡◌, ◌≤◌, ◌++◌, [], length, IfOk, OnOk, OnErr};
+ghost use Rattle.sharelink.specs.Meets.{Meets, refusals_of, with_refusal};
+ghost use Rattle.botcore.specs.Links.{new_link, link_records, link_version};
+ghost use Rattle.botcore.specs.Links.{link_asked, link_pumped, link_received};
+ghost use Rattle.botcore.specs.Links.{ask_count, link_with_oldest};
+ghost use Rattle.botcore.specs.Lines.{link_after, action_faults};
 
+use crate::fault::Fault;
+use bytetext::{Failure, NoMemory, TryCopy};
 use sharelink::{Answer, HubLink, LeafLink, LinkError, MAX_LEAVES, Packet};
 use std::alloc::Global;
+use std::collections::VecDeque;
 use userfile::{Change, Userfile};
 
-/// A bot's end of the sharing link: the hub's, or a leaf's.
+/// A bot's end of the sharing link: the hub's, or a leaf's. Only contracts speak of it.
 #[derive(Drop)]
 pub enum Link {
     /// The hub's.
@@ -19,8 +23,8 @@ pub enum Link {
 }
 
 impl Link {
-    /// The end of the bot of this number: 0 is the hub. Takes no memory.
-    pub fn new(alloc: Global, number: u16, leaves: u16) -> Link
+    // The end of the bot of this number: 0 is the hub. Takes no memory.
+    pub(crate) fn new(alloc: Global, number: u16, leaves: u16) -> Link
         requires numbered { number ≤ leaves }
         requires few { leaves ≤ MAX_LEAVES }
         ensures { result ≡ new_link number leaves }
@@ -31,8 +35,8 @@ impl Link {
         Link::Leaf(LeafLink::new(alloc, number, leaves))
     }
 
-    /// The version: how many changes the hub has accepted, or the leaf has applied.
-    pub fn version(&self) -> u32
+    // How many changes the hub has accepted, or the leaf has applied.
+    pub(crate) fn version(&self) -> u32
         ensures { result ≡ link_version self.now }
     {
         match self {
@@ -41,8 +45,8 @@ impl Link {
         }
     }
 
-    /// The userfile at that version.
-    pub fn userfile(&self) -> &Userfile
+    // The userfile at that version.
+    pub(crate) fn userfile(&self) -> &Userfile
         ensures { result.now ≡ link_records self.now }
     {
         match self {
@@ -51,13 +55,9 @@ impl Link {
         }
     }
 
-    /// Lets a change wait for a pump.
-    ///
-    /// # Errors
-    /// As [`HubLink::ask`] and [`LeafLink::ask`]: a leaf takes no asks yet.
-    pub fn ask(&mut self, alloc: Global, change: Change) -> Result<Answer, LinkError>
-        ensures row { Meets self.old
-            (link_row self.old (λ hub. hub_asked hub change) (λ leaf. leaf_asked leaf change)) result self.new }
+    // Lets a change wait for a pump.
+    pub(crate) fn ask(&mut self, alloc: Global, change: Change) -> Result<Answer, LinkError>
+        ensures row { Meets self.old (link_asked self.old change) result self.new }
         ensures few { IfOk result (λ answer. length answer.packets ≤ MAX_LEAVES) }
     {
         match self {
@@ -66,12 +66,77 @@ impl Link {
         }
     }
 
-    /// Does the next piece of work: the hub takes its oldest ask, a leaf says hello.
-    ///
-    /// # Errors
-    /// As [`HubLink::pump`] and [`LeafLink::pump`].
-    pub fn pump(&mut self, alloc: Global) -> Result<Answer, LinkError>
-        ensures row { Meets self.old (link_row self.old hub_pumped leaf_pumped) result self.new }
+    // How many asks wait.
+    pub(crate) fn ask_count(&self) -> usize
+        ensures { result ≡ ask_count self.now }
+    {
+        match self {
+            Link::Hub(hub) => hub.ask_count(),
+            Link::Leaf(_) => 0,
+        }
+    }
+
+    // Takes back all asks but the oldest ones, of which this many stay. Takes no memory.
+    pub(crate) fn keep_asks(&mut self, count: usize)
+        ensures { self.new ≡ link_with_oldest self.old count }
+    {
+        match self {
+            Link::Hub(hub) => hub.keep_asks(count),
+            Link::Leaf(_) => {}
+        }
+    }
+
+    // Lets changes wait, one after another, all that aren't refused or none, and puts the refusals after other faults.
+    pub(crate) fn ask_all(
+        &mut self,
+        alloc: Global,
+        mut changes: VecDeque<Change>,
+        faults: &mut Vec<Fault>,
+    ) -> Result<(), NoMemory>
+        ensures faults { OnOk result (faults.new.items ≡
+            faults.old.items ++ action_faults (refusals_of link_asked self.old changes.items)) }
+        ensures ok { OnOk result (self.new ≡ link_after self.old changes.items) }
+        ensures err { OnErr result (self.new ≡ self.old) }
+    {
+        let waiting = self.ask_count();
+        while let Some(change) = changes.pop_front() {
+            match self.ask_or_tell(alloc, change, faults) {
+                Ok(()) => {}
+                Err(NoMemory) => {
+                    self.keep_asks(waiting);
+                    return Err(NoMemory);
+                }
+            }
+        }
+        Ok(())
+    }
+
+    // Lets a change wait, or puts its refusal after other faults.
+    #[tactic(auto, using(crate::proofs::AskLemmas::link_asked_refused))]
+    fn ask_or_tell(
+        &mut self,
+        alloc: Global,
+        change: Change,
+        faults: &mut Vec<Fault>,
+    ) -> Result<(), NoMemory>
+        ensures faults { OnOk result (faults.new.items ≡
+            faults.old.items ++ action_faults (with_refusal (link_asked self.old change).answer [])) }
+        ensures ok { OnOk result (self.new ≡ (link_asked self.old change).after) }
+        ensures err { OnErr result (self.new ≡ self.old) }
+    {
+        match self.ask(alloc, change) {
+            Ok(_) => Ok(()),
+            Err(Failure::Refused(fault)) => match faults.push(Fault::Action(fault)) {
+                Ok(()) => Ok(()),
+                Err(_) => Err(NoMemory),
+            },
+            Err(Failure::NoMemory) => Err(NoMemory),
+        }
+    }
+
+    // Does the next piece of work: the hub takes its oldest ask, a leaf says hello.
+    pub(crate) fn pump(&mut self, alloc: Global) -> Result<Answer, LinkError>
+        ensures row { Meets self.old (link_pumped self.old) result self.new }
         ensures few { IfOk result (λ answer. length answer.packets ≤ MAX_LEAVES) }
     {
         match self {
@@ -80,19 +145,23 @@ impl Link {
         }
     }
 
-    /// Takes a packet.
-    ///
-    /// # Errors
-    /// As [`HubLink::receive`] and [`LeafLink::receive`].
-    pub fn receive(&mut self, alloc: Global, packet: &Packet) -> Result<Answer, LinkError>
-        ensures row { Meets self.old
-            (link_row self.old (λ hub. hub_received hub packet.now) (λ leaf. leaf_received leaf packet.now))
-            result self.new }
+    // Takes a packet.
+    pub(crate) fn receive(&mut self, alloc: Global, packet: &Packet) -> Result<Answer, LinkError>
+        ensures row { Meets self.old (link_received self.old packet.now) result self.new }
         ensures few { IfOk result (λ answer. length answer.packets ≤ MAX_LEAVES) }
     {
         match self {
             Link::Hub(hub) => hub.receive(alloc, packet),
             Link::Leaf(leaf) => leaf.receive(alloc, packet),
+        }
+    }
+}
+
+impl TryCopy for Link {
+    fn copy(&self, alloc: Global) -> Result<Link, NoMemory> {
+        match self {
+            Link::Hub(hub) => Ok(Link::Hub(hub.copy(alloc)?)),
+            Link::Leaf(leaf) => Ok(Link::Leaf(leaf.copy(alloc)?)),
         }
     }
 }

@@ -2,6 +2,7 @@
 ghost use Rattle.std.specs.Prelude.{◌≡◌, ◌&&◌, not, ◌==◌, map, length};
 ghost use Rattle.std.specs.List.{list_any};
 ghost use Rattle.botcore.specs.Dispatching.{is_one, is_raw, is_whole, is_word, is_logged, is_silencing, next_of};
+ghost use Rattle.botcore.specs.Dispatching.{has_raw_one};
 ghost use Rattle.botcore.specs.Made.{entry_of};
 
 use crate::made_call::MadeCall;
@@ -74,6 +75,22 @@ pub(crate) fn is_word(kind: Kind) -> bool
         Kind::Msg | Kind::Pub => true,
         Kind::Raw | Kind::Msgm | Kind::Notc | Kind::Pubm => false,
     }
+}
+
+// Whether a raw call has code 1, after which a line is not taken into the channel state.
+#[tactic(auto, using(crate::proofs::NextLemmas::has_raw_one_entries))]
+pub(crate) fn has_raw_one(calls: &[MadeCall]) -> bool
+    ensures { result ≡ has_raw_one (map entry_of calls.now) }
+{
+    any_raw_one(calls)
+}
+
+fn any_raw_one(calls: &[MadeCall]) -> bool
+    ensures { result ≡ list_any (λ m. is_raw m.call.kind && is_one m.reply.code) calls.now }
+{
+    calls
+        .iter()
+        .any(|made| is_raw(made.call.kind) && is_one(made.reply.code))
 }
 
 // Whether a line of these calls is logged.

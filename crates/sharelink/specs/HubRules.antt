@@ -77,6 +77,14 @@ ask_taken old change None =
 abbrev pub hub_asked : Hub → Change → Row Hub
 hub_asked old change = ask_taken old change (bad_shape change)
 
+-- the hub with these asks after those that wait
+abbrev pub with_asks : Hub → List Change → Hub
+with_asks old asks = record old { waiting = old.waiting ++ asks }
+
+-- the hub with its oldest asks alone, at most so many
+abbrev pub with_oldest : Hub → ℕ → Hub
+with_oldest old count = record old { waiting = take count old.waiting }
+
 -- the hub after it accepted a change, with these asks after it
 abbrev pub with_accepted : Hub → Change → List Change → Hub
 with_accepted old change rest = record old {

@@ -43,7 +43,7 @@ impl Model for HubLink {
 impl HubLink {
     ghost use Rattle.std.specs.Prelude.{◌≡◌, ◌≤◌, [], length, IfOk, false};
     ghost use Rattle.sharelink.specs.Meets.{Meets};
-    ghost use Rattle.sharelink.specs.HubRules.{new_hub, hub_asked, hub_pumped, hub_received, version_of};
+    ghost use Rattle.sharelink.specs.HubRules.{new_hub, hub_asked, hub_pumped, hub_received, version_of, with_oldest};
     ghost use Rattle.sharelink.specs.declared.TheConstants.{MAX_LEAVES};
 
     /// A hub without records, for this many leaves, at most 1,000. Takes no memory.
@@ -96,6 +96,23 @@ impl HubLink {
         }
         self.waiting.push_back(change)?;
         Ok(Answer::only(alloc, Note::Queued))
+    }
+
+    /// How many asks wait.
+    pub fn ask_count(&self) -> usize
+        ensures { result ≡ length self.now.waiting }
+    {
+        self.waiting.len()
+    }
+
+    /// Takes back all asks but the oldest ones, of which this many stay. Takes no memory.
+    ///
+    /// A caller that asks for several things, all or none, counts the asks before it begins, and comes back to that
+    /// count where it has to give up.
+    pub fn keep_asks(&mut self, count: usize)
+        ensures { self.new ≡ with_oldest self.old count }
+    {
+        self.waiting.truncate(count);
     }
 
     /// Takes the oldest ask: `Accepted` with its number, and the change to each leaf; or `Refused` where the userfile

@@ -1,0 +1,64 @@
+-- What a step tells.
+use Rattle.std.specs.Prelude.{ℕ, List, [], true, map, Option, Some, None, Result, Ok, Err}
+use Rattle.bytetext.specs.declared.failure.Failure.{Failure}
+use Rattle.bytetext.specs.declared.failure.Failure.TheVariants.{Refused as refused_by, NoMemory as no_memory}
+use Rattle.bindtable.specs.declared.fault.BindFault.{BindFault}
+use Rattle.sharelink.specs.declared.answer.Answer.{Answer}
+use Rattle.sharelink.specs.declared.error.LinkFault.{LinkFault}
+use Rattle.botcore.specs.declared.fault.Fault.{Fault}
+use Rattle.botcore.specs.declared.fault.Refusal.{Refusal}
+use Rattle.botcore.specs.declared.fault.Refusal.TheVariants.{Link as link_refusal, Bind as bind_refusal}
+use Rattle.botcore.specs.declared.made_call.MadeCall.{MadeCall}
+use Rattle.botcore.specs.declared.report.End.{End}
+use Rattle.botcore.specs.declared.report.End.TheVariants.{Done, Refused, NoMemory}
+use Rattle.botcore.specs.declared.report.Note.{Note}
+use Rattle.botcore.specs.declared.report.Note.TheVariants.{Link as link_note, Bound, Unbound}
+use Rattle.botcore.specs.declared.report.Report.{Report}
+use Rattle.botcore.specs.Dispatching.{is_logged}
+use Rattle.botcore.specs.Made.{entry_of}
+
+-- an end and a note, no call, nothing to send and no fault; what is no message of a server is logged
+abbrev pub plain : End → Option Note → Report
+plain end note = record { end = end; note = note; calls = []; packets = []; faults = []; logged = true }
+
+abbrev pub done : Option Note → Report
+done note = plain Done note
+
+abbrev pub refused : Refusal → Report
+refused refusal = plain (Refused refusal) None
+
+abbrev pub out_of_memory : Report
+out_of_memory = plain NoMemory None
+
+-- what a rule of the link gives
+abbrev pub link_report : Result Answer LinkFault → Report
+link_report (Ok answer) = record (done (Some (link_note answer.note))) { packets = answer.packets }
+link_report (Err fault) = refused (link_refusal fault)
+
+-- what a call of the link answers
+abbrev pub answer_report : Result Answer (Failure LinkFault) → Report
+answer_report (Ok answer) = link_report (Ok answer)
+answer_report (Err (refused_by fault)) = link_report (Err fault)
+answer_report (Err no_memory) = out_of_memory
+
+-- what making a bind answers
+abbrev pub bind_report : Result ℕ (Failure BindFault) → Report
+bind_report (Ok number) = done (Some (Bound number))
+bind_report (Err (refused_by fault)) = refused (bind_refusal fault)
+bind_report (Err no_memory) = out_of_memory
+
+-- what taking a bind away answers
+abbrev pub unbind_report : Result ℕ BindFault → Report
+unbind_report (Ok number) = done (Some (Unbound number))
+unbind_report (Err fault) = refused (bind_refusal fault)
+
+-- ---- messages
+
+-- these calls were made, and these faults told
+abbrev pub heard : List MadeCall → List Fault → Report
+heard calls faults =
+    record { end = Done; note = None; calls = calls; packets = []; faults = faults; logged = is_logged (map entry_of calls) }
+
+-- memory ran out after these calls
+abbrev pub cut_short : List MadeCall → Report
+cut_short calls = record (heard calls []) { end = NoMemory }

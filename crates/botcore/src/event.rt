@@ -1,0 +1,90 @@
+// What a bot is told.
+use bytetext::{NoMemory, Text, TryCopy};
+use ircline::Line;
+use procstore::Kind;
+use sharelink::Packet;
+use std::alloc::Global;
+use userfile::Change;
+
+/// What a bot is told: one of these is one step of it.
+#[derive(Drop)]
+pub enum Event {
+    /// It has connected to a server: it is on no channel, under the nick of its configuration.
+    Connect,
+    /// A line of the server.
+    Line(Line),
+    /// A change of the userfile is asked for, and waits for a pump.
+    Ask(Change),
+    /// The next piece of the link's work is to be done.
+    Pump,
+    /// A packet comes over the link.
+    Receive(Packet),
+    /// A bind is to be made.
+    Bind(NewBind),
+    /// A bind is to be taken away.
+    Unbind(OldBind),
+}
+
+impl TryCopy for Event {
+    fn copy(&self, alloc: Global) -> Result<Event, NoMemory> {
+        match self {
+            Event::Connect => Ok(Event::Connect),
+            Event::Line(line) => Ok(Event::Line(line.copy(alloc)?)),
+            Event::Ask(change) => Ok(Event::Ask(change.copy(alloc)?)),
+            Event::Pump => Ok(Event::Pump),
+            Event::Receive(packet) => Ok(Event::Receive(packet.copy(alloc)?)),
+            Event::Bind(asked) => Ok(Event::Bind(asked.copy(alloc)?)),
+            Event::Unbind(gone) => Ok(Event::Unbind(gone.copy(alloc)?)),
+        }
+    }
+}
+
+/// A bind that is asked for. See [`BindTable::bind`](bindtable::BindTable::bind) for what each field may be.
+#[derive(Drop)]
+pub struct NewBind {
+    /// The kind of event.
+    pub kind: Kind,
+    /// The flag expression that a person has to meet.
+    pub flags: Text,
+    /// The keyword of a msg or pub bind, and otherwise the mask.
+    pub mask: Text,
+    /// The name of the proc.
+    pub proc: Text,
+}
+
+impl TryCopy for NewBind {
+    fn copy(&self, alloc: Global) -> Result<NewBind, NoMemory> {
+        let flags = self.flags.copy(alloc)?;
+        let mask = self.mask.copy(alloc)?;
+        let proc = self.proc.copy(alloc)?;
+        Ok(NewBind {
+            kind: self.kind,
+            flags,
+            mask,
+            proc,
+        })
+    }
+}
+
+/// The bind that is to go: the one of this kind, of this mask by casemapping and of this proc byte for byte.
+#[derive(Drop)]
+pub struct OldBind {
+    /// The kind of event.
+    pub kind: Kind,
+    /// The keyword or mask.
+    pub mask: Text,
+    /// The name of the proc.
+    pub proc: Text,
+}
+
+impl TryCopy for OldBind {
+    fn copy(&self, alloc: Global) -> Result<OldBind, NoMemory> {
+        let mask = self.mask.copy(alloc)?;
+        let proc = self.proc.copy(alloc)?;
+        Ok(OldBind {
+            kind: self.kind,
+            mask,
+            proc,
+        })
+    }
+}

@@ -1,0 +1,184 @@
+// What a step tells.
+ghost use Rattle.std.specs.Prelude.{◌≡◌};
+ghost use Rattle.botcore.specs.Reports.{heard, cut_short};
+ghost use Rattle.botcore.specs.Reports.{plain, done, refused, out_of_memory};
+ghost use Rattle.botcore.specs.Reports.{answer_report, bind_report, unbind_report};
+
+use crate::fault::{Fault, Refusal};
+use crate::made_call::MadeCall;
+use crate::next::is_logged;
+use bindtable::{BindError, BindFault};
+use bytetext::{Failure, NoMemory, Seq, TryCopy};
+use sharelink::{Answer, LinkError, Outgoings};
+use std::alloc::Global;
+
+/// How a step ends.
+#[derive(Clone, Copy, Debug, PartialEq, Eq)]
+pub enum End {
+    /// What the event asks for is done.
+    Done,
+    /// A rule stands against it.
+    Refused(Refusal),
+    /// A growth was refused, and the bot is as it was.
+    NoMemory,
+}
+
+/// What came of a step that is done. A connect and a message of the server have none.
+#[derive(Clone, Copy, Debug, PartialEq, Eq)]
+pub enum Note {
+    /// What came of a call of the link.
+    Link(sharelink::Note),
+    /// The bind has this number.
+    Bound(u32),
+    /// The bind of this number is gone.
+    Unbound(u32),
+    /// The line is no message, and nothing is done for it.
+    Bad(ircline::Fault),
+}
+
+/// Calls in order.
+pub type MadeCalls = Seq<MadeCall>;
+
+/// Faults in order.
+pub type Faults = Seq<Fault>;
+
+/// What a step tells.
+#[derive(Drop)]
+pub struct Report {
+    /// How it ended.
+    pub end: End,
+    /// What came of it.
+    pub note: Option<Note>,
+    /// The calls that were made, in order. Out of memory they are the first of those that would be made.
+    pub calls: MadeCalls,
+    /// The packets to send, in order.
+    pub packets: Outgoings,
+    /// The binds that were left out since the store lacks their procs, in the order in which they would be called; then
+    /// the actions that were refused, in the order of the calls.
+    pub faults: Faults,
+    /// Whether the line is logged: false where a raw, `msgm`, `pubm` or `notc` proc has answered 1, and true for any
+    /// other event.
+    pub logged: bool,
+}
+
+impl Report {
+    // An end and a note, and nothing else. Takes no memory.
+    fn plain(alloc: Global, end: End, note: Option<Note>) -> Report
+        ensures { result ≡ plain end note }
+    {
+        Report {
+            end,
+            note,
+            calls: Seq::empty(alloc),
+            packets: Seq::empty(alloc),
+            faults: Seq::empty(alloc),
+            logged: true,
+        }
+    }
+
+    // What the event asks for is done. Takes no memory.
+    pub(crate) fn done(alloc: Global, note: Option<Note>) -> Report
+        ensures { result ≡ done note }
+    {
+        Report::plain(alloc, End::Done, note)
+    }
+
+    // A rule stands against it. Takes no memory.
+    pub(crate) fn refused(alloc: Global, refusal: Refusal) -> Report
+        ensures { result ≡ refused refusal }
+    {
+        Report::plain(alloc, End::Refused(refusal), None)
+    }
+
+    // A growth was refused. Takes no memory.
+    pub(crate) fn out_of_memory(alloc: Global) -> Report
+        ensures { result ≡ out_of_memory }
+    {
+        Report::plain(alloc, End::NoMemory, None)
+    }
+
+    // What a call of the link answers. Takes no memory.
+    pub(crate) fn of_answer(alloc: Global, answer: Result<Answer, LinkError>) -> Report
+        ensures { result ≡ answer_report answer }
+    {
+        match answer {
+            Ok(answer) => Report {
+                end: End::Done,
+                note: Some(Note::Link(answer.note)),
+                calls: Seq::empty(alloc),
+                packets: answer.packets,
+                faults: Seq::empty(alloc),
+                logged: true,
+            },
+            Err(Failure::Refused(fault)) => Report::refused(alloc, Refusal::Link(fault)),
+            Err(Failure::NoMemory) => Report::out_of_memory(alloc),
+        }
+    }
+
+    // What making a bind answers. Takes no memory.
+    pub(crate) fn of_bind(alloc: Global, answer: Result<u32, BindError>) -> Report
+        ensures { result ≡ bind_report answer }
+    {
+        match answer {
+            Ok(number) => Report::done(alloc, Some(Note::Bound(number))),
+            Err(Failure::Refused(fault)) => Report::refused(alloc, Refusal::Bind(fault)),
+            Err(Failure::NoMemory) => Report::out_of_memory(alloc),
+        }
+    }
+
+    // What taking a bind away answers. Takes no memory.
+    pub(crate) fn of_unbind(alloc: Global, answer: Result<u32, BindFault>) -> Report
+        ensures { result ≡ unbind_report answer }
+    {
+        match answer {
+            Ok(number) => Report::done(alloc, Some(Note::Unbound(number))),
+            Err(fault) => Report::refused(alloc, Refusal::Bind(fault)),
+        }
+    }
+
+    // A message of these calls, with these faults. Takes no memory.
+    pub(crate) fn heard(alloc: Global, calls: MadeCalls, faults: Faults) -> Report
+        ensures { result ≡ heard calls faults }
+    {
+        let logged = is_logged(calls.as_slice());
+        Report {
+            end: End::Done,
+            note: None,
+            calls,
+            packets: Seq::empty(alloc),
+            faults,
+            logged,
+        }
+    }
+
+    // A message of which these calls were made before memory ran out. Takes no memory.
+    pub(crate) fn cut_short(alloc: Global, calls: MadeCalls) -> Report
+        ensures { result ≡ cut_short calls }
+    {
+        let logged = is_logged(calls.as_slice());
+        Report {
+            end: End::NoMemory,
+            note: None,
+            calls,
+            packets: Seq::empty(alloc),
+            faults: Seq::empty(alloc),
+            logged,
+        }
+    }
+}
+
+impl TryCopy for Report {
+    fn copy(&self, alloc: Global) -> Result<Report, NoMemory> {
+        let calls = self.calls.copy(alloc)?;
+        let packets = self.packets.copy(alloc)?;
+        let faults = self.faults.copy(alloc)?;
+        Ok(Report {
+            end: self.end,
+            note: self.note,
+            calls,
+            packets,
+            faults,
+            logged: self.logged,
+        })
+    }
+}
