@@ -1,17 +1,9 @@
--- How the lists of a world grow by one.
-use Rattle.std.proofs.Common.{◌≡◌, ℕ, ◌+◌, ◌-◌, ◌<◌, suc, List, [], ◌∷◌, ◌++◌, ap, sym, ◌∙◌, arith, append_assoc}
+-- How packets are put on the network one by one.
+use Rattle.std.proofs.Common.{◌≡◌, ℕ, List, [], ◌∷◌, ◌++◌, ap, sym, ◌∙◌, append_assoc}
 use Rattle.std.proofs.lemmas.List.{append-nil}
-use Rattle.sharelink.specs.LeafRules.{Leaf, new_leaf}
 use Rattle.sharelink.specs.declared.answer.Outgoing.{Outgoing}
 use Rattle.botworld.specs.declared.sent.Sent.{Sent}
-use Rattle.botworld.specs.Net.{new_leaves, posted}
-
--- one more leaf is made
-pub new_leaves-more : (made : List Leaf) (n i : ℕ) (all : List Leaf) → i < n → made ++ new_leaves (i + 1) (n - i) ≡ all
-    → (made ++ new_leaf (i + 1) ∷ []) ++ new_leaves (i + 1 + 1) (n - (i + 1)) ≡ all
-new_leaves-more made n i all h e =
-    let step : n - i ≡ suc (n - (i + 1)) = omega arith in
-    append_assoc made _ _ ∙ ap (λ k. made ++ new_leaves (i + 1) k) (sym step) ∙ e
+use Rattle.botworld.specs.Net.{posted}
 
 -- one more packet is put on the network
 pub posted-next : (put : List Sent) (from : ℕ) (rest rest' : List Outgoing) (x : Outgoing) (all : List Sent)

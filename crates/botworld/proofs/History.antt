@@ -8,10 +8,8 @@ use Rattle.userfile.specs.Records.{Records, no_records}
 use Rattle.userfile.specs.Apply.{changed}
 use Rattle.userfile.specs.Versions.{after_changes}
 use Rattle.userfile.specs.declared.change.Change.{Change}
-use Rattle.sharelink.specs.LeafRules.{Leaf}
 use Rattle.sharelink.specs.declared.accepted.AcceptedChange.{AcceptedChange}
-use Rattle.botworld.specs.Network.{changes_of, records_of, leaves_at, NoneBack, Extends}
-use Rattle.botworld.specs.Standing.{AllAtMost}
+use Rattle.botworld.specs.Network.{changes_of, records_of, Extends}
 
 -- lists --------------------------------------------------------------------------------------------------------------
 
@@ -41,52 +39,30 @@ Extends-trans {X} xs ys zs a b = (a.0 ++ b.0, b.1 ∙ ap (λ (l : List X). l ++ 
 pub Extends-refl : {X : Type 0} (xs : List X) → Extends xs xs
 Extends-refl xs = ([], sym (append-nil xs))
 
--- versions ------------------------------------------------------------------------------------------------------------
+-- an element after one was set: the new one, or another that stood there
+pub slice_get-set : {X : Type 0} (xs : List X) (i j : ℕ) (x y : X) → slice_get (slice_set xs i x) j ≡ Some y
+    → ((j ≡ i) × (x ≡ y)) ⊎ ((j ≡ i → ⊥) × (slice_get xs j ≡ Some y))
+slice_get-set [] i j x y e = cc
+slice_get-set (z ∷ xs) zero zero x y e = inl (refl, cc)
+slice_get-set (z ∷ xs) zero (suc j) x y e = inr ((λ h. cc), e)
+slice_get-set (z ∷ xs) (suc i) zero x y e = inr ((λ h. cc), e)
+slice_get-set (z ∷ xs) (suc i) (suc j) x y e =
+    elim (slice_get-set xs i j x y e) [ inl h ↦ inl (ap suc h.0, h.1) | inr h ↦ inr ((λ k. h.0 (omega (arith, k))), h.1) ]
 
-pub NoneBack-refl : (vs : List ℕ) → NoneBack vs vs
-NoneBack-refl [] = tt
-NoneBack-refl (v ∷ vs) = (omega arith, NoneBack-refl vs)
+-- what stands at a place after one was set: the new one, or what stood there
+pub set-slice_get : {X : Type 0} (xs : List X) (i j : ℕ) (x y : X) → slice_get xs j ≡ Some y
+    → ((j ≡ i) × (slice_get (slice_set xs i x) j ≡ Some x)) ⊎ (slice_get (slice_set xs i x) j ≡ Some y)
+set-slice_get [] i j x y e = cc
+set-slice_get (z ∷ xs) zero zero x y e = inl (refl, refl)
+set-slice_get (z ∷ xs) zero (suc j) x y e = inr e
+set-slice_get (z ∷ xs) (suc i) zero x y e = inr e
+set-slice_get (z ∷ xs) (suc i) (suc j) x y e = elim (set-slice_get xs i j x y e) [ inl h ↦ inl (ap suc h.0, h.1) | inr h ↦ inr h ]
 
-pub NoneBack-trans : (us vs ws : List ℕ) → NoneBack us vs → NoneBack vs ws → NoneBack us ws
-NoneBack-trans [] [] [] a b = tt
-NoneBack-trans [] [] (w ∷ ws) a b = b
-NoneBack-trans [] (v ∷ vs) ws a b = absurd a
-NoneBack-trans (u ∷ us) [] ws a b = absurd a
-NoneBack-trans (u ∷ us) (v ∷ vs) [] a b = absurd b
-NoneBack-trans (u ∷ us) (v ∷ vs) (w ∷ ws) a b = (omega (arith, a.0, b.0), NoneBack-trans us vs ws a.1 b.1)
-
--- one version that rises
-pub NoneBack-set : (vs : List ℕ) (i u v : ℕ) → slice_get vs i ≡ Some u → u ≤ v → NoneBack vs (slice_set vs i v)
-NoneBack-set [] i u v e h = tt
-NoneBack-set (x ∷ xs) zero u v e h = (let same : x ≡ u = cc in omega (arith, same, h), NoneBack-refl xs)
-NoneBack-set (x ∷ xs) (suc i) u v e h = (omega arith, NoneBack-set xs i u v e h)
-
--- the version at a place before and after
-pub NoneBack-at : (us vs : List ℕ) (i u : ℕ) → NoneBack us vs → slice_get us i ≡ Some u → (v : ℕ) × (slice_get vs i ≡ Some v) × (u ≤ v)
-NoneBack-at [] vs i u h e = cc
-NoneBack-at (x ∷ us) [] i u h e = absurd h
-NoneBack-at (x ∷ us) (y ∷ vs) zero u h e = (y, refl, let same : x ≡ u = cc in omega (arith, same, h.0))
-NoneBack-at (x ∷ us) (y ∷ vs) (suc i) u h e = NoneBack-at us vs i u h.1 e
-
-pub NoneBack-length : (us vs : List ℕ) → NoneBack us vs → length vs ≡ length us
-NoneBack-length [] [] h = refl
-NoneBack-length [] (v ∷ vs) h = absurd h
-NoneBack-length (u ∷ us) [] h = absurd h
-NoneBack-length (u ∷ us) (v ∷ vs) h = ap suc (NoneBack-length us vs h.1)
-
-pub AllAtMost-weaker : (m n : ℕ) (vs : List ℕ) → m ≤ n → AllAtMost m vs → AllAtMost n vs
-AllAtMost-weaker m n [] h a = tt
-AllAtMost-weaker m n (v ∷ vs) h a = (omega (arith, a.0, h), AllAtMost-weaker m n vs h a.1)
-
-pub AllAtMost-set : (n : ℕ) (vs : List ℕ) (i v : ℕ) → v ≤ n → AllAtMost n vs → AllAtMost n (slice_set vs i v)
-AllAtMost-set n [] i v h a = tt
-AllAtMost-set n (x ∷ vs) zero v h a = (h, a.1)
-AllAtMost-set n (x ∷ vs) (suc i) v h a = (a.0, AllAtMost-set n vs i v h a.1)
-
-pub AllAtMost-at : (n : ℕ) (vs : List ℕ) (i v : ℕ) → AllAtMost n vs → slice_get vs i ≡ Some v → v ≤ n
-AllAtMost-at n [] i v a e = cc
-AllAtMost-at n (x ∷ vs) zero v a e = let same : x ≡ v = cc in omega (arith, same, a.0)
-AllAtMost-at n (x ∷ vs) (suc i) v a e = AllAtMost-at n vs i v a.1 e
+-- what stands where it was set
+pub slice_get-set-same : {X : Type 0} (xs : List X) (i : ℕ) (x y : X) → slice_get xs i ≡ Some x → slice_get (slice_set xs i y) i ≡ Some y
+slice_get-set-same [] i x y e = cc
+slice_get-set-same (z ∷ xs) zero x y e = refl
+slice_get-set-same (z ∷ xs) (suc i) x y e = slice_get-set-same xs i x y e
 
 -- records -------------------------------------------------------------------------------------------------------------
 
@@ -123,30 +99,3 @@ records_of-next xs v e h =
     let is = get_or_from_slice_get (changes_of xs) v e.change e.change at in
     ap (after_changes no_records) (take_more (changes_of xs) v e.change within ∙ ap (λ c. take v (changes_of xs) ++ c ∷ []) is)
     ∙ after_changes-last no_records (take v (changes_of xs)) e.change
-
--- leaves --------------------------------------------------------------------------------------------------------------
-
--- more accepted changes leave the leaves
-pub leaves_at-extended : (xs ys : List AcceptedChange) (first : ℕ) (vs : List ℕ) → AllAtMost (length xs) vs
-    → leaves_at (xs ++ ys) first vs ≡ leaves_at xs first vs
-leaves_at-extended xs ys first [] a = refl
-leaves_at-extended xs ys first (v ∷ vs) a = rw (records_of-extended xs ys v a.0, leaves_at-extended xs ys (first + 1) vs a.1) refl
-
--- the leaf at a version, by its place
-abbrev pub leaf_of : List AcceptedChange → ℕ → ℕ → Leaf
-leaf_of accepted number v = record { number = number; version = v; records = records_of accepted v }
-
-pub leaves_at-get : (xs : List AcceptedChange) (first : ℕ) (vs : List ℕ) (i : ℕ)
-    → slice_get (leaves_at xs first vs) i ≡ option_map (λ v. leaf_of xs (first + i) v) (slice_get vs i)
-leaves_at-get xs first [] i = refl
-leaves_at-get xs first (v ∷ vs) zero = let same : first + 0 ≡ first = omega arith in rw same refl
-leaves_at-get xs first (v ∷ vs) (suc i) = let same : first + suc i ≡ first + 1 + i = omega arith in rw same (leaves_at-get xs (first + 1) vs i)
-
--- one leaf at another version
-pub leaves_at-set : (xs : List AcceptedChange) (first : ℕ) (vs : List ℕ) (i v : ℕ)
-    → slice_set (leaves_at xs first vs) i (leaf_of xs (first + i) v) ≡ leaves_at xs first (slice_set vs i v)
-leaves_at-set xs first [] i v = refl
-leaves_at-set xs first (x ∷ vs) zero v = let same : first + 0 ≡ first = omega arith in rw same refl
-leaves_at-set xs first (x ∷ vs) (suc i) v =
-    let same : first + suc i ≡ first + 1 + i = omega arith in
-    rw same (ap (λ ls. leaf_of xs first x ∷ ls) (leaves_at-set xs (first + 1) vs i v))

@@ -1,178 +1,188 @@
--- What holds of each step of the network.
-use Rattle.std.proofs.Common.{◌≡◌, ℕ, zero, suc, ◌+◌, ◌==◌, nat_lt, nat_le, Bool, true, false, if◌then◌else◌, List, [], ◌∷◌, ◌++◌, length}
-use Rattle.std.proofs.Common.{slice_get, slice_set, Option, None, Some, refl, ap, sym, subst, ◌∙◌, arith, eq-eqb}
+-- What holds of each step of the network, beside what follows from it.
+use Rattle.std.proofs.Common.{◌≡◌, ℕ, zero, suc, ◌+◌, ◌==◌, nat_lt, nat_le, Bool, true, false, if◌then◌else◌, List, [], ◌∷◌, ◌++◌}
+use Rattle.std.proofs.Common.{length, slice_get, Option, None, Some, Result, Ok, refl, ap, sym, subst, ◌∙◌, arith, eq-eqb}
+use Rattle.std.proofs.lemmas.Bool.{lt-ltb}
 use Rattle.std.proofs.lemmas.Bool.Decides.{nat_tests}
+use Rattle.std.proofs.lemmas.Option.{slice_get_within}
 use Rattle.std.specs.Option.{option_map}
+use Rattle.userfile.specs.Records.{Records}
 use Rattle.userfile.specs.Apply.{refusal}
 use Rattle.userfile.specs.declared.change.Change.{Change}
+use Rattle.sharewire.specs.declared.packet.Packet.TheVariants.{Change as change_packet}
 use Rattle.sharelink.specs.Meets.{Row, noted, refused}
-use Rattle.sharelink.specs.HubRules.{Hub, own, acceptance, ask_served, hub_pumped_at}
+use Rattle.sharelink.specs.HubRules.{Hub, own, acceptance, hub_pumped_at}
 use Rattle.sharelink.specs.LeafRules.{Leaf, with_next, leaf_received}
 use Rattle.sharelink.specs.declared.accepted.AcceptedChange.{AcceptedChange}
-use Rattle.sharewire.specs.declared.packet.Packet.TheVariants.{Change as change_packet}
 use Rattle.sharelink.specs.declared.answer.Note.TheVariants.{Accepted, Applied}
-use Rattle.sharelink.specs.declared.error.LinkFault.TheVariants.{NumbersSpent, Diverged}
+use Rattle.sharelink.specs.declared.error.LinkFault.TheVariants.{NumbersSpent}
+use Rattle.procstore.specs.declared.action.Action.{Action}
+use Rattle.procstore.specs.declared.call.Call.{Call}
+use Rattle.procstore.specs.declared.reply.Code.{Code}
+use Rattle.botcore.specs.declared.event.Event.{Event}
+use Rattle.botcore.specs.declared.event.Event.TheVariants.{Pump, Receive}
+use Rattle.botcore.specs.declared.link.Link.{Link}
+use Rattle.botcore.specs.declared.link.Link.TheVariants.{Hub as hub_end, Leaf as leaf_end}
+use Rattle.botcore.specs.declared.report.End.{End}
+use Rattle.botcore.specs.declared.report.End.TheVariants.{Done, Refused, NoMemory}
+use Rattle.botcore.specs.declared.report.Note.TheVariants.{Link as link_note}
+use Rattle.botcore.specs.declared.report.Report.{Report as BotReport}
+use Rattle.botcore.specs.Bots.{Bot}
+use Rattle.botcore.specs.Links.{link_version, link_pumped, link_received}
+use Rattle.botcore.specs.Steps.{Due, link_due, Gives}
 use Rattle.botworld.specs.declared.sent.Sent.{Sent}
+use Rattle.botworld.specs.declared.step.Part.{Part}
 use Rattle.botworld.specs.declared.step.Step.{Step}
-use Rattle.botworld.specs.declared.outcome.End.{End}
-use Rattle.botworld.specs.declared.outcome.End.TheVariants.{Note as ended, Refused as ended_refused, NoMemory as ended_no_memory}
-use Rattle.botworld.specs.declared.outcome.Report.{Report}
 use Rattle.botworld.specs.declared.outcome.Outcome.{Outcome}
-use Rattle.botworld.specs.declared.outcome.Outcome.TheVariants.{Report as reported, NoSuchBot, NoSuchPacket}
-use Rattle.botworld.specs.Net.{Net, Stepped, IsNote, Reports, ComesOf, hub_stepped, leaf_stepped, packet_at, delivered, stepped}
-use Rattle.botworld.specs.Network.{State, net_of, records_of, leaves_at, IsDone, HasEnd, AppliesNext, AcceptsNext, NeverDiverged, GrowsByEnd, GrowsAtAccepted}
-use Rattle.botworld.specs.Network.{IsMadeEnd, IsMade, LawfulStep, NetworkStep, Follows}
-use Rattle.botworld.specs.Standing.{IsSound, Stands, IsTrueChange, IsNumbered}
-use Rattle.botworld.proofs.History.{leaves_at-get, leaf_of}
+use Rattle.botworld.specs.Net.{Net, is_bot, part_at, told_at, delivered, part_of, packet_at, TakesPart, Comes, NetStep, shown_version}
+use Rattle.botworld.specs.Network.{State, IsSound, IsHubAt, IsLeafAt, IsLinkAt, IsNumbered, IsTrueChange, records_of, waiting_in, waiting_at, IsDone, HasNote}
+use Rattle.botworld.specs.Network.{AppliesNext, AcceptsNext}
+use Rattle.botworld.proofs.History.{slice_get-set-same}
 use Rattle.botworld.proofs.Truth.{AllTrue-at}
-use Rattle.botworld.proofs.Simulate.{simulate, Follows-refl}
 
--- where a step is done, the outcome and the new net are what the step gives
-pub done_gives : (old : Net) (given : Stepped) (o : Outcome) (new : Net) → ComesOf old given o new → IsDone o → (given.outcome ≡ o) × (new ≡ given.after)
-done_gives old given (reported report) new c done = by report.end c done refl
+-- a bot of this number is there
+pub is_bot-at : (w : Net) (bot : ℕ) (b : Bot) → slice_get w.bots bot ≡ Some b → is_bot w bot ≡ true
+is_bot-at w bot b e = lt-ltb bot (length w.bots) (slice_get_within w.bots bot b e)
+
+-- a packet that was sent is true
+pub sent-true : (s : State) → IsSound s → (n : ℕ) (sent : Sent) → packet_at s.net.packets n ≡ Some sent → IsTrueChange s.accepted sent.packet
+sent-true s sound zero sent e = cc
+sent-true s sound (suc n) sent e = AllTrue-at s.accepted s.net.packets n sent sound.changes e
+
+-- a done step of a bot
+record DoneBy (code_of : List ℕ → Call → Code) (may : List ℕ → Call → List Action → Type 0)
+    (old : Net) (bot : ℕ) (event : Event) (was : Bot) (o : Outcome) (new : Net) : Type 0 where
+  taken : TakesPart code_of may old (record { bot = bot; event = event }) o new
+  same : taken.was ≡ was
+  done : taken.report.end ≡ Done
+
+done_by : (code_of : List ℕ → Call → Code) (may : List ℕ → Call → List Action → Type 0)
+    (old : Net) (bot : ℕ) (event : Event) (was : Bot) (o : Outcome) (new : Net)
+    → slice_get old.bots bot ≡ Some was → Comes code_of may old (part_at old bot event) o new → IsDone o → DoneBy code_of may old bot event was o new
+done_by code_of may old bot event was o new here c done =
+    let part : Part = record { bot = bot; event = event } in
+    let there : part_at old bot event ≡ Ok part = rw (is_bot-at old bot was here) refl in
+    let taken : TakesPart code_of may old part o new = subst (λ (r : Result Part Outcome). Comes code_of may old r o new) there c in
+    record {
+      taken = taken;
+      same = let both : Some taken.was ≡ Some was = sym taken.there ∙ here in cc;
+      done = subst IsDone taken.told done;
+    }
+
+-- what is due to a done step
+pub due_done : (Grows : Type 0) (old : Bot) (due : Due) (report : BotReport) (new : Bot) (end : End) → end ≡ Done → Gives end Grows old due report new
+    → (report ≡ due.report) × (new ≡ due.after)
+due_done Grows old due report new Done e g = g
+due_done Grows old due report new (Refused why) e g = cc
+due_done Grows old due report new NoMemory e g = cc
+
+-- the bot that took part, in the net after it
+after_at : (code_of : List ℕ → Call → Code) (may : List ℕ → Call → List Action → Type 0) (old : Net) (part : Part) (o : Outcome) (new : Net)
+    → (t : TakesPart code_of may old part o new) → slice_get new.bots part.bot ≡ Some t.after
+after_at code_of may old part o new t =
+    ap (λ (w : Net). slice_get w.bots part.bot) t.leaves ∙ slice_get-set-same old.bots part.bot t.was t.after t.there
+
+shown_at : (w : Net) (bot v : ℕ) → shown_version w bot ≡ Some v → (b : Bot) × (slice_get w.bots bot ≡ Some b) × (link_version b.link ≡ v)
+shown_at w bot v e = by (slice_get w.bots bot) refl e
   where
-    by : (end : End) → Reports end report old given new → IsNote end → report.end ≡ end → (given.outcome ≡ reported report) × (new ≡ given.after)
-    by (ended note) c done e = c
-    by (ended_refused fault) c done e = absurd done
-    by ended_no_memory c done e = absurd done
-done_gives old given NoSuchBot new c done = absurd done
-done_gives old given NoSuchPacket new c done = absurd done
+    by : (r : Option Bot) → slice_get w.bots bot ≡ r → option_map (λ (b : Bot). link_version b.link) r ≡ Some v
+        → (b : Bot) × (slice_get w.bots bot ≡ Some b) × (link_version b.link ≡ v)
+    by None here e = cc
+    by (Some b) here e = (b, here, cc)
 
--- so they are where the step did not end for want of memory
-pub made_gives : (old : Net) (given : Stepped) (o : Outcome) (new : Net) → ComesOf old given o new → IsMade o → (given.outcome ≡ o) × (new ≡ given.after)
-made_gives old given (reported report) new c made = by report.end c made
-  where
-    by : (end : End) → Reports end report old given new → IsMadeEnd end → (given.outcome ≡ reported report) × (new ≡ given.after)
-    by (ended note) c made = c
-    by (ended_refused fault) c made = c
-    by ended_no_memory c made = absurd made
-made_gives old given NoSuchBot new c made = c
-made_gives old given NoSuchPacket new c made = c
+-- a leaf at its place is a leaf
+leaf_of : (all : List AcceptedChange) (bots p : ℕ) (link : Link) → IsLinkAt all bots (suc p) link → (l : Leaf) × (link ≡ leaf_end l) × IsLeafAt all (suc p) l
+leaf_of all bots p (hub_end h) at = absurd at
+leaf_of all bots p (leaf_end l) at = (l, refl, at)
 
--- an outcome that tells of records that differ is the one that the step gives
-pub diverged_gives : (old : Net) (given : Stepped) (o : Outcome) (new : Net) → ComesOf old given o new → HasEnd o (ended_refused Diverged)
-    → HasEnd given.outcome (ended_refused Diverged)
-diverged_gives old given (reported report) new c h = by report.end c h refl
-  where
-    by : (end : End) → Reports end report old given new → end ≡ ended_refused Diverged → report.end ≡ end → HasEnd given.outcome (ended_refused Diverged)
-    by (ended note) c h e = cc
-    by (ended_refused fault) c h e = subst (λ (o : Outcome). HasEnd o (ended_refused Diverged)) (sym c.0) (e ∙ h)
-    by ended_no_memory c h e = cc
-diverged_gives old given NoSuchBot new c h = absurd h
-diverged_gives old given NoSuchPacket new c h = absurd h
+hub_of : (all : List AcceptedChange) (bots : ℕ) (link : Link) → IsLinkAt all bots 0 link → (h : Hub) × (link ≡ hub_end h) × IsHubAt all bots h
+hub_of all bots (hub_end h) at = (h, refl, at)
+hub_of all bots (leaf_end l) at = absurd at
 
--- the version of a leaf, read off its net
-version_in : (s : State) (place v : ℕ) → option_map (λ (leaf : Leaf). leaf.version) (slice_get (net_of s).leaves place) ≡ Some v
-    → slice_get s.versions place ≡ Some v
-version_in s place v e = by (slice_get s.versions place) (sym (ap (option_map (λ (leaf : Leaf). leaf.version)) (leaves_at-get s.accepted 1 s.versions place))
-    ∙ e)
-  where
-    by : (r : Option ℕ) → option_map (λ (leaf : Leaf). leaf.version) (option_map (λ u. leaf_of s.accepted (1 + place) u) r) ≡ Some v → r ≡ Some v
-    by None h = cc
-    by (Some u) h = h
-
-set_get : {X : Type 0} (xs : List X) (i : ℕ) (x y : X) → slice_get xs i ≡ Some x → slice_get (slice_set xs i y) i ≡ Some y
-set_get [] i x y e = cc
-set_get (z ∷ xs) zero x y e = refl
-set_get (z ∷ xs) (suc i) x y e = set_get xs i x y e
-
-true_at : (s : State) → IsSound s → (n : ℕ) (sent : Sent) → packet_at s.packets n ≡ Some sent → IsTrueChange s.accepted sent.packet
-true_at s sound zero sent e = cc
-true_at s sound (suc n) sent e = AllTrue-at s.accepted s.packets n sent sound.changes e
-
--- what the delivery of the next change gives
-next_given : (s : State) → IsSound s → (leaf v origin request from packet : ℕ) (change : Change)
-    → packet_at s.packets packet ≡ Some (record { from = from; to = suc leaf; packet = change_packet (v + 1) origin request change })
-    → slice_get s.versions leaf ≡ Some v
-    → delivered (net_of s) (packet_at s.packets packet) ≡ leaf_stepped (net_of s) leaf
-    (noted (Applied (v + 1)) (with_next (leaf_of s.accepted (1 + leaf) v) change))
-next_given s sound leaf v origin request from packet change at here =
+-- what the delivery of its next change gives a leaf
+next_given : (all : List AcceptedChange) (p : ℕ) (l : Leaf) (v origin request : ℕ) (change : Change) → IsLeafAt all (suc p) l → l.version ≡ v
+    → ((entry : AcceptedChange) → slice_get all v ≡ Some entry → refusal (records_of all v) entry.change ≡ None)
+    → IsTrueChange all (change_packet (v + 1) origin request change)
+    → leaf_received l (change_packet (v + 1) origin request change) ≡ noted (Applied (l.version + 1)) (with_next l change)
+next_given all p l v origin request change at same taken truth =
     let entry : AcceptedChange = record { origin = origin; request = request; change = change } in
     let next : v + 1 ≡ suc v = omega arith in
-    let accepted : slice_get s.accepted v ≡ Some entry = subst (λ n. IsNumbered s.accepted n entry) next (true_at s sound packet _ at) in
-    let takes : refusal (records_of s.accepted v) change ≡ None = sound.taken v entry accepted in
-    let met : slice_get (leaves_at s.accepted 1 s.versions) leaf ≡ Some (leaf_of s.accepted (1 + leaf) v) = leaves_at-get s.accepted 1 s.versions leaf
-    ∙ ap (option_map (λ u. leaf_of s.accepted (1 + leaf) u)) here in
-    let above : nat_le (v + 1) v ≡ false = grind (arith, nat_tests) in
-    let equal : (v + 1 == (v + 1)) ≡ true = eq-eqb (v + 1) (v + 1) refl in
-    let taken : leaf_received (leaf_of s.accepted (1 + leaf) v) (change_packet (v + 1) origin request change) ≡ noted (Applied (v + 1))
-    (with_next (leaf_of s.accepted (1 + leaf) v) change) = rw (above, equal, takes) refl in
-    rw at (rw met (ap (leaf_stepped (net_of s) leaf) taken))
+    let accepted : slice_get all v ≡ Some entry = subst (λ n. IsNumbered all n entry) next truth in
+    let takes : refusal l.records change ≡ None =
+    ap (λ (r : Records). refusal r change) (at.records ∙ ap (records_of all) same) ∙ taken entry accepted in
+    let above : nat_le (v + 1) l.version ≡ false = grind (arith, nat_tests, same) in
+    let equal : (v + 1 == (l.version + 1)) ≡ true = eq-eqb (v + 1) (l.version + 1) (omega (arith, same)) in
+    rw (above, equal, takes) refl
 
 -- the next change that is delivered and done is applied
-pub applies_next : (old : State) (step : Step) (o : Outcome) (new : State) → IsSound old → NetworkStep old step o new → AppliesNext old step o new
-applies_next old step o new sound by_rule packet leaf v origin request from change is at here done =
-    let rule : ComesOf (net_of old) (delivered (net_of old) (packet_at old.packets packet)) o (net_of new) = subst
-    (λ (e : Step). ComesOf (net_of old) (stepped (net_of old) e) o (net_of new)) is by_rule in
-    let gives = done_gives (net_of old) _ o (net_of new) rule done in
-    let after = gives.1 ∙ ap (λ (g : Stepped). g.after) (next_given old sound leaf v origin request from packet change at here) in
-    let met : slice_get (leaves_at old.accepted 1 old.versions) leaf ≡ Some (leaf_of old.accepted (1 + leaf) v) = leaves_at-get old.accepted 1 old.versions
-    leaf ∙ ap (option_map (λ u. leaf_of old.accepted (1 + leaf) u)) here in
-    let written = set_get (leaves_at old.accepted 1 old.versions) leaf _ (with_next (leaf_of old.accepted (1 + leaf) v) change) met in
-    version_in new leaf (v + 1) (ap (λ (w : Net). option_map (λ (l : Leaf). l.version) (slice_get w.leaves leaf)) after
-    ∙ ap (option_map (λ (l : Leaf). l.version)) written)
+pub applies_next : (code_of : List ℕ → Call → Code) (may : List ℕ → Call → List Action → Type 0) (old : State) (step : Step) (o : Outcome) (new : State)
+    → IsSound old → NetStep code_of may old.net step o new.net → AppliesNext old step o new
+applies_next code_of may old step o new sound rule packet leaf v origin request from change is at shown done =
+    let p = change_packet (v + 1) origin request change in
+    let found = shown_at old.net (suc leaf) v shown in
+    let rule' : Comes code_of may old.net (delivered old.net (packet_at old.net.packets packet)) o new.net =
+    subst (λ (e : Step). Comes code_of may old.net (part_of old.net e) o new.net) is rule in
+    let rule'' : Comes code_of may old.net (part_at old.net (suc leaf) (Receive p)) o new.net =
+    subst (λ (r : Option Sent). Comes code_of may old.net (delivered old.net r) o new.net) at rule' in
+    let by = done_by code_of may old.net (suc leaf) (Receive p) found.0 o new.net found.1 rule'' done in
+    let end = leaf_of old.accepted (length old.net.bots) leaf found.0.link (sound.links (suc leaf) found.0 found.1) in
+    let was : by.taken.was.link ≡ leaf_end end.0 = ap (λ (b : Bot). b.link) by.same ∙ end.1 in
+    let same : end.0.version ≡ v = ap link_version (sym end.1) ∙ found.2 in
+    let row : (link_received by.taken.was.link p).after ≡ leaf_end (with_next end.0 change) = rw was
+    (ap (λ (r : Row Leaf). leaf_end r.after) (next_given old.accepted leaf end.0 v origin request change end.2 same (sound.taken v)
+    (sent-true old sound packet _ at))) in
+    let gives = due_done _ by.taken.was _ by.taken.report by.taken.after by.taken.report.end by.done by.taken.steps in
+    let link : link_version by.taken.after.link ≡ v + 1 = ap (λ (b : Bot). link_version b.link) gives.1 ∙ ap link_version row ∙ ap (λ n. n + 1) same in
+    ap (option_map (λ (b : Bot). link_version b.link)) (after_at code_of may old.net _ o new.net by.taken) ∙ ap Some link
 
 -- the ask that a done pump takes, and the records take, is accepted
-pub accepts_next : (old : State) (step : Step) (o : Outcome) (new : State) → NetworkStep old step o new → AcceptsNext old step o new
-accepts_next old step o new by_rule change rest is waits takes done =
-    let rule : ComesOf (net_of old) (hub_stepped (net_of old) (hub_pumped_at (net_of old).hub old.waiting)) o (net_of new) = subst
-    (λ (e : Step). ComesOf (net_of old) (stepped (net_of old) e) o (net_of new)) is by_rule in
-    let gives = done_gives (net_of old) _ o (net_of new) rule done in
-    let row : hub_pumped_at (net_of old).hub old.waiting ≡ ask_served (net_of old).hub change rest None = rw (waits, takes) refl in
-    by (nat_lt (length old.accepted) 4294967295) (sym (ap (λ (r : Row Hub). (hub_stepped (net_of old) r).outcome) row) ∙ gives.0) (gives.1
-    ∙ ap (λ (r : Row Hub). (hub_stepped (net_of old) r).after) row)
+pub accepts_next : (code_of : List ℕ → Call → Code) (may : List ℕ → Call → List Action → Type 0) (old : State) (step : Step) (o : Outcome) (new : State)
+    → IsSound old → IsSound new → NetStep code_of may old.net step o new.net → AcceptsNext old step o new
+accepts_next code_of may old step o new sound sound' rule change rest is waits takes done =
+    let rule' : Comes code_of may old.net (told_at old.net 0 Pump) o new.net =
+    subst (λ (e : Step). Comes code_of may old.net (part_of old.net e) o new.net) is rule in
+    by (slice_get old.net.bots 0) refl waits rule'
   where
-    Served : Bool → Stepped
-    Served b = hub_stepped (net_of old) (if b then acceptance (net_of old).hub change rest else refused NumbersSpent (net_of old).hub)
+    -- the hub's row, as far as numbers last
+    row : Hub → Bool → Row Hub
+    row h b = if b then acceptance h change rest else refused NumbersSpent h
 
-    by : (b : Bool) → (Served b).outcome ≡ o → net_of new ≡ (Served b).after → HasEnd o (ended (Accepted (length old.accepted + 1)))
-        × (new.accepted ≡ old.accepted ++ own change ∷ [])
-    by true e f = (subst (λ (o : Outcome). HasEnd o (ended (Accepted (length old.accepted + 1)))) e refl, ap (λ (w : Net). w.hub.accepted) f)
-    by false e f = absurd (subst IsDone (sym e) done)
+    served : (h : Hub) (was : Bot) (t : TakesPart code_of may old.net (record { bot = 0; event = Pump }) o new.net) → t.was ≡ was → was.link ≡ hub_end h
+        → IsHubAt old.accepted (length old.net.bots) h → h.waiting ≡ change ∷ rest → t.report.end ≡ Done
+        → (b : Bool) → nat_lt (length h.accepted) 4294967295 ≡ b
+        → HasNote o (link_note (Accepted (length old.accepted + 1))) × (new.accepted ≡ old.accepted ++ own change ∷ [])
+    served h was t same is_hub at waits end b numbers =
+        let link : t.was.link ≡ hub_end h = ap (λ (b : Bot). b.link) same ∙ is_hub in
+        let takes' : refusal h.records change ≡ None = ap (λ (r : Records). refusal r change) at.records ∙ takes in
+        let pumped : hub_pumped_at h h.waiting ≡ row h b = rw (waits, takes', numbers) refl in
+        let gives = due_done _ t.was (link_due t.was (link_pumped t.was.link)) t.report t.after t.report.end end t.steps in
+        let due : link_due t.was (link_pumped t.was.link) ≡ link_due t.was (record { answer = (row h b).answer; after = hub_end (row h b).after }) =
+        rw (link, pumped) refl in
+        outcome h t at end b (gives.0 ∙ ap (λ (d : Due). d.report) due) (gives.1 ∙ ap (λ (d : Due). d.after) due)
+      where
+        outcome : (h : Hub) (t : TakesPart code_of may old.net (record { bot = 0; event = Pump }) o new.net) → IsHubAt old.accepted (length old.net.bots) h
+            → t.report.end ≡ Done → (b : Bool)
+            → t.report ≡ (link_due t.was (record { answer = (row h b).answer; after = hub_end (row h b).after })).report
+            → t.after ≡ (link_due t.was (record { answer = (row h b).answer; after = hub_end (row h b).after })).after
+            → HasNote o (link_note (Accepted (length old.accepted + 1))) × (new.accepted ≡ old.accepted ++ own change ∷ [])
+        outcome h t at end false e f = let refused_end = sym (ap (λ (r : BotReport). r.end) e) ∙ end in cc
+        outcome h t at end true e f =
+            let count : length h.accepted ≡ length old.accepted = ap length at.accepted in
+            let note : t.report.note ≡ Some (link_note (Accepted (length old.accepted + 1))) =
+            ap (λ (r : BotReport). r.note) e ∙ ap (λ n. Some (link_note (Accepted (n + 1)))) count in
+            let now = hub_of new.accepted (length new.net.bots) t.after.link (sound'.links 0 t.after (after_at code_of may old.net _ o new.net t)) in
+            let both : hub_end now.0 ≡ hub_end (acceptance h change rest).after = sym now.1 ∙ ap (λ (b : Bot). b.link) f in
+            let hub : now.0 ≡ (acceptance h change rest).after = cc in (
+              subst (λ (x : Outcome). HasNote x (link_note (Accepted (length old.accepted + 1)))) (sym t.told) note,
+              sym now.2.accepted ∙ ap (λ (h : Hub). h.accepted) hub ∙ ap (λ (l : List AcceptedChange). l ++ own change ∷ []) at.accepted,
+            )
 
--- a step from a sound moment leads to a sound one, lawfully
-pub record Goes (s : State) (step : Step) (o : Outcome) (w : Net) : Type 0 where
-  pub after : State
-  pub lawful : LawfulStep s step o after
-  pub stands : Stands w after
-
-pub goes : (s : State) (step : Step) (o : Outcome) (w : Net) → IsSound s → ComesOf (net_of s) (stepped (net_of s) step) o w → Goes s step o w
-goes s step o w sound c = by o c
-  where
-    never : (o : Outcome) (w : Net) → ComesOf (net_of s) (stepped (net_of s) step) o w → NeverDiverged o
-    never o w c h = (simulate s sound step).undiverged (diverged_gives (net_of s) _ o w c h)
-
-    to : (o : Outcome) (w : Net) (after : State) → ComesOf (net_of s) (stepped (net_of s) step) o w → w ≡ net_of after → IsSound after → Follows s after
-        → GrowsAtAccepted s o after → Goes s step o w
-    to o w after c is sound' follows grows =
-        let rule : NetworkStep s step o after = subst (ComesOf (net_of s) (stepped (net_of s) step) o) is c in
-        record {
-          after = after;
-          lawful = record {
-            by_rule = rule;
-            follows = follows;
-            grows = grows;
-            applies_next = applies_next s step o after sound rule;
-            accepts_next = accepts_next s step o after rule;
-            never_diverged = never o w c;
-          };
-          stands = record { parts = is; sound = sound' };
-        }
-
-    moved : (o : Outcome) → ComesOf (net_of s) (stepped (net_of s) step) o w → (stepped (net_of s) step).outcome ≡ o → w ≡ (stepped (net_of s) step).after
-        → Goes s step o w
-    moved o c same is =
-        let sim = simulate s sound step in
-        to o w sim.after c (is ∙ sim.parts) sim.sound sim.follows (subst (λ (p : Outcome). GrowsAtAccepted s p sim.after) same sim.grows)
-
-    ending : (report : Report) (end : End) → report.end ≡ end → ComesOf (net_of s) (stepped (net_of s) step) (reported report) w
-        → Reports end report (net_of s) (stepped (net_of s) step) w → Goes s step (reported report) w
-    ending report (ended note) e c h = moved (reported report) c h.0 h.1
-    ending report (ended_refused fault) e c h = moved (reported report) c h.0 h.1
-    ending report ended_no_memory e c h =
-        to (reported report) w s c h.2 sound (Follows-refl s) (subst (λ (end : End). GrowsByEnd report.bot end s.accepted s.accepted) (sym e) refl)
-
-    by : (o : Outcome) → ComesOf (net_of s) (stepped (net_of s) step) o w → Goes s step o w
-    by (reported report) c = ending report report.end refl c c
-    by NoSuchBot c = moved NoSuchBot c c.0 c.1
-    by NoSuchPacket c = moved NoSuchPacket c c.0 c.1
+    by : (r : Option Bot) → slice_get old.net.bots 0 ≡ r → waiting_at r ≡ change ∷ rest → Comes code_of may old.net (told_at old.net 0 Pump) o new.net
+        → HasNote o (link_note (Accepted (length old.accepted + 1))) × (new.accepted ≡ old.accepted ++ own change ∷ [])
+    by None here waits c = cc
+    by (Some b) here waits c =
+        let there = is_bot-at old.net 0 b here in
+        let told : told_at old.net 0 Pump ≡ part_at old.net 0 Pump = rw there refl in
+        let done_so = done_by code_of may old.net 0 Pump b o new.net here
+        (subst (λ (r : Result Part Outcome). Comes code_of may old.net r o new.net) told c) done in
+        let end = hub_of old.accepted (length old.net.bots) b.link (sound.links 0 b here) in
+        served end.0 b done_so.taken done_so.same end.1 end.2 (ap waiting_in (sym end.1) ∙ waits) done_so.done (nat_lt (length end.0.accepted) 4294967295) refl

@@ -1,10 +1,12 @@
 pub mod Growing
-pub mod Steps
 pub mod History
 pub mod Truth
-pub mod Shown
-pub mod Simulate
+pub mod Links
+pub mod BotSteps
 pub mod Lawful
-pub mod Runs
-pub mod Made
+pub mod Goes
 pub mod Start
+pub mod Runs
+pub mod Steps
+pub mod Alike
+pub mod Calls

@@ -1,87 +1,189 @@
--- A run goes on by one step.
-use Rattle.std.proofs.Common.{◌≡◌, ℕ, zero, suc, ◌≤◌, List, [], ◌∷◌, ◌++◌, length, Some, refl, ap, sym, subst, ◌∙◌, arith}
-use Rattle.std.proofs.Common.{length-append}
+-- Runs that go on, and what they leave.
+use Rattle.std.proofs.Common.{◌≡◌, ℕ, zero, suc, ◌≤◌, List, [], ◌∷◌, ◌++◌, length, slice_get, Option, None, Some, refl, ap, sym, subst, ◌∙◌, arith}
+use Rattle.std.proofs.Common.{append_assoc}
+use Rattle.std.proofs.lemmas.List.{append-nil}
+use Rattle.std.specs.Option.{option_map}
 use Rattle.sharelink.specs.declared.accepted.AcceptedChange.{AcceptedChange}
+use Rattle.procstore.specs.declared.action.Action.{Action}
+use Rattle.procstore.specs.declared.call.Call.{Call}
+use Rattle.procstore.specs.declared.reply.Code.{Code}
+use Rattle.botcore.specs.declared.link.Link.{Link}
+use Rattle.botcore.specs.declared.link.Link.TheVariants.{Hub as hub_end, Leaf as leaf_end}
+use Rattle.botcore.specs.Bots.{Bot}
+use Rattle.botcore.specs.Links.{link_version, link_records}
 use Rattle.botworld.specs.declared.step.Step.{Step}
 use Rattle.botworld.specs.declared.outcome.Outcome.{Outcome}
-use Rattle.botworld.specs.Net.{Net, NetStep, ComesOf, stepped}
-use Rattle.botworld.specs.Network.{State, records_of, version_at, Run, LawfulStep, Follows}
-use Rattle.botworld.specs.Standing.{Stands, LeadsTo, shown_version, shown_records}
-use Rattle.botworld.proofs.History.{Extends-trans, NoneBack-trans, NoneBack-at, AllAtMost-at, records_of-extended}
-use Rattle.botworld.proofs.Simulate.{Follows-refl}
-use Rattle.botworld.proofs.Lawful.{goes}
-use Rattle.botworld.proofs.Shown.{shown_version-net_of, shown_at_version}
+use Rattle.botworld.specs.Net.{Net, NetStep, shown_version, shown_records}
+use Rattle.botworld.specs.Network.{State, IsSound, IsLinkAt, records_of, Extends, NeverBack, Follows}
+use Rattle.botworld.specs.Standing.{Moment, Run, steps_of, outcomes_of, Past, later, Stands, LeadsTo, SameRecords, SameAlways}
+use Rattle.botworld.proofs.History.{Extends-refl, Extends-trans, records_of-extended}
+use Rattle.botworld.proofs.Goes.{goes, Follows-refl}
+use Rattle.botworld.proofs.Start.{start_sound}
 
-pub Follows-trans : (a b c : State) → Follows a b → Follows b c → Follows a c
+-- what follows -------------------------------------------------------------------------------------------------------
+
+NeverBack-trans : (a b c : Net) → NeverBack a b → NeverBack b c → NeverBack a c
+NeverBack-trans a b c f g i u e =
+    let h = f i u e in
+    let k = g i h.0 h.1 in
+    (k.0, k.1, omega (arith, h.2, k.2))
+
+Follows-trans : (a b c : State) → Follows a b → Follows b c → Follows a c
 Follows-trans a b c f g = record {
   accepted = Extends-trans a.accepted b.accepted c.accepted f.accepted g.accepted;
-  packets = Extends-trans a.packets b.packets c.packets f.packets g.packets;
-  versions = NoneBack-trans a.versions b.versions c.versions f.versions g.versions;
+  packets = Extends-trans a.net.packets b.net.packets c.net.packets f.packets g.packets;
+  versions = NeverBack-trans a.net b.net c.net f.versions g.versions;
+  bots = g.bots ∙ f.bots;
+  store = g.store ∙ f.store;
 }
 
-Run-last : (a b c : State) (steps : List Step) (outcomes : List Outcome) (step : Step) (o : Outcome) → Run a steps outcomes b → LawfulStep b step o c
-    → Run a (steps ++ step ∷ []) (outcomes ++ o ∷ []) c
-Run-last a b c [] [] step o run lawful = (c, subst (λ (s : State). LawfulStep s step o c) run lawful, refl)
-Run-last a b c [] (p ∷ ps) step o run lawful = absurd run
-Run-last a b c (e ∷ es) [] step o run lawful = absurd run
-Run-last a b c (e ∷ es) (p ∷ ps) step o run lawful = (run.0, run.1, Run-last run.0 b c es ps step o run.2 lawful)
+-- the end of a run that begins at a sound moment is sound
+Run-sound : (code_of : List ℕ → Call → Code) (may : List ℕ → Call → List Action → Type 0) (first : State) (ms : List Moment) (last : State)
+    → IsSound first → Run code_of may first ms last → IsSound last
+Run-sound code_of may first [] last sound run = subst IsSound (sym run) sound
+Run-sound code_of may first (m ∷ ms) last sound run = Run-sound code_of may m.after ms last run.1.sound run.2
+
+pub now_sound : (code_of : List ℕ → Call → Code) (may : List ℕ → Call → List Action → Type 0) (w : Net) (past : Past) → Stands code_of may w past
+    → IsSound past.now
+now_sound code_of may w past stands = Run-sound code_of may past.first past.history past.now (start_sound past.first stands.begins) stands.run
+
+-- a run is followed by its end
+pub Run-follows : (code_of : List ℕ → Call → Code) (may : List ℕ → Call → List Action → Type 0) (first : State) (ms : List Moment) (last : State)
+    → Run code_of may first ms last → Follows first last
+Run-follows code_of may first [] last run = subst (Follows first) (sym run) (Follows-refl first)
+Run-follows code_of may first (m ∷ ms) last run =
+    Follows-trans first m.after last (subst (λ (s : State). Follows s m.after) run.0 run.1.follows) (Run-follows code_of may m.after ms last run.2)
+
+-- one step more ------------------------------------------------------------------------------------------------------
+
+Run-last : (code_of : List ℕ → Call → Code) (may : List ℕ → Call → List Action → Type 0) (a b : State) (ms : List Moment) (m : Moment)
+    → Run code_of may a ms b → Run code_of may b (m ∷ []) m.after → Run code_of may a (ms ++ m ∷ []) m.after
+Run-last code_of may a b [] m run last = subst (λ (s : State). Run code_of may s (m ∷ []) m.after) run last
+Run-last code_of may a b (x ∷ ms) m run last = (run.0, run.1, Run-last code_of may x.after b ms m run.2 last)
+
+steps_of-last : (ms : List Moment) (m : Moment) → steps_of (ms ++ m ∷ []) ≡ steps_of ms ++ m.step ∷ []
+steps_of-last [] m = refl
+steps_of-last (x ∷ ms) m = ap (λ es. x.step ∷ es) (steps_of-last ms m)
+
+outcomes_of-last : (ms : List Moment) (m : Moment) → outcomes_of (ms ++ m ∷ []) ≡ outcomes_of ms ++ m.outcome ∷ []
+outcomes_of-last [] m = refl
+outcomes_of-last (x ∷ ms) m = ap (λ os. x.outcome ∷ os) (outcomes_of-last ms m)
 
 -- no step yet
-pub leads_nowhere : (w : Net) (s : State) → Stands w s → LeadsTo s [] [] w
-leads_nowhere w s stands = record { after = s; run = refl; follows = Follows-refl s; stands = stands }
+pub leads_nowhere : (code_of : List ℕ → Call → Code) (may : List ℕ → Call → List Action → Type 0) (w : Net) (past : Past) → Stands code_of may w past
+    → LeadsTo code_of may past [] [] w
+leads_nowhere code_of may w past stands = record {
+  moments = [];
+  after = past.now;
+  steps_are = refl;
+  outcomes_are = refl;
+  run = refl;
+  follows = Follows-refl past.now;
+  stands = record {
+    begins = stands.begins;
+    run = subst (λ (ms : List Moment). Run code_of may past.first ms past.now) (sym (append-nil past.history)) stands.run;
+    net = stands.net;
+  };
+}
 
 -- one step more
-pub leads_on : (s : State) (steps : List Step) (outcomes : List Outcome) (step : Step) (o : Outcome) (mid new : Net) → LeadsTo s steps outcomes mid
-    → NetStep mid step o new → LeadsTo s (steps ++ step ∷ []) (outcomes ++ o ∷ []) new
-leads_on s steps outcomes step o mid new led c =
-    let from = led.after in
-    let c' = subst (λ (w : Net). ComesOf w (stepped w step) o new) led.stands.parts c in
-    let gone = goes from step o new led.stands.sound c' in
+pub leads_on : (code_of : List ℕ → Call → Code) (may : List ℕ → Call → List Action → Type 0) (past : Past) (steps : List Step) (outcomes : List Outcome)
+    (step : Step) (o : Outcome) (mid new : Net) → LeadsTo code_of may past steps outcomes mid → NetStep code_of may mid step o new
+    → LeadsTo code_of may past (steps ++ step ∷ []) (outcomes ++ o ∷ []) new
+leads_on code_of may past steps outcomes step o mid new led made =
+    let before = led.after in
+    let sound = now_sound code_of may mid (later past led.moments before) led.stands in
+    let next = goes code_of may before step o new sound (subst (λ (w : Net). NetStep code_of may w step o new) led.stands.net made) in
+    let m : Moment = record { before = before; step = step; outcome = o; after = next.after } in
+    let last : Run code_of may before (m ∷ []) next.after = (refl, next.lawful, refl) in
     record {
-      after = gone.after;
-      run = Run-last s from gone.after steps outcomes step o led.run gone.lawful;
-      follows = Follows-trans s from gone.after led.follows gone.lawful.follows;
-      stands = gone.stands;
+      moments = led.moments ++ m ∷ [];
+      after = next.after;
+      steps_are = steps_of-last led.moments m ∙ ap (λ (es : List Step). es ++ step ∷ []) led.steps_are;
+      outcomes_are = outcomes_of-last led.moments m ∙ ap (λ (os : List Outcome). os ++ o ∷ []) led.outcomes_are;
+      run = Run-last code_of may past.now before led.moments m led.run last;
+      follows = Follows-trans past.now before next.after led.follows next.lawful.follows;
+      stands = record {
+        begins = led.stands.begins;
+        run = subst (λ (ms : List Moment). Run code_of may past.first ms next.after) (append_assoc past.history led.moments (m ∷ []))
+            (Run-last code_of may past.first before (past.history ++ led.moments) m led.stands.run last);
+        net = next.net;
+      };
     }
 
--- a version that was shown is at most the number of accepted changes
-shown_within : (w : Net) (s : State) (bot v : ℕ) → Stands w s → shown_version w bot ≡ Some v → v ≤ length s.accepted
-shown_within w s bot v stands e = by bot (sym (shown_version-net_of s bot) ∙ sym (ap (λ (n : Net). shown_version n bot) stands.parts) ∙ e)
+-- what a bot shows ------------------------------------------------------------------------------------------------------
+
+-- the version of a link, and its records
+pub link_at : (all : List AcceptedChange) (bots place : ℕ) (link : Link) → IsLinkAt all bots place link
+    → (link_version link ≤ length all) × (link_records link ≡ records_of all (link_version link))
+link_at all bots zero (hub_end h) at =
+    let count = ap length at.accepted in
+    (omega (arith, count), at.records ∙ ap (records_of all) (sym count))
+link_at all bots zero (leaf_end l) at = absurd at
+link_at all bots (suc p) (hub_end h) at = absurd at
+link_at all bots (suc p) (leaf_end l) at = (at.version, at.records)
+
+-- a bot that shows a version shows the records of that version
+pub shown_at : (s : State) → IsSound s → (i v : ℕ) → shown_version s.net i ≡ Some v
+    → (v ≤ length s.accepted) × (shown_records s.net i ≡ Some (records_of s.accepted v))
+shown_at s sound i v e = by (slice_get s.net.bots i) refl e
   where
-    by : (bot : ℕ) → version_at s bot ≡ Some v → v ≤ length s.accepted
-    by zero h = let same : length s.accepted ≡ v = cc in omega (arith, same)
-    by (suc place) h = AllAtMost-at (length s.accepted) s.versions place v stands.sound.versions h
+    by : (r : Option Bot) → slice_get s.net.bots i ≡ r → option_map (λ (b : Bot). link_version b.link) r ≡ Some v
+        → (v ≤ length s.accepted) × (option_map (λ (b : Bot). link_records b.link) r ≡ Some (records_of s.accepted v))
+    by None here e = cc
+    by (Some b) here e =
+        let at = link_at s.accepted (length s.net.bots) i b.link (sound.links i b here) in
+        let same : link_version b.link ≡ v = cc in
+        (omega (arith, at.0, same), ap Some (at.1 ∙ ap (records_of s.accepted) same))
 
--- the records that are shown with a version
-pub shown_with : (w : Net) (s : State) (bot v : ℕ) → Stands w s → shown_version w bot ≡ Some v → shown_records w bot ≡ Some (records_of s.accepted v)
-shown_with w s bot v stands e = ap (λ (n : Net). shown_records n bot) stands.parts
-    ∙ shown_at_version s bot v (sym (ap (λ (n : Net). shown_version n bot) stands.parts) ∙ e)
+-- same version, same records, at one moment and a later one
+same_shown : (s t : State) → IsSound s → IsSound t → Extends s.accepted t.accepted → SameRecords s.net t.net
+same_shown s t sound sound' more i j v before after =
+    let one = shown_at s sound i v before in
+    let other = shown_at t sound' j v after in
+    let grown : records_of t.accepted v ≡ records_of s.accepted v =
+    ap (λ (l : List AcceptedChange). records_of l v) more.1 ∙ records_of-extended s.accepted more.0 v one.0 in
+    one.1 ∙ ap Some (sym grown) ∙ sym other.1
 
--- same version, same records, before and after
-pub same_later : (s : State) (steps : List Step) (outcomes : List Outcome) (old new : Net) → Stands old s → LeadsTo s steps outcomes new → (i j v : ℕ)
-    → shown_version old i ≡ Some v → shown_version new j ≡ Some v → shown_records old i ≡ shown_records new j
-same_later s steps outcomes old new stands led i j v before after =
-    let within = shown_within old s i v stands before in
-    let more = led.follows.accepted in
-    let grown : records_of led.after.accepted v ≡ records_of s.accepted v = ap (λ (l : List AcceptedChange). records_of l v) more.1
-    ∙ records_of-extended s.accepted more.0 v within in
-    shown_with old s i v stands before ∙ ap Some (sym grown) ∙ sym (shown_with new led.after j v led.stands after)
+pub same_later : (code_of : List ℕ → Call → Code) (may : List ℕ → Call → List Action → Type 0) (past : Past) (steps : List Step) (outcomes : List Outcome)
+    (old new : Net) → Stands code_of may old past → LeadsTo code_of may past steps outcomes new → SameRecords old new
+same_later code_of may past steps outcomes old new stands led =
+    rw (stands.net, led.stands.net) (same_shown past.now led.after (now_sound code_of may old past stands)
+    (now_sound code_of may new (later past led.moments led.after) led.stands) led.follows.accepted)
 
--- same version, same records, at one moment
-pub same_at_once : (w : Net) (s : State) → Stands w s → (i j v : ℕ) → shown_version w i ≡ Some v → shown_version w j ≡ Some v
-    → shown_records w i ≡ shown_records w j
-same_at_once w s stands i j v one other = shown_with w s i v stands one ∙ sym (shown_with w s j v stands other)
+pub same_at_once : (code_of : List ℕ → Call → Code) (may : List ℕ → Call → List Action → Type 0) (past : Past) (w : Net) → Stands code_of may w past
+    → SameRecords w w
+same_at_once code_of may past w stands =
+    let sound = now_sound code_of may w past stands in
+    rw stands.net (same_shown past.now past.now sound sound (Extends-refl past.now.accepted))
+
+-- each moment of a run is sound, and the end of the run extends it
+record Reached (last m : State) : Type 0 where
+  sound : IsSound m
+  more : Extends m.accepted last.accepted
+
+reached : (code_of : List ℕ → Call → Code) (may : List ℕ → Call → List Action → Type 0) (first : State) (ms : List Moment) (last : State)
+    → Run code_of may first ms last → (i : ℕ) (m : Moment) → slice_get ms i ≡ Some m → Reached last m.after
+reached code_of may first [] last run i m e = cc
+reached code_of may first (x ∷ ms) last run zero m e =
+    let same : x ≡ m = cc in
+    subst (λ (z : Moment). Reached last z.after) same
+    (record { sound = run.1.sound; more = (Run-follows code_of may x.after ms last run.2).accepted })
+reached code_of may first (x ∷ ms) last run (suc i) m e = reached code_of may x.after ms last run.2 i m e
+
+-- the records of a version at a moment are those of the end of the run
+shown_in_end : (last m : State) → Reached last m → (i v : ℕ) → shown_version m.net i ≡ Some v → shown_records m.net i ≡ Some (records_of last.accepted v)
+shown_in_end last m there i v e =
+    let at = shown_at m there.sound i v e in
+    at.1 ∙ ap Some (sym (ap (λ (l : List AcceptedChange). records_of l v) there.more.1 ∙ records_of-extended m.accepted there.more.0 v at.0))
+
+pub same_always : (code_of : List ℕ → Call → Code) (may : List ℕ → Call → List Action → Type 0) (w : Net) (past : Past) → Stands code_of may w past
+    → SameAlways past.history
+same_always code_of may w past stands i j m n at_i at_j a b v one other =
+    shown_in_end past.now m.after (reached code_of may past.first past.history past.now stands.run i m at_i) a v one
+    ∙ sym (shown_in_end past.now n.after (reached code_of may past.first past.history past.now stands.run j n at_j) b v other)
 
 -- no version goes back
-pub none_back : (s : State) (steps : List Step) (outcomes : List Outcome) (old new : Net) → Stands old s → LeadsTo s steps outcomes new → (i u : ℕ)
-    → shown_version old i ≡ Some u → (v : ℕ) × (shown_version new i ≡ Some v) × (u ≤ v)
-none_back s steps outcomes old new stands led i u before =
-    let later = by i (sym (shown_version-net_of s i) ∙ sym (ap (λ (n : Net). shown_version n i) stands.parts) ∙ before) in
-    (later.0, ap (λ (n : Net). shown_version n i) led.stands.parts ∙ shown_version-net_of led.after i ∙ later.1, later.2)
-  where
-    by : (i : ℕ) → version_at s i ≡ Some u → (v : ℕ) × (version_at led.after i ≡ Some v) × (u ≤ v)
-    by zero h =
-        let same : length s.accepted ≡ u = cc in
-        let more = led.follows.accepted in
-        (length led.after.accepted, refl, omega (arith, same, ap length more.1, length-append s.accepted more.0))
-    by (suc place) h = NoneBack-at s.versions led.after.versions place u led.follows.versions h
+pub none_back : (code_of : List ℕ → Call → Code) (may : List ℕ → Call → List Action → Type 0) (past : Past) (steps : List Step) (outcomes : List Outcome)
+    (old new : Net) → Stands code_of may old past → LeadsTo code_of may past steps outcomes new → NeverBack old new
+none_back code_of may past steps outcomes old new stands led = rw (stands.net, led.stands.net) led.follows.versions

@@ -1,24 +1,24 @@
--- A new world stands for the network before its first step.
-use Rattle.std.proofs.Common.{◌≡◌, ℕ, zero, suc, ◌+◌, List, [], ◌∷◌, length, refl, ap, arith}
-use Rattle.sharelink.specs.LeafRules.{Leaf, new_leaf}
-use Rattle.botworld.specs.Net.{new_net, new_leaves}
-use Rattle.botworld.specs.Network.{start, zeros, leaves_at}
-use Rattle.botworld.specs.Standing.{Stands, AllAtMost}
+-- A new world's first moment is sound.
+use Rattle.std.proofs.Common.{◌≡◌, ℕ, zero, suc, ◌+◌, ◌==◌, false, [], length}
+use Rattle.std.proofs.Common.{refl, ap, ◌∙◌, arith}
+use Rattle.std.proofs.lemmas.Bool.Decides.{nat_tests}
+use Rattle.botcore.specs.Bots.{Bot}
+use Rattle.botcore.specs.Links.{new_link}
+use Rattle.botworld.specs.Network.{State, IsStart, start, IsSound, IsLinkAt}
 
-length-zeros : (n : ℕ) → length (zeros n) ≡ n
-length-zeros zero = refl
-length-zeros (suc n) = ap suc (length-zeros n)
+new_link-at : (place leaves bots : ℕ) → leaves + 1 ≡ bots → IsLinkAt [] bots place (new_link place leaves)
+new_link-at zero leaves bots e = record { leaves = e; accepted = refl; records = refl }
+new_link-at (suc p) leaves bots e =
+    let above : (suc p == 0) ≡ false = grind (arith, nat_tests) in
+    rw above (record { number = refl; version = omega arith; records = refl })
 
-leaves_at-zeros : (first n : ℕ) → new_leaves first n ≡ leaves_at [] first (zeros n)
-leaves_at-zeros first zero = refl
-leaves_at-zeros first (suc n) = ap (λ (ls : List Leaf). new_leaf first ∷ ls) (leaves_at-zeros (first + 1) n)
-
-AllAtMost-zeros : (n : ℕ) → AllAtMost 0 (zeros n)
-AllAtMost-zeros zero = tt
-AllAtMost-zeros (suc n) = (omega arith, AllAtMost-zeros n)
-
-pub start_stands : (leaves : ℕ) → Stands (new_net leaves) (start leaves)
-start_stands leaves = record {
-  parts = rw (length-zeros leaves, ← leaves_at-zeros 1 leaves) refl;
-  sound = record { changes = tt; versions = AllAtMost-zeros leaves; taken = λ place entry at. cc };
+pub start_sound : (s : State) → IsStart s → IsSound s
+start_sound s start = record {
+  links = λ place b here.
+      let numbered = start.numbered.each place b here in
+      let link : b.link ≡ new_link place b.config.leaves =
+      ap (λ (b : Bot). b.link) (start.all_new place b here) ∙ ap (λ n. new_link n b.config.leaves) numbered.number in
+      rw (start.accepted, link) (new_link-at place b.config.leaves (length s.net.bots) numbered.leaves);
+  changes = rw (start.packets) tt;
+  taken = rw (start.accepted) (λ place entry at. cc);
 }

@@ -1,59 +1,81 @@
--- A leaf's call, and the packets that it sends, are a step of the net.
-use Rattle.std.proofs.Common.{◌≡◌, ℕ, zero, suc, ◌+◌, ◌-◌, ◌<◌, List, length, get_or, slice_set, Some, Result, Ok, Err}
-use Rattle.std.proofs.Common.{refl, ap, subst, ◌∙◌, arith}
+-- A bot's own step, and the packets that it sends, are a step of the net.
+use Rattle.std.proofs.Common.{◌≡◌, ℕ, ◌+◌, ◌<◌, Bool, true, false, ◌&&◌, List, ◌++◌, length, get_or}
+use Rattle.std.proofs.Common.{slice_set, Option, None, Some, Result, Ok, Err, IsOk, refl, ap, sym, subst, ◌∙◌}
+use Rattle.std.proofs.lemmas.Bool.{ltb-true}
 use Rattle.std.proofs.lemmas.Option.{slice_get_read}
-use Rattle.std.proofs.lemmas.List.{set-get_or}
-use Rattle.sharelink.specs.Meets.{Row, Meets, AnswerTakesMemory, TakesMemory}
-use Rattle.sharelink.specs.HubRules.{Hub}
-use Rattle.sharelink.specs.LeafRules.{Leaf}
-use Rattle.sharelink.specs.declared.answer.Answer.{Answer}
-use Rattle.bytetext.specs.declared.failure.Failure.{Failure}
-use Rattle.sharelink.specs.declared.error.LinkFault.{LinkFault}
-use Rattle.bytetext.specs.declared.failure.Failure.TheVariants.{Refused, NoMemory}
+use Rattle.procstore.specs.declared.action.Action.{Action}
+use Rattle.procstore.specs.declared.call.Call.{Call}
+use Rattle.procstore.specs.declared.reply.Code.{Code}
+use Rattle.botcore.specs.declared.event.Event.{Event}
+use Rattle.botcore.specs.declared.event.Event.TheVariants.{Receive}
+use Rattle.botcore.specs.declared.report.Report.{Report as BotReport}
+use Rattle.botcore.specs.Bots.{Bot}
+use Rattle.botcore.specs.Steps.{TakesStep}
 use Rattle.botworld.specs.declared.sent.Sent.{Sent}
+use Rattle.botworld.specs.declared.step.Part.{Part}
+use Rattle.botworld.specs.declared.step.Step.{Step}
+use Rattle.botworld.specs.declared.step.Step.TheVariants.{At, Deliver}
 use Rattle.botworld.specs.declared.outcome.Outcome.{Outcome}
-use Rattle.botworld.specs.Net.{Net, leaf_stepped, at_bot, ComesOf, packet_at}
-use Rattle.botworld.specs.Posting.{Finishes}
+use Rattle.botworld.specs.declared.outcome.Outcome.TheVariants.{Report as reported, NoSuchBot, NoSuchPacket}
+use Rattle.botworld.specs.Net.{Net, is_bot, is_packet, part_at, told_at, delivered, part_of, packet_at, posted, report_of, Comes, NetStep}
 
--- an element written back where it stands changes nothing
-written_back : {X : Type 0} (xs : List X) (i : ℕ) (x : X) → x ≡ get_or xs i x → slice_set xs i x ≡ xs
-written_back xs i x e = ap (slice_set xs i) e ∙ set-get_or xs i x
+-- who takes part -------------------------------------------------------------------------------------------------------
 
--- where a row's answer takes memory
-row_takes : {S : Type 0} (row : Row S) (r : Result Answer LinkFault) → row.answer ≡ r → AnswerTakesMemory r → (a : Answer) × (row.answer ≡ Ok a)
-    × TakesMemory a.note (length a.packets)
-row_takes row (Ok a) e takes = (a, e, takes)
-row_takes row (Err x) e takes = absurd takes
+-- a part that there is, is that of the bot and the event
+record IsPart (w : Net) (bot : ℕ) (event : Event) (r : Result Part Outcome) : Type 0 where
+  there : bot < length w.bots
+  is : r ≡ Ok (record { bot = bot; event = event })
 
-by_answer : (old : Net) (place : ℕ) (was : Leaf) (row : Row Leaf) (answer : Result Answer (Failure LinkFault)) (leaf : Leaf) (o : Outcome) (packets : List Sent)
-    → was ≡ get_or old.leaves place was → Meets was row answer leaf → Finishes old.packets (place + 1) answer o packets
-    → ComesOf old (leaf_stepped old place row) o (record { hub = old.hub; leaves = slice_set old.leaves place leaf; packets = packets })
-by_answer old place was row (Ok answer) leaf o packets here m f = rw (f.0, m.0, m.1, f.1) (refl, refl)
-by_answer old place was row (Err (Refused fault)) leaf o packets here m f = rw (f.0, m.0, m.1, f.1, written_back old.leaves place was here) (refl, refl)
-by_answer old place was row (Err NoMemory) leaf o packets here m f =
-    let done = row_takes row row.answer refl m.0 in
-    rw (f.0, done.1, m.1, f.1, written_back old.leaves place was here) ((refl, done.2), refl, refl)
+part_at-ok : (w : Net) (bot : ℕ) (event : Event) → IsOk (part_at w bot event) → IsPart w bot event (part_at w bot event)
+part_at-ok w bot event ok = by (is_bot w bot) refl
+  where
+    by : (b : Bool) → is_bot w bot ≡ b → IsPart w bot event (part_at w bot event)
+    by true e = record { there = ltb-true bot (length w.bots) e; is = rw e refl }
+    by false e = let none : part_at w bot event ≡ Err NoSuchBot = rw e refl in let bad = subst (λ (r : Result Part Outcome). IsOk r) none ok in cc
 
--- the call of the leaf with this number
-pub leaf_comes : (old : Net) (bot : ℕ) (hub_row : Hub → Row Hub) (leaf_row : Leaf
-    → Row Leaf) (was leaf : Leaf) (answer : Result Answer (Failure LinkFault)) (o : Outcome) (packets : List Sent)
-    → 0 < bot → bot - 1 < length old.leaves → was ≡ get_or old.leaves (bot - 1) was → Meets was (leaf_row was) answer leaf
-    → Finishes old.packets bot answer o packets
-    → ComesOf old (at_bot old bot hub_row leaf_row) o (record { hub = old.hub; leaves = slice_set old.leaves (bot - 1) leaf; packets = packets })
-leaf_comes old zero hub_row leaf_row was leaf answer o packets some there here m f = absurd (omega (arith, some))
-leaf_comes old (suc place) hub_row leaf_row was leaf answer o packets some there here m f =
-    let same : suc place - 1 ≡ place = omega arith in
-    let number : suc place ≡ place + 1 = omega arith in
-    let there' : place < length old.leaves = omega (arith, there) in
-    let here' : was ≡ get_or old.leaves place was = here ∙ ap (λ i. get_or old.leaves i was) same in
-    let found = slice_get_read old.leaves (length old.leaves) place was refl there' here' in
-    rw (same, found) (by_answer old place was (leaf_row was) answer leaf o packets here' m (subst (λ n. Finishes old.packets n answer o packets) number f))
+told_at-ok : (w : Net) (bot : ℕ) (event : Event) → IsOk (told_at w bot event) → IsPart w bot event (told_at w bot event)
+told_at-ok w bot event ok = by (is_bot w bot && is_packet event) refl
+  where
+    by : (b : Bool) → (is_bot w bot && is_packet event) ≡ b → IsPart w bot event (told_at w bot event)
+    by true e = let none : told_at w bot event ≡ Err NoSuchPacket = rw e refl in let bad = subst (λ (r : Result Part Outcome). IsOk r) none ok in cc
+    by false e =
+        let same : told_at w bot event ≡ part_at w bot event = rw e refl in
+        rw same (part_at-ok w bot event (subst (λ (r : Result Part Outcome). IsOk r) same ok))
 
--- the packet of a number stands one place lower
-pub packet_found : (packets : List Sent) (k : ℕ) (sent : Sent) → 0 < k → k - 1 < length packets → sent ≡ get_or packets (k - 1) sent
-    → packet_at packets k ≡ Some sent
-packet_found packets zero sent some there is = absurd (omega (arith, some))
-packet_found packets (suc place) sent some there is =
-    let same : suc place - 1 ≡ place = omega arith in
-    let there' : place < length packets = omega (arith, there) in
-    slice_get_read packets (length packets) place sent refl there' (is ∙ ap (λ i. get_or packets i sent) same)
+-- the bot that takes part is there
+pub part-there : (w : Net) (step : Step) (part : Part) → part_of w step ≡ Ok part → part.bot < length w.bots
+part-there w (At bot event) part e =
+    let found = told_at-ok w bot event (rw e refl) in
+    let both : Ok (let p : Part = record { bot = bot; event = event } in p) ≡ Ok part = sym found.is ∙ e in
+    let same : (let p : Part = record { bot = bot; event = event } in p) ≡ part = cc in
+    subst (λ (p : Part). p.bot < length w.bots) same found.there
+part-there w (Deliver k) part e = by (packet_at w.packets k) e
+  where
+    by : (r : Option Sent) → delivered w r ≡ Ok part → part.bot < length w.bots
+    by None e = cc
+    by (Some sent) e =
+        let found = part_at-ok w sent.to (Receive sent.packet) (rw e refl) in
+        let both : Ok (let p : Part = record { bot = sent.to; event = Receive sent.packet } in p) ≡ Ok part = sym found.is ∙ e in
+        let same : (let p : Part = record { bot = sent.to; event = Receive sent.packet } in p) ≡ part = cc in
+        subst (λ (p : Part). p.bot < length w.bots) same found.there
+
+-- what it makes ----------------------------------------------------------------------------------------------------------
+
+pub part_comes : (code_of : List ℕ → Call → Code) (may : List ℕ → Call → List Action → Type 0) (old : Net) (step : Step) (part : Part) (was after : Bot)
+    (report : BotReport) (o : Outcome) (packets : List Sent) → part_of old step ≡ Ok part → was ≡ get_or old.bots part.bot was
+    → TakesStep code_of may old.store was part.event report after → o ≡ reported (report_of part.bot (length old.packets + 1) report)
+    → packets ≡ old.packets ++ posted part.bot report.packets
+    → NetStep code_of may old step o (record { bots = slice_set old.bots part.bot after; packets = packets; store = old.store })
+part_comes code_of may old step part was after report o packets is here takes told sent =
+    let there = part-there old step part is in
+    subst (λ (r : Result Part Outcome). Comes code_of may old r o
+    (record { bots = slice_set old.bots part.bot after; packets = packets; store = old.store })) (sym is)
+    (record {
+      was = was;
+      there = slice_get_read old.bots (length old.bots) part.bot was refl there here;
+      report = report;
+      after = after;
+      steps = takes;
+      told = told;
+      leaves = ap (λ (ps : List Sent). let w : Net = record { bots = slice_set old.bots part.bot after; packets = ps; store = old.store } in w) sent;
+    })

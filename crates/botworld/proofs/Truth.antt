@@ -8,11 +8,10 @@ use Rattle.userfile.specs.Apply.{refusal}
 use Rattle.sharelink.specs.HubRules.{to_each, numbered_from, packet_of}
 use Rattle.sharelink.specs.declared.accepted.AcceptedChange.{AcceptedChange}
 use Rattle.sharewire.specs.declared.packet.Packet.{Packet}
-use Rattle.sharewire.specs.declared.packet.Packet.TheVariants.{Hello, Change as change_packet}
+use Rattle.sharewire.specs.declared.packet.Packet.TheVariants.{Change as change_packet}
 use Rattle.botworld.specs.declared.sent.Sent.{Sent}
 use Rattle.botworld.specs.Net.{posted}
-use Rattle.botworld.specs.Network.{records_of}
-use Rattle.botworld.specs.Standing.{IsNumbered, IsTrueChange, AllTrue, AllTaken}
+use Rattle.botworld.specs.Network.{records_of, IsNumbered, IsTrueChange, AllTrue, AllTaken}
 use Rattle.botworld.proofs.History.{slice_get-front, slice_get-behind, slice_get-last, records_of-extended}
 
 -- more accepted changes leave a true packet true

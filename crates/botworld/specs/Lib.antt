@@ -1,5 +1,5 @@
 pub mod Codes
 pub mod Net
-pub mod Posting
 pub mod Network
+pub mod Calling
 pub mod Standing

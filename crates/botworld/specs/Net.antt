@@ -1,144 +1,119 @@
 -- What a world is to a contract, and what one step makes of it.
-use Rattle.std.specs.Prelude.{◌≡◌, ℕ, zero, suc, ◌+◌, nat_le, if◌then◌else◌, List, [], ◌∷◌, ◌++◌, length, slice_get, slice_set, Option, None, Some, Result}
-use Rattle.std.specs.Prelude.{Ok, Err}
-use Rattle.sharelink.specs.Meets.{Row, TakesMemory}
-use Rattle.sharelink.specs.HubRules.{Hub, new_hub, hub_asked, hub_pumped, hub_received}
-use Rattle.sharelink.specs.LeafRules.{Leaf, new_leaf, leaf_asked, leaf_pumped, leaf_received}
-use Rattle.sharelink.specs.declared.answer.Answer.{Answer}
+use Rattle.std.specs.Prelude.{◌≡◌, ℕ, zero, suc, ◌+◌, nat_lt, Bool, true, false, ◌&&◌, if◌then◌else◌, List, [], ◌∷◌, ◌++◌, length, slice_get, slice_set}
+use Rattle.std.specs.Prelude.{Option, None, Some, Result, Ok, Err, IsOk}
+use Rattle.std.specs.Option.{option_map}
+use Rattle.userfile.specs.Records.{Records}
+use Rattle.procstore.specs.declared.action.Action.{Action}
+use Rattle.procstore.specs.declared.call.Call.{Call}
+use Rattle.procstore.specs.declared.reply.Code.{Code}
 use Rattle.sharelink.specs.declared.answer.Outgoing.{Outgoing}
-use Rattle.sharelink.specs.declared.error.LinkFault.{LinkFault}
+use Rattle.botcore.specs.declared.event.Event.{Event}
+use Rattle.botcore.specs.declared.event.Event.TheVariants.{Receive}
+use Rattle.botcore.specs.declared.report.Report.{Report as BotReport}
+use Rattle.botcore.specs.Bots.{Bot}
+use Rattle.botcore.specs.Links.{link_version, link_records}
+use Rattle.botcore.specs.Steps.{TakesStep}
 use Rattle.botworld.specs.declared.sent.Sent.{Sent}
+use Rattle.botworld.specs.declared.step.Part.{Part}
 use Rattle.botworld.specs.declared.step.Step.{Step}
 use Rattle.botworld.specs.declared.step.Step.TheVariants.{At, Deliver}
-use Rattle.botworld.specs.declared.step.Event.TheVariants.{Ask, Pump}
-use Rattle.botworld.specs.declared.outcome.End.{End}
-use Rattle.botworld.specs.declared.outcome.End.TheVariants.{Note as ended, Refused as ended_refused, NoMemory as ended_no_memory}
 use Rattle.botworld.specs.declared.outcome.Report.{Report}
 use Rattle.botworld.specs.declared.outcome.Outcome.{Outcome}
 use Rattle.botworld.specs.declared.outcome.Outcome.TheVariants.{Report as reported, NoSuchBot, NoSuchPacket}
 
--- the hub, the leaves from leaf 1 on, and every packet ever sent, the first of them first
+-- the bots, the hub first, every packet ever sent, the first of them first, and the names of the procs
 pub record Net : Type 0 where
-  pub hub : Hub
-  pub leaves : List Leaf
+  pub bots : List Bot
   pub packets : List Sent
+  pub store : List (List ℕ)
 
--- so many leaves, numbered on from the first
-abbrev pub new_leaves : ℕ → ℕ → List Leaf
-new_leaves first zero = []
-new_leaves first (suc count) = new_leaf first ∷ new_leaves (first + 1) count
-
--- a net before its first step
-abbrev pub new_net : ℕ → Net
-new_net leaves = record { hub = new_hub leaves; leaves = new_leaves 1 leaves; packets = [] }
-
--- the packets of an answer, with their sender
-abbrev pub posted : ℕ → List Outgoing → List Sent
-posted from [] = []
-posted from (o ∷ os) = record { from = from; to = o.to; packet = o.packet } ∷ posted from os
-
--- what a step gives where memory doesn't run out: its outcome, and the net after it
-pub record Stepped : Type 0 where
-  pub outcome : Outcome
-  pub after : Net
-
--- nothing happens
-abbrev pub unmoved : Net → Outcome → Stepped
-unmoved old outcome = record { outcome = outcome; after = old }
-
--- a bot answered: its packets get the next numbers, and a refusal leaves all as it was
-abbrev pub answered : ℕ → Net → Hub → List Leaf → Result Answer LinkFault → Stepped
-answered bot old hub leaves (Ok answer) = record {
-  outcome = reported (record { bot = bot; end = ended answer.note; first = length old.packets + 1; count = length answer.packets });
-  after = record { hub = hub; leaves = leaves; packets = old.packets ++ posted bot answer.packets };
-}
-answered bot old hub leaves (Err fault) =
-    unmoved old (reported (record { bot = bot; end = ended_refused fault; first = length old.packets + 1; count = 0 }))
-
--- the hub's part in a step, by its row
-abbrev pub hub_stepped : Net → Row Hub → Stepped
-hub_stepped old row = answered 0 old row.after old.leaves row.answer
-
--- a leaf's part in a step, by its row; its place is one below its number
-abbrev pub leaf_stepped : Net → ℕ → Row Leaf → Stepped
-leaf_stepped old place row = answered (place + 1) old old.hub (slice_set old.leaves place row.after) row.answer
-
-abbrev pub leaf_met : Net → ℕ → (Leaf → Row Leaf) → Option Leaf → Stepped
-leaf_met old place leaf_row None = unmoved old NoSuchBot
-leaf_met old place leaf_row (Some leaf) = leaf_stepped old place (leaf_row leaf)
-
--- a call of the bot of this number
-abbrev pub at_bot : Net → ℕ → (Hub → Row Hub) → (Leaf → Row Leaf) → Stepped
-at_bot old zero hub_row leaf_row = hub_stepped old (hub_row old.hub)
-at_bot old (suc place) hub_row leaf_row = leaf_met old place leaf_row (slice_get old.leaves place)
+-- ---- who takes part in a step
 
 -- the packet of this number, from 1
 abbrev pub packet_at : List Sent → ℕ → Option Sent
 packet_at packets zero = None
 packet_at packets (suc place) = slice_get packets place
 
-abbrev pub delivered : Net → Option Sent → Stepped
-delivered old None = unmoved old NoSuchPacket
-delivered old (Some sent) = at_bot old sent.to (λ hub. hub_received hub sent.packet) (λ leaf. leaf_received leaf sent.packet)
+-- whether there is a bot of this number
+abbrev pub is_bot : Net → ℕ → Bool
+is_bot w bot = nat_lt bot (length w.bots)
 
--- what a step gives where memory doesn't run out
-abbrev pub stepped : Net → Step → Stepped
-stepped old (At bot (Ask change)) = at_bot old bot (λ hub. hub_asked hub change) (λ leaf. leaf_asked leaf change)
-stepped old (At bot Pump) = at_bot old bot hub_pumped leaf_pumped
-stepped old (Deliver packet) = delivered old (packet_at old.packets packet)
+abbrev pub is_packet : Event → Bool
+is_packet (Receive packet) = true
+is_packet other = false
 
--- the outcomes of steps one after another, where memory holds out
-abbrev pub outcomes_from : Net → List Step → List Outcome
-outcomes_from w [] = []
-outcomes_from w (step ∷ steps) = (stepped w step).outcome ∷ outcomes_from (stepped w step).after steps
+-- the part of the bot of this number, if it is there
+abbrev pub part_at : Net → ℕ → Event → Result Part Outcome
+part_at w bot event = if is_bot w bot then Ok (record { bot = bot; event = event }) else Err NoSuchBot
 
--- the outcome of a step in which no bot takes part; none where one does
-abbrev pub missing_bot : Net → ℕ → Option Outcome
-missing_bot w bot = if nat_le bot (length w.leaves) then None else Some NoSuchBot
+-- a bot may be told anything but a packet: a packet that nobody sent reaches nobody
+abbrev pub told_at : Net → ℕ → Event → Result Part Outcome
+told_at w bot event = if is_bot w bot && is_packet event then Err NoSuchPacket else part_at w bot event
 
-abbrev pub missing_at : Net → Option Sent → Option Outcome
-missing_at w None = Some NoSuchPacket
-missing_at w (Some sent) = missing_bot w sent.to
+-- a packet that was sent reaches its addressee
+abbrev pub delivered : Net → Option Sent → Result Part Outcome
+delivered w None = Err NoSuchPacket
+delivered w (Some sent) = part_at w sent.to (Receive sent.packet)
 
-abbrev pub missing : Net → Step → Option Outcome
-missing w (At bot event) = missing_bot w bot
-missing w (Deliver packet) = missing_at w (packet_at w.packets packet)
+-- which bot takes part in a step, and what it is told; or the outcome, where none does
+abbrev pub part_of : Net → Step → Result Part Outcome
+part_of w (At bot event) = told_at w bot event
+part_of w (Deliver packet) = delivered w (packet_at w.packets packet)
 
 -- a bot takes part in the step at this place
 abbrev pub TakesPartAt : Net → List Step → ℕ → Type 0
-TakesPartAt w steps place = (step : Step) × (slice_get steps place ≡ Some step) × (missing w step ≡ None)
+TakesPartAt w steps place = (step : Step) × (slice_get steps place ≡ Some step) × IsOk (part_of w step)
 
--- a part that is done
-abbrev pub IsNote : End → Type 0
-IsNote (ended note) = Unit {0}
-IsNote (ended_refused fault) = ⊥
-IsNote ended_no_memory = ⊥
+-- ---- what a step makes
 
--- a part that is done, and that takes memory: so many packets are sent
-abbrev pub EndTakesMemory : End → ℕ → Type 0
-EndTakesMemory (ended note) sent = TakesMemory note sent
-EndTakesMemory (ended_refused fault) sent = ⊥
-EndTakesMemory ended_no_memory sent = ⊥
+-- packets with their sender
+abbrev pub posted : ℕ → List Outgoing → List Sent
+posted from [] = []
+posted from (o ∷ os) = record { from = from; to = o.to; packet = o.packet } ∷ posted from os
 
--- the step is done by this bot, and takes memory
-abbrev pub TakesMemoryOf : ℕ → Outcome → Type 0
-TakesMemoryOf bot (reported report) = (report.bot ≡ bot) × EndTakesMemory report.end report.count
-TakesMemoryOf bot NoSuchBot = ⊥
-TakesMemoryOf bot NoSuchPacket = ⊥
+-- what a bot reports, as an outcome: the packets are told by their numbers, which go on from this one
+abbrev pub report_of : ℕ → ℕ → BotReport → Report
+report_of bot first report = record {
+  bot = bot;
+  end = report.end;
+  note = report.note;
+  calls = report.calls;
+  first = first;
+  count = length report.packets;
+  faults = report.faults;
+  logged = report.logged;
+}
 
--- a report stands to what the step gives: it tells that memory ran out only in place of a done step that takes memory,
--- and then nothing changes
-abbrev pub Reports : End → Report → Net → Stepped → Net → Type 0
-Reports ended_no_memory report old given new = TakesMemoryOf report.bot given.outcome × (report.count ≡ 0) × (new ≡ old)
-Reports (ended note) report old given new = (given.outcome ≡ reported report) × (new ≡ given.after)
-Reports (ended_refused fault) report old given new = (given.outcome ≡ reported report) × (new ≡ given.after)
+-- a bot takes its own step, and its packets are on the network after those that were
+pub record TakesPart (code_of : List ℕ → Call → Code) (may : List ℕ → Call → List Action → Type 0)
+    (old : Net) (part : Part) (outcome : Outcome) (new : Net) : Type 0 where
+  pub was : Bot
+  pub there : slice_get old.bots part.bot ≡ Some was
+  pub report : BotReport
+  pub after : Bot
+  pub steps : TakesStep code_of may old.store was part.event report after
+  pub told : outcome ≡ reported (report_of part.bot (length old.packets + 1) report)
+  pub leaves : new ≡ record {
+    bots = slice_set old.bots part.bot after;
+    packets = old.packets ++ posted part.bot report.packets;
+    store = old.store;
+  }
 
--- an outcome and a new net stand to what the step gives
-abbrev pub ComesOf : Net → Stepped → Outcome → Net → Type 0
-ComesOf old given (reported report) new = Reports report.end report old given new
-ComesOf old given NoSuchBot new = (given.outcome ≡ NoSuchBot) × (new ≡ given.after)
-ComesOf old given NoSuchPacket new = (given.outcome ≡ NoSuchPacket) × (new ≡ given.after)
+-- the outcome of a step and the net after it, by who takes part
+abbrev pub Comes : (List ℕ → Call → Code) → (List ℕ → Call → List Action → Type 0)
+    → Net → Result Part Outcome → Outcome → Net → Type 0
+Comes code_of may old (Ok part) outcome new = TakesPart code_of may old part outcome new
+Comes code_of may old (Err missing) outcome new = (outcome ≡ missing) × (new ≡ old)
 
 -- a step from old to new with this outcome
-abbrev pub NetStep : Net → Step → Outcome → Net → Type 0
-NetStep old step outcome new = ComesOf old (stepped old step) outcome new
+abbrev pub NetStep : (List ℕ → Call → Code) → (List ℕ → Call → List Action → Type 0) → Net → Step → Outcome → Net → Type 0
+NetStep code_of may old step outcome new = Comes code_of may old (part_of old step) outcome new
+
+-- ---- what a bot shows
+
+-- the version of a bot, and its records; none where there is no such bot
+abbrev pub shown_version : Net → ℕ → Option ℕ
+shown_version w bot = option_map (λ (b : Bot). link_version b.link) (slice_get w.bots bot)
+
+abbrev pub shown_records : Net → ℕ → Option Records
+shown_records w bot = option_map (λ (b : Bot). link_records b.link) (slice_get w.bots bot)

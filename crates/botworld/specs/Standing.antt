@@ -1,73 +1,74 @@
--- What a world stands for.
-use Rattle.std.specs.Prelude.{◌≡◌, ℕ, zero, suc, ◌≤◌, List, [], ◌∷◌, length, slice_get, Option, None, Some}
-use Rattle.std.specs.Option.{option_map}
-use Rattle.userfile.specs.Records.{Records}
-use Rattle.userfile.specs.Apply.{refusal}
-use Rattle.sharelink.specs.LeafRules.{Leaf}
-use Rattle.sharelink.specs.declared.accepted.AcceptedChange.{AcceptedChange}
-use Rattle.sharewire.specs.declared.packet.Packet.{Packet}
-use Rattle.sharewire.specs.declared.packet.Packet.TheVariants.{Hello, Change as change_packet}
-use Rattle.botworld.specs.declared.sent.Sent.{Sent}
+-- Runs of the network, and what a world stands for.
+use Rattle.std.specs.Prelude.{◌≡◌, ℕ, List, [], ◌∷◌, ◌++◌, slice_get, Some}
+use Rattle.procstore.specs.declared.action.Action.{Action}
+use Rattle.procstore.specs.declared.call.Call.{Call}
+use Rattle.procstore.specs.declared.reply.Code.{Code}
 use Rattle.botworld.specs.declared.step.Step.{Step}
 use Rattle.botworld.specs.declared.outcome.Outcome.{Outcome}
-use Rattle.botworld.specs.Net.{Net}
-use Rattle.botworld.specs.Network.{State, net_of, records_of, Run, Follows}
+use Rattle.botworld.specs.Net.{Net, shown_version, shown_records}
+use Rattle.botworld.specs.Network.{State, IsStart, LawfulStep, Follows}
+use Rattle.botworld.specs.Calling.{Calling, IsAlike, calling}
 
--- the accepted change of this number, from 1
-abbrev pub IsNumbered : List AcceptedChange → ℕ → AcceptedChange → Type 0
-IsNumbered accepted zero entry = ⊥
-IsNumbered accepted (suc place) entry = slice_get accepted place ≡ Some entry
-
--- a change that was sent is the accepted change of its number
-abbrev pub IsTrueChange : List AcceptedChange → Packet → Type 0
-IsTrueChange accepted (change_packet number origin request change) = IsNumbered accepted number (record { origin = origin; request = request; change = change })
-IsTrueChange accepted other = Unit {0}
-
--- each packet ever sent tells the truth
-abbrev pub AllTrue : List AcceptedChange → List Sent → Type 0
-AllTrue accepted [] = Unit {0}
-AllTrue accepted (sent ∷ packets) = IsTrueChange accepted sent.packet × AllTrue accepted packets
-
--- no version is above the number of accepted changes
-abbrev pub AllAtMost : ℕ → List ℕ → Type 0
-AllAtMost most [] = Unit {0}
-AllAtMost most (v ∷ vs) = (v ≤ most) × AllAtMost most vs
-
--- each change was taken by the records that it met
-abbrev pub AllTaken : List AcceptedChange → Type 0
-AllTaken accepted = (place : ℕ) (entry : AcceptedChange) → slice_get accepted place ≡ Some entry → refusal (records_of accepted place) entry.change ≡ None
-
--- what holds at each moment
-pub record IsSound (s : State) : Type 0 where
-  pub changes : AllTrue s.accepted s.packets
-  pub versions : AllAtMost (length s.accepted) s.versions
-  pub taken : AllTaken s.accepted
-
--- a world stands for a moment of the network: part by part the world is what the moment says
-pub record Stands (w : Net) (s : State) : Type 0 where
-  pub parts : w ≡ net_of s
-  pub sound : IsSound s
-
--- from a moment, steps with these outcomes lead to one that the world stands for
-pub record LeadsTo (s : State) (steps : List Step) (outcomes : List Outcome) (w : Net) : Type 0 where
+-- one step that was made
+pub record Moment : Type 0 where
+  pub before : State
+  pub step : Step
+  pub outcome : Outcome
   pub after : State
-  pub run : Run s steps outcomes after
-  pub follows : Follows s after
-  pub stands : Stands w after
 
--- the version that a bot shows, and its records; none where there is no such bot
-abbrev pub shown_version : Net → ℕ → Option ℕ
-shown_version w zero = Some (length w.hub.accepted)
-shown_version w (suc place) = option_map (λ (leaf : Leaf). leaf.version) (slice_get w.leaves place)
+-- a run of the network: each step goes on from where the one before it left
+abbrev pub Run : (List ℕ → Call → Code) → (List ℕ → Call → List Action → Type 0) → State → List Moment → State → Type 0
+Run code_of may first [] last = last ≡ first
+Run code_of may first (m ∷ ms) last = (m.before ≡ first) × LawfulStep code_of may m.before m.step m.outcome m.after × Run code_of may m.after ms last
 
-abbrev pub shown_records : Net → ℕ → Option Records
-shown_records w zero = Some w.hub.records
-shown_records w (suc place) = option_map (λ (leaf : Leaf). leaf.records) (slice_get w.leaves place)
+abbrev pub steps_of : List Moment → List Step
+steps_of [] = []
+steps_of (m ∷ ms) = m.step ∷ steps_of ms
+
+abbrev pub outcomes_of : List Moment → List Outcome
+outcomes_of [] = []
+outcomes_of (m ∷ ms) = m.outcome ∷ outcomes_of ms
+
+-- how a world began, every step since, and where they led
+pub record Past : Type 0 where
+  pub first : State
+  pub history : List Moment
+  pub now : State
+
+-- a world before its first step
+abbrev pub beginning : State → Past
+beginning s = record { first = s; history = []; now = s }
+
+-- the same past, and these steps, which led here
+abbrev pub later : Past → List Moment → State → Past
+later past moments now = record { first = past.first; history = past.history ++ moments; now = now }
+
+-- a world stands for the end of a run from a first moment
+pub record Stands (code_of : List ℕ → Call → Code) (may : List ℕ → Call → List Action → Type 0) (w : Net) (past : Past) : Type 0 where
+  pub begins : IsStart past.first
+  pub run : Run code_of may past.first past.history past.now
+  pub net : w ≡ past.now.net
+
+-- from a past, steps with these outcomes lead to one that the world stands for
+pub record LeadsTo (code_of : List ℕ → Call → Code) (may : List ℕ → Call → List Action → Type 0)
+    (past : Past) (steps : List Step) (outcomes : List Outcome) (w : Net) : Type 0 where
+  pub moments : List Moment
+  pub after : State
+  pub steps_are : steps_of moments ≡ steps
+  pub outcomes_are : outcomes_of moments ≡ outcomes
+  pub run : Run code_of may past.now moments after
+  pub follows : Follows past.now after
+  pub stands : Stands code_of may w (later past moments after)
 
 -- two bots that show one version, each in its net, hold the same records
 abbrev pub SameRecords : Net → Net → Type 0
 SameRecords old new = (i j v : ℕ) → shown_version old i ≡ Some v → shown_version new j ≡ Some v → shown_records old i ≡ shown_records new j
 
--- no bot shows a lower version than before
-abbrev pub NeverBack : Net → Net → Type 0
-NeverBack old new = (i u : ℕ) → shown_version old i ≡ Some u → (v : ℕ) × (shown_version new i ≡ Some v) × (u ≤ v)
+-- so they did after any two steps
+abbrev pub SameAlways : List Moment → Type 0
+SameAlways history = (i j : ℕ) (m n : Moment) → slice_get history i ≡ Some m → slice_get history j ≡ Some n → SameRecords m.after.net n.after.net
+
+-- alike bots called the same procs in the same order, at whatever moments
+abbrev pub SameCalls : List Moment → Type 0
+SameCalls history = (i j : ℕ) (m n : Moment) (a b : Calling) → slice_get history i ≡ Some m → slice_get history j ≡ Some n
+    → calling m.before.net m.step m.outcome ≡ Some a → calling n.before.net n.step n.outcome ≡ Some b → IsAlike a b → a.calls ≡ b.calls

@@ -2,14 +2,15 @@
 ghost use Rattle.std.specs.Prelude.{◌≡◌};
 ghost use Rattle.botworld.specs.Codes.{fault_code};
 
-use bytetext::Failure;
+use botcore::Bot;
+use procstore::{Body, ProcStore, Promise, Run};
 use thiserror::Error;
 
 /// A refusal to make a world.
 #[derive(Clone, Copy, Debug, PartialEq, Eq, Error)]
 pub enum WorldFault {
-    /// O1: more than 1,000 leaves.
-    #[error("a hub has at most 1000 leaves")]
+    /// O1: the bots are not numbered 0 to N, in order, each with N leaves.
+    #[error("give the bots in order, numbered from 0, each with as many leaves as follow the hub")]
     BadWorld,
 }
 
@@ -24,5 +25,13 @@ impl WorldFault {
     }
 }
 
-/// Why a world is not made: too many leaves, or else a growth was refused.
-pub type WorldError = Failure<WorldFault>;
+/// Bots of which no world was made, with their store, as they were handed in.
+#[derive(Drop)]
+pub struct RefusedWorld<P: Promise, B: Run = Body> {
+    /// Why no world was made.
+    pub why: WorldFault,
+    /// The bots.
+    pub bots: Vec<Bot>,
+    /// The store.
+    pub store: ProcStore<P, B>,
+}

@@ -3,42 +3,56 @@ ghost use Rattle.std.specs.Prelude.{◌≡◌};
 ghost use Rattle.std.specs.Option.{option_copied};
 ghost use Rattle.botworld.specs.Codes.{outcome_code};
 
+use botcore::{End, Faults, MadeCalls, Note};
 use bytetext::{NoMemory, Seq, TryCopy};
-use sharelink::{LinkFault, Note};
 use std::alloc::Global;
 
-/// How a bot's part in a step ended.
-#[derive(Clone, Copy, Debug, PartialEq, Eq)]
-pub enum End {
-    /// Done, with this note.
-    Note(Note),
-    /// Refused; nothing changed.
-    Refused(LinkFault),
-    /// A growth was refused; nothing changed.
-    NoMemory,
-}
-
-/// A bot's part in a step.
-#[derive(Clone, Copy, Debug, PartialEq, Eq)]
+/// A bot's part in a step: what the bot reports, with its packets told by their numbers.
+#[derive(Drop)]
 pub struct Report {
     /// The bot's number.
     pub bot: u16,
-    /// How it ended.
+    /// How its part ended.
     pub end: End,
+    /// What came of it.
+    pub note: Option<Note>,
+    /// The calls that were made, in order. Out of memory they are the first of those that would be made.
+    pub calls: MadeCalls,
     /// The number of the first packet that the step sent, or would have sent.
     pub first: u64,
     /// How many packets the step sent.
     pub count: usize,
+    /// The binds that were left out since the store lacks their procs, and then the actions that were refused.
+    pub faults: Faults,
+    /// Whether the line is logged.
+    pub logged: bool,
+}
+
+impl TryCopy for Report {
+    fn copy(&self, alloc: Global) -> Result<Report, NoMemory> {
+        let calls = self.calls.copy(alloc)?;
+        let faults = self.faults.copy(alloc)?;
+        Ok(Report {
+            bot: self.bot,
+            end: self.end,
+            note: self.note,
+            calls,
+            first: self.first,
+            count: self.count,
+            faults,
+            logged: self.logged,
+        })
+    }
 }
 
 /// What came of a step.
-#[derive(Clone, Copy, Debug, PartialEq, Eq)]
+#[derive(Drop)]
 pub enum Outcome {
     /// A bot took part.
     Report(Report),
     /// O2: there is no such bot; nothing changed.
     NoSuchBot,
-    /// O3: there is no such packet; nothing changed.
+    /// O3: there is no such packet, or a bot was told a packet that was not delivered; nothing changed.
     NoSuchPacket,
 }
 
@@ -56,8 +70,12 @@ impl Outcome {
 }
 
 impl TryCopy for Outcome {
-    fn copy(&self, _alloc: Global) -> Result<Outcome, NoMemory> {
-        Ok(*self)
+    fn copy(&self, alloc: Global) -> Result<Outcome, NoMemory> {
+        match self {
+            Outcome::Report(report) => Ok(Outcome::Report(report.copy(alloc)?)),
+            Outcome::NoSuchBot => Ok(Outcome::NoSuchBot),
+            Outcome::NoSuchPacket => Ok(Outcome::NoSuchPacket),
+        }
     }
 }
 

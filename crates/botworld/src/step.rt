@@ -1,30 +1,13 @@
 // What may happen in a world.
+use botcore::Event;
 use bytetext::{NoMemory, TryCopy};
 use std::alloc::Global;
-use userfile::Change;
-
-/// What a bot is told to do.
-#[derive(Drop)]
-pub enum Event {
-    /// Let a change wait.
-    Ask(Change),
-    /// Do the next piece of link work.
-    Pump,
-}
-
-impl TryCopy for Event {
-    fn copy(&self, alloc: Global) -> Result<Event, NoMemory> {
-        match self {
-            Event::Ask(change) => Ok(Event::Ask(change.copy(alloc)?)),
-            Event::Pump => Ok(Event::Pump),
-        }
-    }
-}
 
 /// One step of a world.
 #[derive(Drop)]
 pub enum Step {
-    /// An event at a bot: 0 is the hub, and leaves are numbered from 1.
+    /// An event at a bot: 0 is the hub, and leaves are numbered from 1. A packet reaches a bot only by a delivery: told
+    /// here, it is O3.
     At {
         /// The bot's number.
         bot: u16,
@@ -48,4 +31,13 @@ impl TryCopy for Step {
             Step::Deliver { packet } => Ok(Step::Deliver { packet: *packet }),
         }
     }
+}
+
+// A bot's part in a step.
+#[derive(Drop)]
+pub(crate) struct Part {
+    // The bot's number.
+    pub bot: u16,
+    // What it is told.
+    pub event: Event,
 }

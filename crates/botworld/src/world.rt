@@ -1,69 +1,82 @@
 // The world.
-ghost use Rattle.std.specs.Prelude.{◌≡◌, ◌+◌, ◌≤◌, ◌++◌, IfOk, length, vec_len, vec_capacity};
-ghost use Rattle.botworld.specs.Net.{new_leaves, posted};
+ghost use Rattle.std.specs.Prelude.{◌≡◌, ◌+◌, ◌≤◌, ◌++◌, ◌↔◌, IsTrue, length, vec_len, vec_capacity};
 ghost use Rattle.sharelink.specs.declared.TheConstants.{MAX_LEAVES};
-ghost use Rattle.botworld.specs.Posting.{Finishes};
+ghost use Rattle.botworld.specs.Net.{is_packet, posted, report_of};
+ghost use Rattle.botworld.specs.Network.{IsNumberedAt, AreNumbered};
+ghost use Rattle.botworld.specs.declared.world.TheConstants.{MOST_SENT};
+ghost use Rattle.botworld.specs.declared.outcome.Outcome.TheVariants.{Report as reported};
 
-use crate::error::{WorldError, WorldFault};
-use crate::outcome::{End, Outcome, Report, Transcript};
+use crate::error::{RefusedWorld, WorldFault};
+use crate::outcome::{Outcome, Report, Transcript};
 use crate::sent::Sent;
-use crate::step::{Event, Step};
-use bytetext::{Failure, NoMemory, Seq, TryCopy, copies_of};
-use sharelink::{Answer, HubLink, LeafLink, LinkError, MAX_LEAVES, Outgoing};
+use crate::step::{Part, Step};
+use botcore::{Bot, Event, Report as BotReport};
+use bytetext::{NoMemory, Seq, TryCopy};
+use procstore::{Body, ProcStore, Promise, Run};
+use sharelink::Outgoing;
 use std::alloc::Global;
 use std::marker::Model;
-use userfile::{Change, Userfile};
+use userfile::Userfile;
 
-/// The most packets that one step sends.
-const MOST_SENT: usize = 1000;
+/// Room that is made for the packets of a step: one to each of 1,000 leaves, and an answer.
+const MOST_SENT: usize = 1001;
 
-/// A hub, its leaves, and every packet ever sent.
+/// Bots, the hub first; the procs that their binds call; and every packet ever sent.
 #[derive(Drop)]
-pub struct World {
-    hub: HubLink,
-    leaves: Vec<LeafLink>,
+pub struct World<P: Promise, B: Run = Body> {
+    bots: Vec<Bot>,
     packets: Vec<Sent>,
+    store: ProcStore<P, B>,
 }
 
-impl Model for World {
+impl<P: Promise, B: Run> Model for World<P, B> {
     ghost use Rattle.botworld.specs.Net.{Net};
 
     ghost Value = { Net };
 
-    ghost view = { λ w. record { hub = w.hub; leaves = w.leaves.items; packets = w.packets.items } };
+    ghost view = { λ w. record { bots = w.bots.items; packets = w.packets.items; store = w.store } };
 }
 
-impl World {
-    ghost use Rattle.std.specs.Prelude.{◌≡◌, ◌<◌, ◌≤◌, ◌↔◌, ◌⊎◌, ℕ, Some, None, nat_lt, true, length, take, IfOk};
-    ghost use Rattle.std.specs.Prelude.{IfSome, IsErrOf, MatchResult};
-    ghost use Rattle.std.specs.Option.{option_copied, option_map};
-    ghost use Rattle.userfile.specs.Versions.{records_at};
-    ghost use Rattle.sharelink.specs.HubRules.{hub_asked, hub_pumped};
-    ghost use Rattle.sharelink.specs.LeafRules.{leaf_asked, leaf_pumped};
-    ghost use Rattle.sharelink.specs.declared.TheConstants.{MAX_LEAVES};
-    ghost use Rattle.botworld.specs.Net.{new_net, packet_at, at_bot, delivered, ComesOf, NetStep, missing};
-    ghost use Rattle.botworld.specs.Net.{missing_bot, TakesPartAt};
-    ghost use Rattle.botworld.specs.Network.{State, start, records_of};
-    ghost use Rattle.botworld.specs.Standing.{Stands, LeadsTo, IsTrueChange, SameRecords, NeverBack, shown_version};
-    ghost use Rattle.botworld.specs.Standing.{shown_records};
+impl<P: Promise, B: Run> World<P, B> {
+    ghost use Rattle.std.specs.Prelude.{◌≡◌, ◌<◌, ◌≤◌, ◌⊎◌, ℕ, Some, nat_lt, true, length, take, IfOk, OnOk, OnErr};
+    ghost use Rattle.std.specs.Prelude.{Ok, Err, IfErr, IfSome, IsOk, None, MatchResult, if◌then◌else◌};
+    ghost use Rattle.std.specs.Option.{option_copied};
+    ghost use Rattle.std.specs.Result.{result_err};
+    ghost use Rattle.botworld.specs.declared.outcome.Outcome.TheVariants.{NoSuchBot};
+    ghost use Rattle.botworld.specs.Net.{is_bot, packet_at, part_of, NetStep, TakesPartAt};
+    ghost use Rattle.botworld.specs.Net.{shown_version, shown_records};
+    ghost use Rattle.botworld.specs.Network.{AllNew, AreNumbered, start, records_of, IsTrueChange, NeverBack};
+    ghost use Rattle.botworld.specs.Standing.{Past, beginning, Stands, LeadsTo, SameRecords, SameAlways};
+    ghost use Rattle.botworld.specs.Standing.{SameCalls};
 
-    /// A hub and this many leaves, none of which has a change.
+    /// A world of these bots, each of which is as [`Bot::new`] left it. Takes no memory.
     ///
     /// # Errors
-    /// `BadWorld` above 1,000 leaves, else `NoMemory`.
-    pub fn new(alloc: Global, leaves: u16) -> Result<World, WorldError>
-        ensures made { IfOk result (λ w. w ≡ new_net leaves) }
-        ensures stands { IfOk result (λ w. Stands w (start leaves)) }
-        ensures bad_world { IsErrOf result (Failure.Refused WorldFault.BadWorld) ↔ (MAX_LEAVES < leaves) }
+    /// `BadWorld` (O1) where the bots aren't numbered 0 to N in order, one has other than N leaves, or there is none.
+    /// Bots and store are handed back.
+    pub fn new(
+        alloc: Global,
+        bots: Vec<Bot>,
+        store: ProcStore<P, B>,
+    ) -> Result<World<P, B>, RefusedWorld<P, B>>
+        requires as_made { AllNew bots.items }
+        ensures made { IfOk result (λ w. w ≡ (start bots.items store).net) }
+        ensures stands { IfOk result (λ w. Stands P.code_of P.may w (beginning (start bots.items store))) }
+        ensures numbered { OnOk result (AreNumbered bots.items) }
+        ensures bad_world { OnErr result (¬ AreNumbered bots.items) }
+        ensures handed_back { IfErr result (λ refused. (refused.bots ≡ bots) × (refused.store ≡ store)) }
     {
-        if leaves > MAX_LEAVES {
-            return Err(Failure::Refused(WorldFault::BadWorld));
+        if !are_numbered(bots.as_slice()) {
+            return Err(RefusedWorld {
+                why: WorldFault::BadWorld,
+                bots,
+                store,
+            });
         }
-        let links = leaf_links(alloc, leaves)?;
         Ok(World {
-            hub: HubLink::new(alloc, leaves),
-            leaves: links,
+            bots,
             packets: Vec::new(alloc),
+            store,
         })
     }
 
@@ -71,18 +84,15 @@ impl World {
     pub fn version(&self, bot: u16) -> Option<u32>
         ensures { result ≡ shown_version self.now bot }
     {
-        if bot == 0 {
-            return Some(self.hub.version());
-        }
-        let leaf = self.leaves.get(bot as usize - 1)?;
-        Some(leaf.version())
+        let bot = self.bots.get(bot as usize)?;
+        Some(bot.version())
     }
 
     /// The userfile of a bot at its version; none where there is no such bot. Takes no memory.
     pub fn userfile(&self, bot: u16) -> Option<&Userfile>
         ensures shown { option_copied result ≡ shown_records self.now bot }
-        ensures at_version { (s : State) → Stands self.now s → (v : ℕ) → shown_version self.now bot ≡ Some v
-            → option_copied result ≡ Some (records_of s.accepted v) }
+        ensures at_version { (past : Past) → Stands P.code_of P.may self.now past → (v : ℕ)
+            → shown_version self.now bot ≡ Some v → option_copied result ≡ Some (records_of past.now.accepted v) }
     {
         self.shown(bot)
     }
@@ -90,8 +100,8 @@ impl World {
     /// The packet of this number, from 1 in the order of sending; none where there is none. Takes no memory.
     pub fn packet(&self, number: u64) -> Option<&Sent>
         ensures lent { option_copied result ≡ packet_at self.now.packets number }
-        ensures true_change { (s : State) → Stands self.now s
-            → IfSome (option_copied result) (λ sent. IsTrueChange s.accepted sent.packet) }
+        ensures true_change { (past : Past) → Stands P.code_of P.may self.now past
+            → IfSome (option_copied result) (λ sent. IsTrueChange past.now.accepted sent.packet) }
     {
         self.lent(number)
     }
@@ -100,9 +110,9 @@ impl World {
     /// the run is `cut` there, and the steps before it stand. Room for all outcomes is made before the first step; a
     /// step in which no bot takes part needs no more.
     pub fn run(&mut self, alloc: Global, steps: &[Step]) -> Transcript
-        // The steps and outcomes are a run of the network.
-        ensures leads { (s : State) → Stands self.old s
-            → LeadsTo s (take (length result.outcomes) steps.now) result.outcomes self.new }
+        // The steps and outcomes are a run of the network, and go on from any past that the world had.
+        ensures leads { (past : Past) → Stands P.code_of P.may self.old past
+            → LeadsTo P.code_of P.may past (take (length result.outcomes) steps.now) result.outcomes self.new }
         // It is cut exactly where outcomes are fewer than steps, and they are never more.
         ensures whole { result.cut ≡ nat_lt (length result.outcomes) (length steps.now) }
         ensures at_most { length result.outcomes ≤ length steps.now }
@@ -110,11 +120,16 @@ impl World {
         ensures cut_at { result.cut ≡ true
             → (length result.outcomes ≡ 0) ⊎ TakesPartAt self.new steps.now (length result.outcomes) }
         // Two bots that show one version, the one before the run and the other after it, hold the same records.
-        ensures same_records { (s : State) → Stands self.old s → SameRecords self.old self.new }
+        ensures same_records { (past : Past) → Stands P.code_of P.may self.old past → SameRecords self.old self.new }
         // So do two bots that show one version after the run.
-        ensures same_now { (s : State) → Stands self.old s → SameRecords self.new self.new }
+        ensures same_now { (past : Past) → Stands P.code_of P.may self.old past → SameRecords self.new self.new }
+        // And so did any two, after any two steps so far.
+        ensures same_always { (past : Past) → Stands P.code_of P.may self.new past → SameAlways past.history }
         // No version goes back.
-        ensures never_back { (s : State) → Stands self.old s → NeverBack self.old self.new }
+        ensures never_back { (past : Past) → Stands P.code_of P.may self.old past → NeverBack self.old self.new }
+        // In any two steps so far, bots equal in version, binds and `exclusive` called the same procs in the same
+        // order for the same events.
+        ensures same_calls { (past : Past) → Stands P.code_of P.may self.new past → SameCalls past.history }
     {
         self.run_all(alloc, steps)
     }
@@ -123,11 +138,8 @@ impl World {
     fn shown(&self, bot: u16) -> Option<&Userfile>
         ensures { option_copied result ≡ shown_records self.now bot }
     {
-        if bot == 0 {
-            return Some(self.hub.userfile());
-        }
-        let leaf = self.leaves.get(bot as usize - 1)?;
-        Some(leaf.userfile())
+        let bot = self.bots.get(bot as usize)?;
+        Some(bot.userfile())
     }
 
     // As `packet`, of the net alone.
@@ -142,8 +154,8 @@ impl World {
 
     // As `run`: the steps and outcomes are a run of the network.
     fn run_all(&mut self, alloc: Global, steps: &[Step]) -> Transcript
-        ensures leads { (s : State) → Stands self.old s
-            → LeadsTo s (take (length result.outcomes) steps.now) result.outcomes self.new }
+        ensures leads { (past : Past) → Stands P.code_of P.may self.old past
+            → LeadsTo P.code_of P.may past (take (length result.outcomes) steps.now) result.outcomes self.new }
         ensures whole { result.cut ≡ nat_lt (length result.outcomes) (length steps.now) }
         ensures at_most { length result.outcomes ≤ length steps.now }
         ensures cut_at { result.cut ≡ true
@@ -174,8 +186,8 @@ impl World {
 
     // Makes a step, or nothing where room for it is refused. A step in which no bot takes part needs none.
     fn make(&mut self, alloc: Global, step: &Step) -> Result<Outcome, NoMemory>
-        ensures { MatchResult result (λ o. NetStep self.old step.now o self.new)
-            (λ _. (missing self.old step.now ≡ None) × (self.new ≡ self.old)) }
+        ensures { MatchResult result (λ o. NetStep P.code_of P.may self.old step.now o self.new)
+            (λ _. IsOk (part_of self.old step.now) × (self.new ≡ self.old)) }
     {
         match self.missing(step) {
             Some(outcome) => Ok(outcome),
@@ -185,10 +197,15 @@ impl World {
 
     // The outcome of a step in which no bot takes part; none where one does.
     fn missing(&self, step: &Step) -> Option<Outcome>
-        ensures { result ≡ missing self.now step.now }
+        ensures { result ≡ result_err (part_of self.now step.now) }
     {
         match step {
-            Step::At { bot, .. } => self.missing_bot(*bot),
+            Step::At { bot, event } => {
+                if self.has_bot(*bot) && is_packet(event) {
+                    return Some(Outcome::NoSuchPacket);
+                }
+                self.missing_bot(*bot)
+            }
             Step::Deliver { packet } => match self.lent(*packet) {
                 Some(sent) => self.missing_bot(sent.to),
                 None => Some(Outcome::NoSuchPacket),
@@ -198,137 +215,107 @@ impl World {
 
     // The outcome of a step at this bot, where there is no such bot.
     fn missing_bot(&self, bot: u16) -> Option<Outcome>
-        ensures { result ≡ missing_bot self.now bot }
+        ensures { result ≡ (if is_bot self.now bot then None else Some NoSuchBot) }
     {
-        if bot as usize <= self.leaves.len() {
+        if self.has_bot(bot) {
             None
         } else {
             Some(Outcome::NoSuchBot)
         }
     }
 
-    // A bot's part in a step.
+    fn has_bot(&self, bot: u16) -> bool
+        ensures { result ≡ is_bot self.now bot }
+    {
+        (bot as usize) < self.bots.len()
+    }
+
+    // A bot's part in a step, or nothing where room for it is refused.
     fn take_part(&mut self, alloc: Global, step: &Step) -> Result<Outcome, NoMemory>
-        ensures { MatchResult result (λ o. NetStep self.old step.now o self.new) (λ _. self.new ≡ self.old) }
+        requires { IsOk (part_of self.old step.now) }
+        ensures { MatchResult result (λ o. NetStep P.code_of P.may self.old step.now o self.new)
+            (λ _. self.new ≡ self.old) }
+    {
+        let Part { bot, event } = self.part(alloc, step)?;
+        self.packets.reserve(MOST_SENT)?;
+        let report = self.bots[bot as usize].step(alloc, &self.store, event);
+        Ok(post(&mut self.packets, bot, report))
+    }
+
+    // Which bot takes part in a step, and what it is told.
+    fn part(&self, alloc: Global, step: &Step) -> Result<Part, NoMemory>
+        requires { IsOk (part_of self.now step.now) }
+        ensures { IfOk result (λ part. part_of self.now step.now ≡ Ok part) }
     {
         match step {
-            Step::At {
-                bot,
-                event: Event::Ask(change),
-            } => self.ask(alloc, *bot, change),
-            Step::At {
-                bot,
-                event: Event::Pump,
-            } => self.pump(alloc, *bot),
-            Step::Deliver { packet } => self.deliver(alloc, *packet),
+            Step::At { bot, event } => Ok(Part {
+                bot: *bot,
+                event: event.copy(alloc)?,
+            }),
+            Step::Deliver { packet } => {
+                let sent = &self.packets[(*packet - 1) as usize];
+                Ok(Part {
+                    bot: sent.to,
+                    event: Event::Receive(sent.packet.copy(alloc)?),
+                })
+            }
         }
-    }
-
-    // An ask of a bot.
-    fn ask(&mut self, alloc: Global, bot: u16, change: &Change) -> Result<Outcome, NoMemory>
-        ensures { MatchResult result (λ o. ComesOf self.old
-            (at_bot self.old bot (λ hub. hub_asked hub change.now) (λ leaf. leaf_asked leaf change.now)) o self.new)
-            (λ _. self.new ≡ self.old) }
-    {
-        let change = change.copy(alloc)?;
-        self.packets.reserve(MOST_SENT)?;
-        if bot == 0 {
-            let answer = self.hub.ask(alloc, change);
-            return Ok(post(&mut self.packets, 0, answer));
-        }
-        let place = bot as usize - 1;
-        if place >= self.leaves.len() {
-            return Ok(Outcome::NoSuchBot);
-        }
-        let answer = self.leaves[place].ask(change);
-        Ok(post(&mut self.packets, bot, answer))
-    }
-
-    // A pump of a bot.
-    fn pump(&mut self, alloc: Global, bot: u16) -> Result<Outcome, NoMemory>
-        ensures { MatchResult result (λ o. ComesOf self.old (at_bot self.old bot hub_pumped leaf_pumped) o self.new)
-            (λ _. self.new ≡ self.old) }
-    {
-        self.packets.reserve(MOST_SENT)?;
-        if bot == 0 {
-            let answer = self.hub.pump(alloc);
-            return Ok(post(&mut self.packets, 0, answer));
-        }
-        let place = bot as usize - 1;
-        if place >= self.leaves.len() {
-            return Ok(Outcome::NoSuchBot);
-        }
-        let answer = self.leaves[place].pump(alloc);
-        Ok(post(&mut self.packets, bot, answer))
-    }
-
-    // A delivery of a packet to its addressee.
-    fn deliver(&mut self, alloc: Global, packet: u64) -> Result<Outcome, NoMemory>
-        ensures { MatchResult result (λ o. ComesOf self.old (delivered self.old (packet_at self.old.packets packet)) o
-            self.new) (λ _. self.new ≡ self.old) }
-    {
-        self.packets.reserve(MOST_SENT)?;
-        if packet == 0 || packet > self.packets.len() as u64 {
-            return Ok(Outcome::NoSuchPacket);
-        }
-        let sent = &self.packets[(packet - 1) as usize];
-        let bot = sent.to;
-        if bot == 0 {
-            let answer = self.hub.receive(alloc, &sent.packet);
-            return Ok(post(&mut self.packets, 0, answer));
-        }
-        let place = bot as usize - 1;
-        if place >= self.leaves.len() {
-            return Ok(Outcome::NoSuchBot);
-        }
-        let answer = self.leaves[place].receive(alloc, &sent.packet);
-        Ok(post(&mut self.packets, bot, answer))
     }
 }
 
-impl TryCopy for World {
-    fn copy(&self, alloc: Global) -> Result<World, NoMemory> {
-        Ok(World {
-            hub: self.hub.copy(alloc)?,
-            leaves: copies_of(alloc, self.leaves.as_slice())?,
-            packets: copies_of(alloc, self.packets.as_slice())?,
-        })
-    }
-}
-
-// The leaves, numbered from 1.
-fn leaf_links(alloc: Global, leaves: u16) -> Result<Vec<LeafLink>, NoMemory>
-    requires { leaves ≤ MAX_LEAVES }
-    ensures { IfOk result (λ links. links.items ≡ new_leaves 1 leaves) }
+// Whether the bots are a hub and its leaves, in order.
+fn are_numbered(bots: &[Bot]) -> bool
+    ensures { IsTrue result ↔ AreNumbered bots.now }
 {
-    let mut links = Vec::with_capacity(alloc, leaves as usize)?;
-    for place in 0..leaves {
-        links.push(LeafLink::new(alloc, place + 1, leaves))?;
+    for place in 0..bots.len() {
+        if !is_numbered_at(bots.len(), place, &bots[place]) {
+            return false;
+        }
     }
-    Ok(links)
+    !bots.is_empty()
 }
 
-// Puts the packets of an answer on the network, in the room that was made, and reports how the bot's part ended.
-fn post(packets: &mut Vec<Sent>, bot: u16, answer: Result<Answer, LinkError>) -> Outcome
+// Whether a bot has the number of its place, and as many leaves as there are after the hub.
+fn is_numbered_at(bots: usize, place: usize, bot: &Bot) -> bool
+    ensures { IsTrue result ↔ IsNumberedAt bots place bot.now }
+{
+    let config = bot.config();
+    config.number as usize == place && config.leaves as usize + 1 == bots
+}
+
+fn is_packet(event: &Event) -> bool
+    ensures { result ≡ is_packet event.now }
+{
+    match event {
+        Event::Receive(_) => true,
+        Event::Connect
+        | Event::Line(_)
+        | Event::Ask(_)
+        | Event::Pump
+        | Event::Bind(_)
+        | Event::Unbind(_) => false,
+    }
+}
+
+// Puts the packets of a report on the network, in the room that was made, and tells it as an outcome.
+fn post(packets: &mut Vec<Sent>, bot: u16, report: BotReport) -> Outcome
     requires room { vec_len packets.old + MOST_SENT ≤ vec_capacity packets.old }
-    requires few { IfOk answer (λ a. length a.packets ≤ MOST_SENT) }
-    ensures { Finishes packets.old.items bot answer result packets.new.items }
+    requires few { length report.packets ≤ MAX_LEAVES }
+    ensures told { result ≡ reported (report_of bot (length packets.old.items + 1) report) }
+    ensures sent { packets.new.items ≡ packets.old.items ++ posted bot report.packets }
 {
     let first = packets.len() as u64 + 1;
-    let (end, count) = match answer {
-        Ok(answer) => {
-            let count = answer.packets.len();
-            send_all(packets, bot, answer.packets.into_vec());
-            (End::Note(answer.note), count)
-        }
-        Err(LinkError::Refused(fault)) => (End::Refused(fault), 0),
-        Err(LinkError::NoMemory) => (End::NoMemory, 0),
-    };
+    let count = report.packets.len();
+    send_all(packets, bot, report.packets.into_vec());
     Outcome::Report(Report {
         bot,
-        end,
+        end: report.end,
+        note: report.note,
+        calls: report.calls,
         first,
         count,
+        faults: report.faults,
+        logged: report.logged,
     })
 }
 

@@ -1,19 +1,16 @@
-use Rattle.std.proofs.Common.{◌≡◌, ℕ, List, Option, None, Some, IfSome, ap, ◌∙◌, sym, suc, zero}
-use Rattle.sharelink.specs.declared.accepted.AcceptedChange.{AcceptedChange}
+use Rattle.std.proofs.Common.{◌≡◌, ℕ, Option, None, Some, IfSome, ap, ◌∙◌, sym}
 use Rattle.botworld.specs.declared.sent.Sent.{Sent}
 use Rattle.botworld.specs.Net.{Net, packet_at}
-use Rattle.botworld.specs.Standing.{IsTrueChange, AllTrue}
-use Rattle.botworld.proofs.Truth.{AllTrue-at}
+use Rattle.botworld.specs.Network.{State, IsSound, IsTrueChange}
+use Rattle.botworld.proofs.Lawful.{sent-true}
+use Rattle.botworld.proofs.Runs.{now_sound}
 use Rattle.botworld.proofs.world.World.packet.Goals as goal
 
-found_is_true : (xs : List AcceptedChange) (ps : List Sent) (n : ℕ) (r : Option Sent) → AllTrue xs ps → packet_at ps n ≡ r
-    → IfSome r (λ sent. IsTrueChange xs sent.packet)
-found_is_true xs ps zero None h e = tt
-found_is_true xs ps zero (Some sent) h e = cc
-found_is_true xs ps (suc n) None h e = tt
-found_is_true xs ps (suc n) (Some sent) h e = AllTrue-at xs ps n sent h e
+found_is_true : (s : State) → IsSound s → (n : ℕ) (r : Option Sent) → packet_at s.net.packets n ≡ r → IfSome r (λ sent. IsTrueChange s.accepted sent.packet)
+found_is_true s sound n None e = tt
+found_is_true s sound n (Some sent) e = sent-true s sound n sent e
 
 pub returns-clause-true_change : goal.returns-clause-true_change
-returns-clause-true_change c s stands =
-    let at = sym (c.lent.ensures ∙ ap (λ (w : Net). packet_at w.packets c.args.number) stands.parts) in
-    found_is_true s.accepted s.packets c.args.number _ stands.sound.changes at
+returns-clause-true_change g c past stands =
+    let at = sym (c.lent.ensures ∙ ap (λ (w : Net). packet_at w.packets c.args.number) stands.net) in
+    found_is_true past.now (now_sound _ _ _ past stands) c.args.number _ at

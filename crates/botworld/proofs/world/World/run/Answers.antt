@@ -1,11 +1,18 @@
-use Rattle.botworld.proofs.Runs.{same_later, same_at_once, none_back}
+use Rattle.botworld.proofs.Calls.{same_calls}
+use Rattle.botworld.proofs.Runs.{same_later, same_at_once, same_always, none_back}
 use Rattle.botworld.proofs.world.World.run.Goals as goal
 
 pub returns-clause-same_records : goal.returns-clause-same_records
-returns-clause-same_records c s stands = same_later s _ _ _ _ stands (c.run_all.ensures.leads s stands)
+returns-clause-same_records g c past stands = same_later _ _ past _ _ _ _ stands (c.run_all.ensures.leads past stands)
 
 pub returns-clause-same_now : goal.returns-clause-same_now
-returns-clause-same_now c s stands = let led = c.run_all.ensures.leads s stands in same_at_once _ led.after led.stands
+returns-clause-same_now g c past stands = let led = c.run_all.ensures.leads past stands in same_at_once _ _ _ _ led.stands
+
+pub returns-clause-same_always : goal.returns-clause-same_always
+returns-clause-same_always g c past stands = same_always _ _ _ past stands
 
 pub returns-clause-never_back : goal.returns-clause-never_back
-returns-clause-never_back c s stands = none_back s _ _ _ _ stands (c.run_all.ensures.leads s stands)
+returns-clause-never_back g c past stands = none_back _ _ past _ _ _ _ stands (c.run_all.ensures.leads past stands)
+
+pub returns-clause-same_calls : goal.returns-clause-same_calls
+returns-clause-same_calls g c past stands = same_calls _ _ _ past stands

@@ -1,0 +1,173 @@
+-- Alike bots make the same calls, at any moments of a run.
+use Rattle.std.proofs.Common.{◌≡◌, ℕ, zero, suc, ◌+◌, ◌≤◌, List, [], ◌∷◌, length, map, slice_get, Option, None, Some, Result, Ok, Err}
+use Rattle.std.proofs.Common.{refl, ap, sym, subst, ◌∙◌, arith, length-append}
+use Rattle.userfile.specs.Records.{Records}
+use Rattle.ircline.specs.declared.line.Line.TheVariants.{Message as a_message, Bad as a_bad_line}
+use Rattle.ircline.specs.declared.message.Message.{Message}
+use Rattle.sharelink.specs.declared.accepted.AcceptedChange.{AcceptedChange}
+use Rattle.sharelink.specs.declared.answer.Answer.{Answer}
+use Rattle.sharelink.specs.declared.error.LinkFault.{LinkFault}
+use Rattle.procstore.specs.declared.action.Action.{Action}
+use Rattle.procstore.specs.declared.call.Call.{Call}
+use Rattle.procstore.specs.declared.reply.Code.{Code}
+use Rattle.bindtable.specs.declared.bind.Bind.{Bind as HeldBind}
+use Rattle.bindtable.specs.declared.fault.BindFault.{BindFault}
+use Rattle.bindtable.specs.Tables.{Asked, refusal}
+use Rattle.botcore.specs.declared.event.Event.{Event}
+use Rattle.botcore.specs.declared.event.Event.TheVariants.{Connect, Line, Ask, Pump, Receive, Bind, Unbind}
+use Rattle.botcore.specs.declared.event.OldBind.{OldBind}
+use Rattle.botcore.specs.declared.made_call.MadeCall.{MadeCall}
+use Rattle.botcore.specs.declared.report.End.{End}
+use Rattle.botcore.specs.declared.report.End.TheVariants.{Done, Refused, NoMemory}
+use Rattle.botcore.specs.declared.report.Report.{Report as BotReport}
+use Rattle.botcore.specs.Bots.{Bot, bot_setting}
+use Rattle.botcore.specs.Calls.{Telling}
+use Rattle.botcore.specs.Dispatched.{setting_of}
+use Rattle.botcore.specs.Dispatching.{Setting, told_of}
+use Rattle.botcore.specs.Links.{link_version}
+use Rattle.botcore.specs.Made.{entry_of}
+use Rattle.botcore.specs.Reports.{link_report}
+use Rattle.botcore.specs.Steps.{Due, bind_due, unbind_due, bind_to_go, asked_of, Gives, TakesMessage, TakesStep}
+use Rattle.botworld.specs.declared.step.Part.{Part}
+use Rattle.botworld.specs.declared.step.Step.{Step}
+use Rattle.botworld.specs.declared.outcome.Outcome.{Outcome}
+use Rattle.botworld.specs.Net.{Net, report_of, part_of, TakesPart, Comes, NetStep}
+use Rattle.botworld.specs.Network.{State, IsSound, records_of, Extends}
+use Rattle.botworld.specs.Calling.{ProcCall, proc_call, happenings, Calling, calling_done, calling_by, calling_in, calling, IsAlike}
+use Rattle.botworld.specs.Standing.{Moment, Run, Past, Stands, SameCalls}
+use Rattle.botworld.proofs.History.{records_of-extended}
+use Rattle.botworld.proofs.Lawful.{due_done}
+use Rattle.botworld.proofs.Start.{start_sound}
+use Rattle.botworld.proofs.Runs.{Run-follows, link_at}
+use Rattle.botworld.proofs.Alike.{proc_call_of, proc_calls, told_of-alike}
+
+-- the calls of one step -----------------------------------------------------------------------------------------------
+
+map-entry_of : (made : List MadeCall) → map proc_call made ≡ map proc_call_of (map entry_of made)
+map-entry_of [] = refl
+map-entry_of (m ∷ made) = ap (λ (cs : List ProcCall). proc_call m ∷ cs) (map-entry_of made)
+
+-- a report without calls
+abbrev HasNone : BotReport → Type 0
+HasNone report = map proc_call report.calls ≡ []
+
+none_due : (Grows : Type 0) (old : Bot) (due : Due) (report : BotReport) (new : Bot) → report.end ≡ Done → Gives report.end Grows old due report new
+    → due.report.calls ≡ [] → HasNone report
+none_due Grows old due report new done g none =
+    ap (λ (r : BotReport). map proc_call r.calls) (due_done Grows old due report new report.end done g).0 ∙ ap (map proc_call) none
+
+link_report-none : (answer : Result Answer LinkFault) → (link_report answer).calls ≡ []
+link_report-none (Ok answer) = refl
+link_report-none (Err fault) = refl
+
+bind_due-none : (old : Bot) (asked : Asked) (r : Option BindFault) → (bind_due old asked r).report.calls ≡ []
+bind_due-none old asked None = refl
+bind_due-none old asked (Some fault) = refl
+
+unbind_due-none : (old : Bot) (gone : OldBind) (r : Option HeldBind) → (unbind_due old gone r).report.calls ≡ []
+unbind_due-none old gone None = refl
+unbind_due-none old gone (Some bind) = refl
+
+message_calls : (code_of : List ℕ → Call → Code) (may : List ℕ → Call → List Action → Type 0) (told : List Telling) (old : Bot) (message : Message)
+    (report : BotReport) (new : Bot) (end : End) → end ≡ Done → TakesMessage end code_of may told old message report new
+    → map proc_call report.calls ≡ proc_calls told
+message_calls code_of may told old message report new Done e h = map-entry_of report.calls ∙ ap (map proc_call_of) h.calls
+message_calls code_of may told old message report new (Refused why) e h = absurd h
+message_calls code_of may told old message report new NoMemory e h = cc
+
+-- a done step makes the calls of its events
+step_calls : (code_of : List ℕ → Call → Code) (may : List ℕ → Call → List Action → Type 0) (names : List (List ℕ)) (old : Bot) (event : Event)
+    (report : BotReport) (new : Bot) → report.end ≡ Done → TakesStep code_of may names old event report new
+    → map proc_call report.calls ≡ proc_calls (told_of (bot_setting code_of names old) (happenings old event))
+step_calls code_of may names old Connect report new done t = none_due _ old _ report new done t refl
+step_calls code_of may names old (Line (a_message message)) report new done t = message_calls code_of may _ old message report new report.end done t
+step_calls code_of may names old (Line (a_bad_line fault)) report new done t = ap (λ (r : BotReport). map proc_call r.calls) t.0
+step_calls code_of may names old (Ask change) report new done t = none_due _ old _ report new done t (link_report-none _)
+step_calls code_of may names old Pump report new done t = none_due _ old _ report new done t (link_report-none _)
+step_calls code_of may names old (Receive packet) report new done t = none_due _ old _ report new done t (link_report-none _)
+step_calls code_of may names old (Bind asked) report new done t =
+    none_due _ old _ report new done t (bind_due-none old (asked_of asked) (refusal old.binds (asked_of asked)))
+step_calls code_of may names old (Unbind gone) report new done t = none_due _ old _ report new done t (unbind_due-none old gone (bind_to_go old.binds gone))
+
+-- what a bot's calls depend on, by its version
+abbrev setting_at : (List ℕ → Call → Code) → List (List ℕ) → List AcceptedChange → Bot → Setting
+setting_at code_of names all bot = setting_of code_of names (records_of all (link_version bot.link)).users bot.binds.binds bot.config.exclusive
+
+-- the calls are those of the bot at its version
+record IsCalled (code_of : List ℕ → Call → Code) (names : List (List ℕ)) (all : List AcceptedChange) (a : Calling) : Type 0 where
+  version : link_version a.bot.link ≤ length all
+  calls : a.calls ≡ proc_calls (told_of (setting_at code_of names all a.bot) a.events)
+
+part_calls : (code_of : List ℕ → Call → Code) (may : List ℕ → Call → List Action → Type 0) (s : State) (part : Part) (o : Outcome) (w : Net) → IsSound s
+    → (t : TakesPart code_of may s.net part o w) (a : Calling) (end : End) → t.report.end ≡ end
+    → calling_done end part.event (report_of part.bot (length s.net.packets + 1) t.report) t.was ≡ Some a → IsCalled code_of s.net.store s.accepted a
+part_calls code_of may s part o w sound t a Done e is =
+    let it : Calling = record { bot = t.was; events = happenings t.was part.event; calls = map proc_call t.report.calls } in
+    let same : it ≡ a = cc in
+    let at = link_at s.accepted (length s.net.bots) part.bot t.was.link (sound.links part.bot t.was t.there) in
+    let calls = step_calls code_of may s.net.store t.was part.event t.report t.after e t.steps
+    ∙ ap (λ (r : Records). proc_calls (told_of (setting_of code_of s.net.store r.users t.was.binds.binds t.was.config.exclusive)
+    (happenings t.was part.event))) at.1 in
+    subst (IsCalled code_of s.net.store s.accepted) same (record { version = at.0; calls = calls })
+part_calls code_of may s part o w sound t a (Refused why) e is = cc
+part_calls code_of may s part o w sound t a NoMemory e is = cc
+
+calls_at : (code_of : List ℕ → Call → Code) (may : List ℕ → Call → List Action → Type 0) (s : State) (step : Step) (o : Outcome) (w : Net) → IsSound s
+    → NetStep code_of may s.net step o w → (a : Calling) → calling s.net step o ≡ Some a → IsCalled code_of s.net.store s.accepted a
+calls_at code_of may s step o w sound rule a is = by (part_of s.net step) rule is
+  where
+    by : (r : Result Part Outcome) → Comes code_of may s.net r o w → calling_in s.net r o ≡ Some a → IsCalled code_of s.net.store s.accepted a
+    by (Err why) c e = cc
+    by (Ok part) t e =
+        let here : calling_by (slice_get s.net.bots part.bot) part.event (report_of part.bot (length s.net.packets + 1) t.report) ≡ Some a =
+        subst (λ (x : Outcome). calling_in s.net (Ok part) x ≡ Some a) t.told e in
+        part_calls code_of may s part o w sound t a t.report.end refl
+        (subst (λ (b : Option Bot). calling_by b part.event (report_of part.bot (length s.net.packets + 1) t.report) ≡ Some a) t.there here)
+
+-- the calls of a run ---------------------------------------------------------------------------------------------------
+
+IsCalled-extended : (code_of : List ℕ → Call → Code) (names : List (List ℕ)) (all now : List AcceptedChange) (a : Calling) → Extends all now
+    → IsCalled code_of names all a → IsCalled code_of names now a
+IsCalled-extended code_of names all now a more called =
+    let longer : length all ≤ length now = omega (arith, ap length more.1, length-append all more.0) in
+    let v = link_version a.bot.link in
+    let records : records_of all v ≡ records_of now v =
+    sym (ap (λ (xs : List AcceptedChange). records_of xs v) more.1 ∙ records_of-extended all more.0 v called.version) in
+    record {
+      version = omega (arith, called.version, longer);
+      calls = called.calls
+          ∙ ap (λ (r : Records). proc_calls (told_of (setting_of code_of names r.users a.bot.binds.binds a.bot.config.exclusive) a.events)) records;
+    }
+
+abbrev AllCalled : (List ℕ → Call → Code) → List (List ℕ) → List AcceptedChange → List Moment → Type 0
+AllCalled code_of names all ms = (i : ℕ) (m : Moment) (a : Calling) → slice_get ms i ≡ Some m → calling m.before.net m.step m.outcome ≡ Some a
+    → IsCalled code_of names all a
+
+all_called : (code_of : List ℕ → Call → Code) (may : List ℕ → Call → List Action → Type 0) (first : State) (ms : List Moment) (last : State) → IsSound first
+    → Run code_of may first ms last → AllCalled code_of last.net.store last.accepted ms
+all_called code_of may first [] last sound run i m a at is = cc
+all_called code_of may first (x ∷ ms) last sound run zero m a at is =
+    let follows = Run-follows code_of may first (x ∷ ms) last run in
+    let same : x ≡ m = cc in
+    let before : m.before ≡ first = sym (ap (λ (x : Moment). x.before) same) ∙ run.0 in
+    let rule = subst (λ (x : Moment). NetStep code_of may x.before.net x.step x.outcome x.after.net) same run.1.by_rule in
+    let called = calls_at code_of may first m.step m.outcome m.after.net sound
+    (subst (λ (s : State). NetStep code_of may s.net m.step m.outcome m.after.net) before rule) a
+    (subst (λ (s : State). calling s.net m.step m.outcome ≡ Some a) before is) in
+    subst (λ (names : List (List ℕ)). IsCalled code_of names last.accepted a) (sym follows.store)
+    (IsCalled-extended code_of first.net.store first.accepted last.accepted a follows.accepted called)
+all_called code_of may first (x ∷ ms) last sound run (suc i) m a at is = all_called code_of may x.after ms last run.1.sound run.2 i m a at is
+
+-- alike bots call the same procs
+alike_calls : (code_of : List ℕ → Call → Code) (names : List (List ℕ)) (all : List AcceptedChange) (a b : Calling) → IsCalled code_of names all a
+    → IsCalled code_of names all b → IsAlike a b → a.calls ≡ b.calls
+alike_calls code_of names all a b one other alike =
+    let from : Setting = setting_of code_of names (records_of all (link_version b.bot.link)).users [] b.bot.config.exclusive in
+    one.calls ∙ rw (alike.events, alike.exclusive, alike.version) (told_of-alike from a.bot.binds.binds b.bot.binds.binds b.events alike.binds)
+    ∙ sym other.calls
+
+pub same_calls : (code_of : List ℕ → Call → Code) (may : List ℕ → Call → List Action → Type 0) (w : Net) (past : Past) → Stands code_of may w past
+    → SameCalls past.history
+same_calls code_of may w past stands i j m n a b at_i at_j is_a is_b alike =
+    let called = all_called code_of may past.first past.history past.now (start_sound past.first stands.begins) stands.run in
+    alike_calls code_of past.now.net.store past.now.accepted a b (called i m a at_i is_a) (called j n b at_j is_b) alike
