@@ -1,11 +1,21 @@
 //! `eggnet replay` reads a script on standard input, does its commands with a botnet in memory, and prints the transcript.
+//! A script's binds may call the procs `quiet`, `stop` and `adduser`.
 //!
 //! It ends with status 0 when all is done; 1 for a script that breaks a rule, with its first faulty line on standard
 //! error; 2 for a command line that is not understood; 3 where reading or writing fails; 4 where memory runs out.
 #![tactic(auto)]
 
+ghost use Rattle.std.specs.Prelude.{◌≡◌, codes, IfOk};
+ghost use Rattle.procstore.specs.declared.reply.Code.TheVariants.{Zero, One};
+ghost use Rattle.eggnet.specs.Procs.{Keeps, plain, reply_of_adduser};
+
+mod procs;
+
+use crate::procs::{Ours, plain, reply_of_adduser, store_of};
+use bytetext::NoMemory;
 use clap::error::ErrorKind;
 use clap::{Command, Error};
+use procstore::{Body, Call, Code, ProcStore, Reply, Run};
 use replay::{ReplayError, replay};
 use std::alloc::{AllocError, Global};
 use std::process::ExitCode;
@@ -25,17 +35,60 @@ const STREAM_FAULT: u8 = 3;
 const NO_MEMORY: u8 = 4;
 
 fn main(rt: HostRuntime) -> ExitCode {
-    ExitCode::from(status(&rt))
+    let alloc = rt.alloc();
+    let quiet: Body = match Box::new(
+        alloc,
+        move |_call: &Call| -> Result<Reply, NoMemory>
+            ensures { IfOk result (λ reply. reply ≡ plain Zero) }
+        { Ok(plain(alloc, Code::Zero)) },
+    ) {
+        Ok(body) => body,
+        Err(_) => return ExitCode::from(NO_MEMORY),
+    };
+    let stop: Body = match Box::new(
+        alloc,
+        move |_call: &Call| -> Result<Reply, NoMemory>
+            ensures { IfOk result (λ reply. reply ≡ plain One) }
+        { Ok(plain(alloc, Code::One)) },
+    ) {
+        Ok(body) => body,
+        Err(_) => return ExitCode::from(NO_MEMORY),
+    };
+    let adduser: Body = match Box::new(
+        alloc,
+        move |call: &Call| -> Result<Reply, NoMemory>
+            ensures { IfOk result (λ reply. reply ≡ reply_of_adduser call.now) }
+        { reply_of_adduser(alloc, call) },
+    ) {
+        Ok(body) => body,
+        Err(_) => return ExitCode::from(NO_MEMORY),
+    };
+    ExitCode::from(status(&rt, quiet, stop, adduser))
 }
 
 // The status that the program ends with.
-fn status<R: Input + Print + Eprint + AllocGlobal + Env>(rt: &R) -> u8 {
-    match words_of(rt) {
-        Ok(words) => match parsed(rt.alloc(), words.as_slice()) {
-            Ok(()) => replayed(rt),
-            Err(error) => refused(rt, &error),
-        },
-        Err(_) => told(rt, ReplayError::NoMemory),
+fn status<R: Input + Print + Eprint + AllocGlobal + Env, B: Run>(
+    rt: &R,
+    quiet: B,
+    stop: B,
+    adduser: B,
+) -> u8
+    requires quiet_runs { B.can_run quiet }
+    requires quiet_keeps { Keeps (codes "quiet") (B.answers quiet) }
+    requires stop_runs { B.can_run stop }
+    requires stop_keeps { Keeps (codes "stop") (B.answers stop) }
+    requires adduser_runs { B.can_run adduser }
+    requires adduser_keeps { Keeps (codes "adduser") (B.answers adduser) }
+{
+    let Ok(words) = words_of(rt) else {
+        return told(rt, ReplayError::NoMemory);
+    };
+    if let Err(error) = parsed(rt.alloc(), words.as_slice()) {
+        return refused(rt, &error);
+    }
+    match store_of(rt.alloc(), quiet, stop, adduser) {
+        Ok(store) => replayed(rt, store),
+        Err(NoMemory) => told(rt, ReplayError::NoMemory),
     }
 }
 
@@ -78,10 +131,13 @@ fn refused<R: Print + Eprint>(rt: &R, error: &Error) -> u8 {
 }
 
 // Does the script on standard input.
-fn replayed<R: Input + Print + Eprint + AllocGlobal>(rt: &R) -> u8 {
+fn replayed<R: Input + Print + Eprint + AllocGlobal, B: Run>(
+    rt: &R,
+    store: ProcStore<Ours, B>,
+) -> u8 {
     let mut reader = rt.reader();
     let mut writer = io::writer(rt);
-    match replay(rt.alloc(), &mut reader, &mut writer) {
+    match replay(rt.alloc(), store, &mut reader, &mut writer) {
         Ok(()) => 0,
         Err(error) => told(rt, error),
     }

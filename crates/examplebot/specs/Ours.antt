@@ -1,35 +1,38 @@
 -- What the procs of this program promise.
-use Rattle.std.specs.Prelude.{ℕ, ◌-◌, List, [], ◌∷◌, length, slice_get, unwrap_or, Bool, true, false, if◌then◌else◌, codes}
+use Rattle.std.specs.Prelude.{◌≡◌, ℕ, List, [], ◌∷◌, slice_get, unwrap_or, if◌then◌else◌, codes, Result}
 use Rattle.std.specs.Str.{bytes_eq}
+use Rattle.bytetext.specs.declared.memory.NoMemory.{NoMemory}
 use Rattle.userfile.specs.declared.change.Change.TheVariants.{AddUser}
 use Rattle.procstore.specs.declared.action.Action.{Action}
 use Rattle.procstore.specs.declared.action.Action.TheVariants.{Ask}
 use Rattle.procstore.specs.declared.call.Call.{Call}
-use Rattle.procstore.specs.declared.kind.Kind.{Kind}
-use Rattle.procstore.specs.declared.kind.Kind.TheVariants.{Raw, Msg, Msgm, Notc, Pub, Pubm}
 use Rattle.procstore.specs.declared.reply.Code.{Code}
-use Rattle.procstore.specs.declared.reply.Code.TheVariants.{Zero}
+use Rattle.procstore.specs.declared.reply.Code.TheVariants.{Zero, One}
+use Rattle.procstore.specs.declared.reply.Reply.{Reply}
+use Rattle.procstore.specs.Promises.{KeepsPromise}
 
--- kinds whose last argument is what stands behind a first word
-abbrev pub is_command : Kind → Bool
-is_command Msg = true
-is_command Pub = true
-is_command Raw = false
-is_command Msgm = false
-is_command Notc = false
-is_command Pubm = false
+-- who wrote a message: its nick is the first argument of a call
+abbrev pub nick_of : Call → List ℕ
+nick_of call = unwrap_or (slice_get call.args 0) []
 
--- the last argument, and the empty text where there is none
-abbrev pub last_of : List (List ℕ) → List ℕ
-last_of args = unwrap_or (slice_get args (length args - 1)) []
+-- `welcome` answers 0, and asks for a user named as whoever wrote
+abbrev pub welcomed : Call → Reply
+welcomed call = record { code = Zero; actions = Ask (AddUser (nick_of call)) ∷ [] }
 
--- what `adduser` asks for
-abbrev pub asked_by_adduser : Call → List Action
-asked_by_adduser call = if is_command call.kind then Ask (AddUser (last_of call.args)) ∷ [] else []
+-- `hush` answers 1, and asks for nothing
+abbrev pub hushed : Reply
+hushed = record { code = One; actions = [] }
 
--- the code of every call, and its actions
+-- what a proc of this name answers to a call: its code and its actions; the store has no others
+abbrev pub reply_of : List ℕ → Call → Reply
+reply_of name call = if bytes_eq name (codes "welcome") then welcomed call else hushed
+
 abbrev pub code_of : List ℕ → Call → Code
-code_of name call = Zero
+code_of name call = (reply_of name call).code
 
-abbrev pub actions_of : List ℕ → Call → List Action
-actions_of name call = if bytes_eq name (codes "adduser") then asked_by_adduser call else []
+abbrev pub may : List ℕ → Call → List Action → Type 0
+may name call actions = actions ≡ (reply_of name call).actions
+
+-- a body keeps the promise of this name, or lacks memory
+abbrev pub Keeps : List ℕ → (Call → Result Reply NoMemory → Type 0) → Type 0
+Keeps name answers = KeepsPromise code_of may (λ name call. Unit {0}) name answers

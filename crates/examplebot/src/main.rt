@@ -1,143 +1,169 @@
-//! A store of two procs, and three calls.
+//! A bot of one's own: two procs, what they promise, and a botnet of one bot that reads a few lines.
+//!
+//! It prints of each line how many procs it called and whether it is logged, and at the end how many users there are.
 #![tactic(auto)]
 
-ghost use Rattle.std.specs.Prelude.{◌≡◌, [], codes, IfOk};
-ghost use Rattle.procstore.specs.Promises.{KeepsPromise};
-ghost use Rattle.procstore.specs.declared.reply.Code.TheVariants.{Zero};
-ghost use Rattle.examplebot.specs.Ours.{asked_by_adduser, is_command, last_of};
+ghost use Rattle.std.specs.Prelude.{◌≡◌, codes, IfOk};
+ghost use Rattle.botworld.specs.Network.{AllNew};
+ghost use Rattle.examplebot.specs.Ours.{hushed, nick_of, welcomed, Keeps};
 
+use botcore::{Bot, Config, Event, NewBind};
+use botworld::{Outcome, Step, World};
 use bytetext::{NoMemory, Text, Texts};
-use procstore::{
-    Action, Actions, Body, Call, CallError, Code, Kind, Proc, ProcStore, Promise, Reply, Run,
-};
+use ircline::read_line;
+use procstore::{Action, Actions, Body, Call, Code, Kind, Proc, ProcStore, Promise, Reply, Run};
 use std::alloc::Global;
 use userfile::Change;
 
-/// What the procs of this program promise: each answers 0, and `adduser` asks for a user where it is called as a
-/// command.
+/// What the procs of this program promise: `welcome` answers 0 and asks for a user named as whoever wrote, and `hush`
+/// answers 1 and asks for nothing. Either may lack memory.
 #[derive(Drop)]
 pub struct Ours;
 
 impl Promise for Ours {
-    ghost use Rattle.std.specs.Prelude.{◌≡◌};
-    ghost use Rattle.examplebot.specs.Ours.{code_of, actions_of};
+    ghost use Rattle.examplebot.specs.Ours.{code_of, may};
 
     ghost code_of = { code_of };
 
-    ghost may = { λ name call actions. actions ≡ actions_of name call };
+    ghost may = { may };
 }
 
-// Whether a kind's last argument is what stands behind a first word.
-fn is_command(kind: Kind) -> bool
-    ensures { result ≡ is_command kind }
+// What `welcome` answers.
+fn welcome(alloc: Global, call: &Call) -> Result<Reply, NoMemory>
+    ensures { IfOk result (λ reply. reply ≡ welcomed call.now) }
 {
-    match kind {
-        Kind::Msg | Kind::Pub => true,
-        Kind::Raw | Kind::Msgm | Kind::Notc | Kind::Pubm => false,
-    }
+    let handle = Text::from_slice(alloc, nick_of(call))?;
+    Ok(Reply {
+        code: Code::Zero,
+        actions: Actions::one(alloc, Action::Ask(Change::AddUser { handle }))?,
+    })
 }
 
-// The last argument.
-fn last_of(args: &[Text]) -> &[u8]
-    ensures { result.now ≡ last_of args.now }
+// Who wrote.
+fn nick_of(call: &Call) -> &[u8]
+    ensures { result.now ≡ nick_of call.now }
 {
-    match args.last() {
-        Some(last) => last.as_bytes(),
+    match call.args.as_slice().first() {
+        Some(nick) => nick.as_bytes(),
         None => b"",
     }
 }
 
-// What `adduser` asks for.
-fn asked_by_adduser(alloc: Global, call: &Call) -> Result<Actions, NoMemory>
-    ensures { IfOk result (λ actions. actions ≡ asked_by_adduser call.now) }
+// What `hush` answers: a code 1 keeps the line out of the log.
+fn hush(alloc: Global) -> Reply
+    ensures { result ≡ hushed }
 {
-    if !is_command(call.kind) {
-        return Ok(Actions::empty(alloc));
+    Reply {
+        code: Code::One,
+        actions: Actions::empty(alloc),
     }
-    let handle = Text::from_slice(alloc, last_of(call.args.as_slice()))?;
-    Actions::one(alloc, Action::Ask(Change::AddUser { handle }))
-}
-
-// Calls the procs of a store of these two with a message `dave` to the bot.
-fn call_each<R: Print + AllocGlobal, B: Run>(
-    rt: &R,
-    quiet: B,
-    adduser: B,
-) -> Result<(), anyhow::Error>
-    requires quiet { B.can_run quiet }
-    requires quiet_keeps { KeepsPromise ⟦<Ours as Promise>⟧.code_of ⟦<Ours as Promise>⟧.may
-        ⟦<Ours as Promise>⟧.may_lack (codes "quiet") (B.answers quiet) }
-    requires adduser { B.can_run adduser }
-    requires adduser_keeps { KeepsPromise ⟦<Ours as Promise>⟧.code_of ⟦<Ours as Promise>⟧.may
-        ⟦<Ours as Promise>⟧.may_lack (codes "adduser") (B.answers adduser) }
-{
-    let alloc = rt.alloc();
-    let mut store: ProcStore<Ours, B> = ProcStore::new(alloc);
-    let name = Text::from_slice(alloc, b"quiet")?;
-    match store.add(alloc, Proc::new(name, quiet)) {
-        Ok(()) => {}
-        Err(refused) => println!(rt; "quiet: {}", refused.why)?,
-    }
-    let name = Text::from_slice(alloc, b"adduser")?;
-    match store.add(alloc, Proc::new(name, adduser)) {
-        Ok(()) => {}
-        Err(refused) => println!(rt; "adduser: {}", refused.why)?,
-    }
-    let call = message(alloc)?;
-    tell(rt, "quiet", store.call(b"quiet", &call))?;
-    tell(rt, "adduser", store.call(b"adduser", &call))?;
-    tell(rt, "other", store.call(b"other", &call))
-}
-
-// The call of a bind for private messages, as `dave` from someone unknown gives it.
-fn message(alloc: Global) -> Result<Call, NoMemory> {
-    let nick = Text::from_slice(alloc, b"a")?;
-    let address = Text::from_slice(alloc, b"b@c")?;
-    let handle = Text::from_slice(alloc, b"*")?;
-    let text = Text::from_slice(alloc, b"dave")?;
-    let args = Texts::new(vec![in alloc; nick, address, handle, text]?);
-    Ok(Call {
-        kind: Kind::Msg,
-        args,
-    })
-}
-
-// Prints what a proc answered.
-fn tell<R: Print>(
-    rt: &R,
-    name: &str,
-    answer: Result<Reply, CallError>,
-) -> Result<(), anyhow::Error> {
-    match answer {
-        Ok(reply) => println!(rt; "{name} asks for {} changes", reply.actions.len())?,
-        Err(error) => println!(rt; "{name}: {error}")?,
-    }
-    Ok(())
 }
 
 fn main(rt: HostRuntime) -> Result<(), anyhow::Error> {
     let alloc = rt.alloc();
-    let quiet: Body = Box::new(
-        alloc,
-        move |_call: &Call| -> Result<Reply, NoMemory>
-            ensures { IfOk result (λ reply. (reply.code ≡ Zero) × (reply.actions ≡ [])) }
-        {
-            Ok(Reply {
-                code: Code::Zero,
-                actions: Actions::empty(alloc),
-            })
-        },
-    )?;
-    let adduser: Body = Box::new(
+    let welcoming: Body = Box::new(
         alloc,
         move |call: &Call| -> Result<Reply, NoMemory>
-            ensures { IfOk result (λ reply. (reply.code ≡ Zero) × (reply.actions ≡ asked_by_adduser call.now)) }
-        {
-            Ok(Reply {
-                code: Code::Zero,
-                actions: asked_by_adduser(alloc, call)?,
-            })
-        },
+            ensures { IfOk result (λ reply. reply ≡ welcomed call.now) }
+        { welcome(alloc, call) },
     )?;
-    call_each(&rt, quiet, adduser)
+    let hushing: Body = Box::new(
+        alloc,
+        move |_call: &Call| -> Result<Reply, NoMemory>
+            ensures { IfOk result (λ reply. reply ≡ hushed) }
+        { Ok(hush(alloc)) },
+    )?;
+    read_lines(&rt, welcoming, hushing)
+}
+
+// Makes a store of the two procs and a world of one bot, and has it read a few lines.
+fn read_lines<R: Print + AllocGlobal, B: Run>(
+    rt: &R,
+    welcoming: B,
+    hushing: B,
+) -> Result<(), anyhow::Error>
+    requires welcome_runs { B.can_run welcoming }
+    requires welcome_keeps { Keeps (codes "welcome") (B.answers welcoming) }
+    requires hush_runs { B.can_run hushing }
+    requires hush_keeps { Keeps (codes "hush") (B.answers hushing) }
+{
+    let alloc = rt.alloc();
+    let mut store: ProcStore<Ours, B> = ProcStore::new(alloc);
+    let name = Text::from_slice(alloc, b"welcome")?;
+    if let Err(refused) = store.add(alloc, Proc::new(name, welcoming)) {
+        return Err(refused.why.into());
+    }
+    let name = Text::from_slice(alloc, b"hush")?;
+    if let Err(refused) = store.add(alloc, Proc::new(name, hushing)) {
+        return Err(refused.why.into());
+    }
+    let mut world = match World::new(alloc, hub(alloc)?, store) {
+        Ok(world) => world,
+        Err(refused) => return Err(refused.why.into()),
+    };
+    let transcript = world.run(alloc, &steps(alloc)?);
+    for outcome in transcript.outcomes.as_slice() {
+        tell(rt, outcome)?;
+    }
+    let users = world
+        .userfile(0)
+        .map_or(0, |userfile| userfile.user_count());
+    println!(rt; "{users} users")?;
+    Ok(())
+}
+
+// The only bot: the hub of a net without leaves.
+fn hub(alloc: Global) -> Result<Vec<Bot>, anyhow::Error>
+    ensures { IfOk result (λ bots. AllNew bots.items) }
+{
+    let config = Config {
+        number: 0,
+        leaves: 0,
+        nick: Text::from_slice(alloc, b"egg")?,
+        channels: Texts::empty(alloc),
+        exclusive: false,
+        offset: 0,
+    };
+    let hub = Bot::new(alloc, config)?;
+    Ok(vec![in alloc; hub]?)
+}
+
+// Two binds, three lines, and a pump, which does what a proc asked for.
+fn steps(alloc: Global) -> Result<[Step; 6], NoMemory> {
+    Ok([
+        at_hub(bind(alloc, Kind::Msg, b"hello", b"welcome")?),
+        at_hub(bind(alloc, Kind::Pubm, b"% *secret*", b"hush")?),
+        at_hub(line(alloc, b":egg!egg@host JOIN #egg")?),
+        at_hub(line(alloc, b":ann!a@host PRIVMSG egg :hello")?),
+        at_hub(line(alloc, b":ann!a@host PRIVMSG #egg :the secret word")?),
+        at_hub(Event::Pump),
+    ])
+}
+
+fn at_hub(event: Event) -> Step {
+    Step::At { bot: 0, event }
+}
+
+// A bind that anybody may call.
+fn bind(alloc: Global, kind: Kind, mask: &[u8], proc: &[u8]) -> Result<Event, NoMemory> {
+    Ok(Event::Bind(NewBind {
+        kind,
+        flags: Text::from_slice(alloc, b"*")?,
+        mask: Text::from_slice(alloc, mask)?,
+        proc: Text::from_slice(alloc, proc)?,
+    }))
+}
+
+fn line(alloc: Global, text: &[u8]) -> Result<Event, NoMemory> {
+    Ok(Event::Line(read_line(alloc, text)?))
+}
+
+// Prints what a step called.
+fn tell<R: Print>(rt: &R, outcome: &Outcome) -> Result<(), anyhow::Error> {
+    if let Outcome::Report(report) = outcome {
+        let calls = report.calls.len();
+        let logged = report.logged;
+        println!(rt; "{calls} calls, logged {logged}")?;
+    }
+    Ok(())
 }

@@ -1,120 +1,208 @@
--- Commands one after another, and the text that they add.
-use Rattle.std.proofs.Common.{◌≡◌, ℕ, ◌+◌, ◌<◌, ◌≤◌, List, [], ◌∷◌, ◌++◌, length, take, drop, get_or, refl, sym, ap, subst, ◌∙◌, arith, append_assoc}
-use Rattle.std.proofs.Common.{append-nil, Result, Ok, Err, OnOk}
-use Rattle.std.proofs.lemmas.List.{drop_more, drop_all}
+-- Deeds one after another, and the text that they add.
+use Rattle.std.proofs.Common.{◌≡◌, ℕ, ◌+◌, ◌<◌, ◌≤◌, List, [], ◌∷◌, ◌++◌, length, take, map, get_or, refl, sym, ap, subst, ◌∙◌, arith, append_assoc}
+use Rattle.std.proofs.Common.{append-nil, Result, Ok, Err, OnOk, Bool, false, nat_lt}
+use Rattle.std.proofs.lemmas.Bool.Decides.{nat_tests}
+use Rattle.std.proofs.lemmas.List.{take_more, take_all, map-append}
+use Rattle.std.proofs.lemmas.Grind.{flat_map-append}
+use Rattle.procstore.specs.declared.action.Action.{Action}
+use Rattle.procstore.specs.declared.call.Call.{Call}
+use Rattle.procstore.specs.declared.reply.Code.{Code}
 use Rattle.script.specs.declared.command.Command.{Command}
-use Rattle.script.specs.declared.command.Command.TheVariants.{Step as Stepped, Show}
-use Rattle.script.specs.declared.reading.Script.{Script}
-use Rattle.script.specs.Reading.{Spells}
 use Rattle.botworld.specs.declared.outcome.Outcome.{Outcome}
 use Rattle.botworld.specs.declared.step.Step.{Step}
-use Rattle.botworld.specs.Net.{Net, new_net, stepped}
-use Rattle.botworld.specs.Network.{State, IsMade, start}
-use Rattle.botworld.specs.Standing.{Stands, LeadsTo}
-use Rattle.botworld.proofs.Start.{start_stands}
-use Rattle.botworld.proofs.Made.{leads_made, outcomes_from-made, runs_from}
-use Rattle.botworld.specs.Standing.{shown_version, shown_records}
-use Rattle.replay.specs.Text.{outcome_text, shown_text}
-use Rattle.replay.specs.Transcript.{command_text, commands_text, steps_of, IsRun, IsTranscript, transcript_of}
-use Rattle.replay.specs.Doing.{StepDone, CommandDone}
+use Rattle.botworld.specs.Net.{Net}
+use Rattle.botworld.specs.Network.{State, IsMade, AllMade}
+use Rattle.botworld.specs.Standing.{Moment, Past, Run, Stands, LeadsTo, beginning, later, steps_of, outcomes_of}
+use Rattle.replay.specs.Text.{outcome_text}
+use Rattle.replay.specs.Deeds.{Deed, Makes, Shows, command_deeds, deeds_of, steps_in, deeds_text, net_text}
+use Rattle.replay.specs.Doing.{Does, IsDoneFrom}
 
--- a run of one step has one outcome
-pub LeadsTo-one : (s : State) (step : Step) (outcomes : List Outcome) (o : Outcome) (w : Net) → length outcomes ≡ 1 → o ≡ get_or outcomes 0 o
-    → LeadsTo s (take (length outcomes) (step ∷ [])) outcomes w → LeadsTo s (step ∷ []) (o ∷ []) w
-LeadsTo-one s step [] o w one is led = absurd (omega (arith, one))
-LeadsTo-one s step (p ∷ []) o w one is led = subst (λ (q : Outcome). LeadsTo s (step ∷ []) (q ∷ []) w) (sym is) led
-LeadsTo-one s step (p ∷ q ∷ rest) o w one is led = absurd (omega (arith, one))
+-- runs, one after the other -----------------------------------------------------------------------------------------------
 
--- a step that was made, and whose lines were added
-pub StepDone-made : (s : State) (old new : Net) (step : Step) (o : Outcome) (before after : List ℕ) → Stands old s → LeadsTo s (step ∷ []) (o ∷ []) new
-    → IsMade o
-    → after ≡ before ++ outcome_text new.packets o → StepDone old step new before after
-StepDone-made s old new step o before after stands led made added =
-    let one = leads_made s old new step o stands led made in
-    record {
-      moment = led.after;
-      stands = led.stands;
-      moved = one.after;
-      added = added ∙ ap (λ (w : Net). before ++ outcome_text w.packets o) one.after
-          ∙ ap (λ (p : Outcome). before ++ outcome_text (stepped old step).after.packets p) (sym one.outcome);
-    }
+steps_of-append : (xs ys : List Moment) → steps_of (xs ++ ys) ≡ steps_of xs ++ steps_of ys
+steps_of-append [] ys = refl
+steps_of-append (x ∷ xs) ys = ap (λ (l : List Step). x.step ∷ l) (steps_of-append xs ys)
 
-pub CommandDone-step : (old new : Net) (command : Command) (step : Step) (before after : List ℕ) → command ≡ Stepped step → StepDone old step new before after
-    → CommandDone old command new before after
-CommandDone-step old new command step before after e done = subst (λ (c : Command). CommandDone old c new before after) (sym e) stepping
-  where
-    stepping : CommandDone old (Stepped step) new before after
-    stepping = record { moment = done.moment; stands = done.stands; moved = done.moved; added = done.added }
+AllMade-append : (xs ys : List Moment) → AllMade (outcomes_of xs) → AllMade (outcomes_of ys) → AllMade (outcomes_of (xs ++ ys))
+AllMade-append [] ys one two = two
+AllMade-append (x ∷ xs) ys one two = (one.0, AllMade-append xs ys one.1 two)
 
-pub CommandDone-show : (s : State) (w : Net) (command : Command) (bot : ℕ) (before after : List ℕ) → command ≡ Show bot → Stands w s
-    → after ≡ before ++ command_text w (Show bot) → CommandDone w command w before after
-CommandDone-show s w command bot before after e stands added = subst (λ (c : Command). CommandDone w c w before after) (sym e) showing
-  where
-    showing : CommandDone w (Show bot) w before after
-    showing = record { moment = s; stands = stands; moved = refl; added = added }
+-- a run of one step that is not cut has one outcome
+pub uncut-one : (outcomes steps : ℕ) (cut : Bool) → steps ≡ 1 → cut ≡ nat_lt outcomes steps → cut ≡ false → outcomes ≤ steps → outcomes ≡ 1
+uncut-one outcomes steps cut one is uncut most =
+    let test : nat_lt outcomes steps ≡ false = sym is ∙ uncut in grind (arith, nat_tests)
 
--- the commands so far led to a moment that the world stands for, and what is left to print makes the text whole
-pub record SoFar (first : Net) (commands : List Command) (count : ℕ) (w : Net) (before now : List ℕ) : Type 0 where
-  pub moment : State
-  pub stands : Stands w moment
-  pub whole : now ++ commands_text w (drop count commands) ≡ before ++ commands_text first commands
+steps_in-append : (xs ys : List Deed) → steps_in (xs ++ ys) ≡ steps_in xs ++ steps_in ys
+steps_in-append [] ys = refl
+steps_in-append (Makes step ∷ xs) ys = ap (λ (l : List Step). step ∷ l) (steps_in-append xs ys)
+steps_in-append (Shows bot ∷ xs) ys = steps_in-append xs ys
 
-pub SoFar-none : (s : State) (w : Net) (commands : List Command) (text : List ℕ) → Stands w s → SoFar w commands 0 w text text
-SoFar-none s w commands text stands = record { moment = s; stands = stands; whole = refl }
+module _ (code_of : List ℕ → Call → Code) (may : List ℕ → Call → List Action → Type 0) where
+  Run-append : (first mid last : State) (xs ys : List Moment) → Run code_of may first xs mid → Run code_of may mid ys last
+      → Run code_of may first (xs ++ ys) last
+  Run-append first mid last [] ys one two = subst (λ (s : State). Run code_of may s ys last) one two
+  Run-append first mid last (x ∷ xs) ys one two = (one.0, one.1, Run-append x.after mid last xs ys one.2 two)
 
-pub SoFar-more : (first w new : Net) (commands : List Command) (i : ℕ) (command : Command) (before now after : List ℕ) → i < length commands
-    → command ≡ get_or commands i command
-    → SoFar first commands i w before now → ((s : State) → Stands w s → CommandDone w command new now after) → SoFar first commands (i + 1) new before after
-SoFar-more first w new commands i command before now after within is so_far next =
-    let done = next so_far.moment so_far.stands in
-    let rest = drop (i + 1) commands in
-    let here : drop i commands ≡ command ∷ rest = drop_more commands i command within ∙ ap (λ (c : Command). c ∷ rest) (sym is) in
-    record {
-      moment = done.moment;
-      stands = done.stands;
-      whole = ap (λ t. t ++ commands_text new rest) done.added
-          ∙ append_assoc now (command_text w command) (commands_text new rest)
-          ∙ ap (λ (v : Net). now ++ (command_text w command ++ commands_text v rest)) done.moved
-          ∙ ap (λ (cs : List Command). now ++ commands_text w cs) (sym here)
-          ∙ so_far.whole;
-    }
+  -- the text goes on where the run left off
+  deeds_text-append : (s last : State) (ds es : List Deed) (ms ns : List Moment) → Run code_of may s ms last → steps_of ms ≡ steps_in ds
+      → deeds_text s (ds ++ es) (ms ++ ns) ≡ deeds_text s ds ms ++ deeds_text last es ns
+  deeds_text-append s last [] es [] ns run same = ap (λ (t : State). deeds_text t es ns) (sym run)
+  deeds_text-append s last [] es (m ∷ ms) ns run same = cc
+  deeds_text-append s last (Shows bot ∷ ds) es ms ns run same =
+      ap (λ (t : List ℕ). net_text s.net bot ++ t) (deeds_text-append s last ds es ms ns run same)
+      ∙ sym (append_assoc (net_text s.net bot) (deeds_text s ds ms) (deeds_text last es ns))
+  deeds_text-append s last (Makes step ∷ ds) es [] ns run same = cc
+  deeds_text-append s last (Makes step ∷ ds) es (m ∷ ms) ns run same =
+      let rest : steps_of ms ≡ steps_in ds = cc in
+      ap (λ (t : List ℕ). outcome_text m.after.net.packets m.outcome ++ t) (deeds_text-append m.after last ds es ms ns run.2 rest)
+      ∙ sym (append_assoc (outcome_text m.after.net.packets m.outcome) (deeds_text m.after ds ms) (deeds_text last es ns))
 
-pub SoFar-all : (first w : Net) (commands : List Command) (count : ℕ) (before now : List ℕ) → length commands ≤ count
-    → SoFar first commands count w before now → now ≡ before ++ commands_text first commands
-SoFar-all first w commands count before now end so_far =
-    sym (append-nil now) ∙ ap (λ (cs : List Command). now ++ commands_text w cs) (sym (drop_all count commands end)) ∙ so_far.whole
+  -- deeds -------------------------------------------------------------------------------------------------------------------
 
--- the steps of a script are a run, and no step of it ended for want of memory
-pub is_run : (script : Script) → IsRun script
-is_run script =
-    let ran = runs_from (start script.leaves) (new_net script.leaves) (steps_of script.commands) (start_stands script.leaves) in
-    record { last = ran.0; run = ran.1; made = outcomes_from-made (new_net script.leaves) (steps_of script.commands) }
+  unmoved : (past : Past) (w : Net) → Stands code_of may w past → Stands code_of may w (later past [] past.now)
+  unmoved past w stands =
+      subst (λ (h : List Moment). Stands code_of may w (record { first = past.first; history = h; now = past.now })) (sym (append-nil past.history)) stands
 
-pub IsTranscript-of : (bytes text : List ℕ) (script : Script) → Spells bytes script → text ≡ transcript_of script → IsTranscript bytes text
-IsTranscript-of bytes text script spells is = record { script = script; spells = spells; is = is; run = is_run script }
+  pub Does-none : (past : Past) (w : Net) (text : List ℕ) → Stands code_of may w past → Does code_of may past [] w text text
+  Does-none past w text stands = record {
+    moments = [];
+    last = past.now;
+    run = refl;
+    steps = refl;
+    made = tt;
+    added = sym (append-nil text);
+    stands = unmoved past w stands;
+  }
 
--- the same of what calls answer -------------------------------------------------------------------------------------------
+  pub Does-more : (past : Past) (ds es : List Deed) (w v : Net) (before mid after : List ℕ) → Does code_of may past ds w before mid
+      → ((p : Past) → Stands code_of may w p → Does code_of may p es v mid after) → Does code_of may past (ds ++ es) v before after
+  Does-more past ds es w v before mid after one next =
+      let two = next (later past one.moments one.last) one.stands in
+      record {
+        moments = one.moments ++ two.moments;
+        last = two.last;
+        run = Run-append past.now one.last two.last one.moments two.moments one.run two.run;
+        steps = steps_of-append one.moments two.moments ∙ ap (λ (l : List Step). l ++ steps_of two.moments) one.steps
+            ∙ ap (λ (l : List Step). steps_in ds ++ l) two.steps ∙ sym (steps_in-append ds es);
+        made = AllMade-append one.moments two.moments one.made two.made;
+        added = two.added ∙ ap (λ (t : List ℕ). t ++ deeds_text one.last es two.moments) one.added
+            ∙ append_assoc before (deeds_text past.now ds one.moments) (deeds_text one.last es two.moments)
+            ∙ ap (λ (t : List ℕ). before ++ t) (sym (deeds_text-append past.now one.last ds es one.moments two.moments one.run one.steps));
+        stands = subst (λ (h : List Moment). Stands code_of may v (record { first = past.first; history = h; now = two.last }))
+            (append_assoc past.history one.moments two.moments) two.stands;
+      }
 
-pub outcome_put : {T E : Type 0} (r : Result T E) (old new : Net) (step : Step) (o : Outcome) (before after : List ℕ)
-    → ((s : State) → Stands old s → LeadsTo s (step ∷ []) (o ∷ []) new)
-    → OnOk r (IsMade o) → OnOk r (after ≡ before ++ outcome_text new.packets o) → OnOk r ((s : State) → Stands old s → StepDone old step new before after)
-outcome_put (Ok u) old new step o before after led made added = λ s stands. StepDone-made s old new step o before after stands (led s stands) made added
-outcome_put (Err e) old new step o before after led made added = tt
+  -- a step that was made, and whose lines were added
+  step_does : (past : Past) (w : Net) (step : Step) (o : Outcome) (before after : List ℕ) (moments : List Moment) (last : State)
+      → steps_of moments ≡ step ∷ [] → outcomes_of moments ≡ o ∷ [] → Run code_of may past.now moments last
+      → Stands code_of may w (later past moments last) → IsMade o → after ≡ before ++ outcome_text w.packets o
+      → Does code_of may past (Makes step ∷ []) w before after
+  step_does past w step o before after [] last steps outcomes run stands made added = cc
+  step_does past w step o before after (m ∷ n ∷ rest) last steps outcomes run stands made added = cc
+  step_does past w step o before after (m ∷ []) last steps outcomes run stands made added =
+      let same : m.outcome ≡ o = cc in
+      let there : w ≡ m.after.net = stands.net ∙ ap (λ (s : State). s.net) run.2 in
+      record {
+        moments = m ∷ [];
+        last = last;
+        run = run;
+        steps = steps;
+        made = (subst IsMade (sym same) made, tt);
+        added = added ∙ ap (λ (v : Net). before ++ outcome_text v.packets o) there
+            ∙ ap (λ (p : Outcome). before ++ outcome_text m.after.net.packets p) (sym same)
+            ∙ ap (λ (t : List ℕ). before ++ t) (sym (append-nil (outcome_text m.after.net.packets m.outcome)));
+        stands = stands;
+      }
 
-pub step_put : {T E : Type 0} (r : Result T E) (old new : Net) (command : Command) (step : Step) (before after : List ℕ) → command ≡ Stepped step
-    → OnOk r ((s : State) → Stands old s → StepDone old step new before after) → OnOk r ((s : State) → Stands old s → CommandDone old command new before after)
-step_put (Ok u) old new command step before after e done = λ s stands. CommandDone-step old new command step before after e (done s stands)
-step_put (Err x) old new command step before after e done = tt
+  -- a bot that is shown
+  show_does : (past : Past) (w : Net) (bot : ℕ) (before after : List ℕ) → Stands code_of may w past → after ≡ before ++ net_text w bot
+      → Does code_of may past (Shows bot ∷ []) w before after
+  show_does past w bot before after stands added =
+      record {
+        moments = [];
+        last = past.now;
+        run = refl;
+        steps = refl;
+        made = tt;
+        added = added ∙ ap (λ (v : Net). before ++ net_text v bot) stands.net ∙ ap (λ (t : List ℕ). before ++ t) (sym (append-nil (net_text past.now.net bot)));
+        stands = unmoved past w stands;
+      }
 
-pub show_put : {T E : Type 0} (r : Result T E) (w : Net) (command : Command) (bot : ℕ) (before after : List ℕ) → command ≡ Show bot
-    → OnOk r (after ≡ before ++ shown_text bot (shown_version w bot) (shown_records w bot))
-    → OnOk r ((s : State) → Stands w s → CommandDone w command w before after)
-show_put (Ok u) w command bot before after e added = λ s stands. CommandDone-show s w command bot before after e stands added
-show_put (Err x) w command bot before after e added = tt
+  -- the same of what calls answer -------------------------------------------------------------------------------------------
 
--- the text of all commands from a new net on
-pub text_whole : (leaves : ℕ) (w : Net) (given commands : List Command) (before text : List ℕ) → before ≡ [] → w ≡ new_net leaves → given ≡ commands
-    → text ≡ before ++ commands_text w given → text ≡ commands_text (new_net leaves) commands
-text_whole leaves w given commands before text none new same is =
-    is ∙ ap (λ b. b ++ commands_text w given) none ∙ ap (λ (v : Net). commands_text v given) new
-    ∙ ap (λ (cs : List Command). commands_text (new_net leaves) cs) same
+  pub show_put : {E : Type 0} (r : Result Unit E) (w : Net) (bot : ℕ) (before after : List ℕ) → OnOk r (after ≡ before ++ net_text w bot)
+      → OnOk r ((past : Past) → Stands code_of may w past → Does code_of may past (Shows bot ∷ []) w before after)
+  show_put (Ok u) w bot before after added = λ past stands. show_does past w bot before after stands added
+  show_put (Err e) w bot before after added = tt
+
+  -- one outcome of one step, whose lines were put
+  LeadsTo-one : (past : Past) (w : Net) (step : Step) (o : Outcome) (outcomes : List Outcome) (before after : List ℕ) → length outcomes ≡ 1
+      → o ≡ get_or outcomes 0 o → LeadsTo code_of may past (take (length outcomes) (step ∷ [])) outcomes w → IsMade o
+      → after ≡ before ++ outcome_text w.packets o → Does code_of may past (Makes step ∷ []) w before after
+  LeadsTo-one past w step o [] before after one is led made added = absurd (omega (arith, one))
+  LeadsTo-one past w step o (p ∷ q ∷ rest) before after one is led made added = absurd (omega (arith, one))
+  LeadsTo-one past w step o (p ∷ []) before after one is led made added =
+      step_does past w step o before after led.moments led.after led.steps_are (led.outcomes_are ∙ ap (λ (x : Outcome). x ∷ []) (sym is)) led.run led.stands
+      made added
+
+  pub outcome_put : {E : Type 0} (r : Result Unit E) (old new : Net) (step : Step) (steps : List Step) (o : Outcome) (outcomes : List Outcome)
+      (before after : List ℕ)
+      → steps ≡ step ∷ [] → length outcomes ≡ 1 → o ≡ get_or outcomes 0 o
+      → ((past : Past) → Stands code_of may old past → LeadsTo code_of may past (take (length outcomes) steps) outcomes new)
+      → OnOk r (IsMade o) → OnOk r (after ≡ before ++ outcome_text new.packets o)
+      → OnOk r ((past : Past) → Stands code_of may old past → Does code_of may past (Makes step ∷ []) new before after)
+  outcome_put (Ok u) old new step steps o outcomes before after only one is led made added = λ past stands.
+      LeadsTo-one past new step o outcomes before after one is
+      (subst (λ (l : List Step). LeadsTo code_of may past (take (length outcomes) l) outcomes new) only (led past stands)) made added
+  outcome_put (Err e) old new step steps o outcomes before after only one is led made added = tt
+
+  -- one more step of a list, and one more command
+  pub Does-step : (past : Past) (steps : List Step) (i : ℕ) (step : Step) (w v : Net) (before mid after : List ℕ) → i < length steps → step ≡ get_or steps i step
+      → Does code_of may past (map Makes (take i steps)) w before mid
+      → ((p : Past) → Stands code_of may w p → Does code_of may p (Makes step ∷ []) v mid after)
+      → Does code_of may past (map Makes (take (i + 1) steps)) v before after
+  Does-step past steps i step w v before mid after within is one next =
+      let front : take (i + 1) steps ≡ take i steps ++ step ∷ [] =
+      take_more steps i step within ∙ ap (λ (s : Step). take i steps ++ s ∷ []) (sym is) in
+      let same : map Makes (take (i + 1) steps) ≡ map Makes (take i steps) ++ Makes step ∷ [] =
+      ap (map Makes) front ∙ map-append Makes (take i steps) (step ∷ []) in
+      subst (λ (ds : List Deed). Does code_of may past ds v before after) (sym same)
+      (Does-more past (map Makes (take i steps)) (Makes step ∷ []) w v before mid after one next)
+
+  pub Does-command : (past : Past) (commands : List Command) (i : ℕ) (command : Command) (w v : Net) (before mid after : List ℕ) → i < length commands
+      → command ≡ get_or commands i command
+      → Does code_of may past (deeds_of (take i commands)) w before mid
+      → ((p : Past) → Stands code_of may w p → Does code_of may p (command_deeds command) v mid after)
+      → Does code_of may past (deeds_of (take (i + 1) commands)) v before after
+  Does-command past commands i command w v before mid after within is one next =
+      let front : take (i + 1) commands ≡ take i commands ++ command ∷ [] =
+      take_more commands i command within ∙ ap (λ (c : Command). take i commands ++ c ∷ []) (sym is) in
+      let same : deeds_of (take (i + 1) commands) ≡ deeds_of (take i commands) ++ command_deeds command =
+      ap deeds_of front ∙ flat_map-append command_deeds (take i commands) (command ∷ [])
+      ∙ ap (λ (ds : List Deed). deeds_of (take i commands) ++ ds) (append-nil (command_deeds command)) in
+      subst (λ (ds : List Deed). Does code_of may past ds v before after) (sym same)
+      (Does-more past (deeds_of (take i commands)) (command_deeds command) w v before mid after one next)
+
+  -- and all of them
+  pub Does-steps : (past : Past) (steps : List Step) (count : ℕ) (w : Net) (before after : List ℕ) → length steps ≤ count
+      → Does code_of may past (map Makes (take count steps)) w before after → Does code_of may past (map Makes steps) w before after
+  Does-steps past steps count w before after all does =
+      subst (λ (l : List Step). Does code_of may past (map Makes l) w before after) (take_all count steps all) does
+
+  pub Does-commands : (past : Past) (commands : List Command) (count : ℕ) (w : Net) (before after : List ℕ) → length commands ≤ count
+      → Does code_of may past (deeds_of (take count commands)) w before after → Does code_of may past (deeds_of commands) w before after
+  Does-commands past commands count w before after all does =
+      subst (λ (l : List Command). Does code_of may past (deeds_of l) w before after) (take_all count commands all) does
+
+  -- the text of deeds from the first moment on
+  pub Does-first : (s : State) (given commands : List Command) (w : Net) (before text : List ℕ) → before ≡ [] → given ≡ commands
+      → Does code_of may (beginning s) (deeds_of given) w before text → IsDoneFrom code_of may s (deeds_of commands) text
+  Does-first s given commands w before text none same does =
+      subst (λ (l : List Command). IsDoneFrom code_of may s (deeds_of l) text) same (record {
+        moments = does.moments;
+        last = does.last;
+        run = does.run;
+        steps = does.steps;
+        made = does.made;
+        tells = does.added ∙ ap (λ (b : List ℕ). b ++ deeds_text s (deeds_of given) does.moments) none;
+      })

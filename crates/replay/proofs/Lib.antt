@@ -1,3 +1,4 @@
 pub mod Lines
 pub mod Doings
+pub mod Startings
 pub mod Endings

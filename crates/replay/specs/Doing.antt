@@ -1,23 +1,32 @@
--- How a world and a text stand to a command that was done.
+-- How a world and a text stand to deeds that were done.
 use Rattle.std.specs.Prelude.{◌≡◌, ℕ, List, ◌++◌}
-use Rattle.script.specs.declared.command.Command.{Command}
-use Rattle.botworld.specs.declared.step.Step.{Step}
-use Rattle.botworld.specs.Net.{Net, stepped}
-use Rattle.botworld.specs.Network.{State}
-use Rattle.botworld.specs.Standing.{Stands}
-use Rattle.replay.specs.Text.{outcome_text}
-use Rattle.replay.specs.Transcript.{command_text, after_command}
+use Rattle.procstore.specs.declared.action.Action.{Action}
+use Rattle.procstore.specs.declared.call.Call.{Call}
+use Rattle.procstore.specs.declared.reply.Code.{Code}
+use Rattle.botworld.specs.Net.{Net}
+use Rattle.botworld.specs.Network.{State, AllMade}
+use Rattle.botworld.specs.Standing.{Moment, Past, Run, Stands, later, steps_of, outcomes_of}
+use Rattle.replay.specs.Deeds.{Deed, steps_in, deeds_text}
 
--- the world is as after the step, at a moment of the network, and what the step prints was added
-pub record StepDone (old : Net) (step : Step) (new : Net) (before after : List ℕ) : Type 0 where
-  pub moment : State
-  pub stands : Stands new moment
-  pub moved : new ≡ (stepped old step).after
-  pub added : after ≡ before ++ outcome_text (stepped old step).after.packets (stepped old step).outcome
+-- From a past of the world, its next steps were just those of the deeds, none of them ended for want of memory, and what
+-- the deeds print was added to the text.
+pub record Does (code_of : List ℕ → Call → Code) (may : List ℕ → Call → List Action → Type 0)
+    (past : Past) (deeds : List Deed) (w : Net) (before after : List ℕ) : Type 0 where
+  pub moments : List Moment
+  pub last : State
+  pub run : Run code_of may past.now moments last
+  pub steps : steps_of moments ≡ steps_in deeds
+  pub made : AllMade (outcomes_of moments)
+  pub added : after ≡ before ++ deeds_text past.now deeds moments
+  pub stands : Stands code_of may w (later past moments last)
 
--- the same of a command
-pub record CommandDone (old : Net) (command : Command) (new : Net) (before after : List ℕ) : Type 0 where
-  pub moment : State
-  pub stands : Stands new moment
-  pub moved : new ≡ after_command old command
-  pub added : after ≡ before ++ command_text old command
+-- The text tells the deeds, from a first moment on: a run of the network of just their steps, of which none ended for
+-- want of memory.
+pub record IsDoneFrom (code_of : List ℕ → Call → Code) (may : List ℕ → Call → List Action → Type 0)
+    (first : State) (deeds : List Deed) (text : List ℕ) : Type 0 where
+  pub moments : List Moment
+  pub last : State
+  pub run : Run code_of may first moments last
+  pub steps : steps_of moments ≡ steps_in deeds
+  pub made : AllMade (outcomes_of moments)
+  pub tells : text ≡ deeds_text first deeds moments

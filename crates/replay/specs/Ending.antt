@@ -1,6 +1,9 @@
 -- What a replay reads, writes and answers.
 use Rattle.std.specs.Prelude.{◌≡◌, ℕ, List, take, Option, Result, Ok, Err}
 use Rattle.std.specs.Io.KnownBytes.{Keeps, Appends}
+use Rattle.procstore.specs.declared.action.Action.{Action}
+use Rattle.procstore.specs.declared.call.Call.{Call}
+use Rattle.procstore.specs.declared.reply.Code.{Code}
 use Rattle.script.specs.Reading.{HasFault}
 use Rattle.replay.specs.declared.error.ReplayError.{ReplayError}
 use Rattle.replay.specs.declared.error.ReplayError.TheVariants.{Script as script_fault, Read, Write, NoMemory}
@@ -11,20 +14,23 @@ abbrev pub AppendsFront : Option (List ℕ) → Option (List ℕ) → List ℕ �
 AppendsFront old new text = (n : ℕ) × Appends old new (take n text)
 
 -- the transcript of what was read was written, and nothing else
-abbrev pub WritesTranscript : List ℕ → Option (List ℕ) → Option (List ℕ) → Type 0
-WritesTranscript input old new = (text : List ℕ) × IsTranscript input text × Appends old new text
+abbrev pub WritesTranscript : (List ℕ → Call → Code) → (List ℕ → Call → List Action → Type 0) → List (List ℕ)
+    → List ℕ → Option (List ℕ) → Option (List ℕ) → Type 0
+WritesTranscript code_of may names input old new = (text : List ℕ) × IsTranscript code_of may names input text × Appends old new text
 
 -- a front of it was written, and nothing else
-abbrev pub WritesFront : List ℕ → Option (List ℕ) → Option (List ℕ) → Type 0
-WritesFront input old new = (text : List ℕ) × IsTranscript input text × AppendsFront old new text
+abbrev pub WritesFront : (List ℕ → Call → Code) → (List ℕ → Call → List Action → Type 0) → List (List ℕ)
+    → List ℕ → Option (List ℕ) → Option (List ℕ) → Type 0
+WritesFront code_of may names input old new = (text : List ℕ) × IsTranscript code_of may names input text × AppendsFront old new text
 
 -- what an answer means for the bytes that were read, and for what the writer held before and after
-abbrev pub Ends : List ℕ → Result Unit ReplayError → Option (List ℕ) → Option (List ℕ) → Type 0
-Ends input (Ok _) old new = WritesTranscript input old new
-Ends input (Err (script_fault fault)) old new = HasFault input fault.line × Keeps old new
-Ends input (Err Read) old new = Keeps old new
-Ends input (Err Write) old new = WritesFront input old new
-Ends input (Err NoMemory) old new = Keeps old new
+abbrev pub Ends : (List ℕ → Call → Code) → (List ℕ → Call → List Action → Type 0) → List (List ℕ)
+    → List ℕ → Result Unit ReplayError → Option (List ℕ) → Option (List ℕ) → Type 0
+Ends code_of may names input (Ok _) old new = WritesTranscript code_of may names input old new
+Ends code_of may names input (Err (script_fault fault)) old new = HasFault input fault.line × Keeps old new
+Ends code_of may names input (Err Read) old new = Keeps old new
+Ends code_of may names input (Err Write) old new = WritesFront code_of may names input old new
+Ends code_of may names input (Err NoMemory) old new = Keeps old new
 
 -- a script with a fault is answered with the line of the fault, unless reading fails or memory runs out before it is seen
 abbrev pub TellsLine : ℕ → Result Unit ReplayError → Type 0

@@ -1,5 +1,7 @@
 pub mod Text
 pub mod Users
-pub mod Transcript
+pub mod Deeds
+pub mod Starting
 pub mod Doing
+pub mod Transcript
 pub mod Ending

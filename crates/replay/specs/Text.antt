@@ -2,40 +2,74 @@
 use Rattle.std.specs.Prelude.{ℕ, zero, suc, ◌+◌, List, [], ◌∷◌, ◌++◌, length, Option, None, Some, codes, decimal}
 use Rattle.std.specs.List.{flat_map}
 use Rattle.flagexpr.specs.Letters.{spelling}
+use Rattle.ircline.specs.Codes.{code_of as line_code}
 use Rattle.userfile.specs.Records.{Records}
 use Rattle.userfile.specs.Codes.{fault_code}
 use Rattle.userfile.specs.declared.user.User.{User}
 use Rattle.userfile.specs.declared.channel_flags.ChannelFlags.{ChannelFlags}
 use Rattle.userfile.specs.declared.ban.Ban.{Ban}
+use Rattle.procstore.specs.declared.reply.Code.{Code}
+use Rattle.procstore.specs.declared.reply.Code.TheVariants.{Zero, One}
 use Rattle.sharelink.specs.Codes.{link_code}
-use Rattle.sharelink.specs.declared.answer.Note.{Note}
+use Rattle.sharelink.specs.declared.answer.Note.{Note as LinkNote}
 use Rattle.sharelink.specs.declared.answer.Note.TheVariants.{Queued, Idle, Accepted, Refused, Served, Old, Early, Applied, Stray}
 use Rattle.sharewire.specs.declared.packet.Packet.{Packet}
 use Rattle.sharewire.specs.declared.packet.Packet.TheVariants.{Hello, Change as change_packet, Request, Accepted as accepted_packet, Refused as refused_packet, BotText}
+use Rattle.botcore.specs.Codes.{refusal_code}
+use Rattle.botcore.specs.declared.fault.Fault.{Fault}
+use Rattle.botcore.specs.declared.fault.Fault.TheVariants.{Unbound as unbound_fault, Action as action_fault}
+use Rattle.botcore.specs.declared.made_call.MadeCall.{MadeCall}
+use Rattle.botcore.specs.declared.report.End.{End}
+use Rattle.botcore.specs.declared.report.End.TheVariants.{Done as ended, Refused as ended_refused, NoMemory as ended_no_memory}
+use Rattle.botcore.specs.declared.report.Note.{Note}
+use Rattle.botcore.specs.declared.report.Note.TheVariants.{Link as link_note, Bound, Unbound, Bad}
 use Rattle.botworld.specs.declared.sent.Sent.{Sent}
-use Rattle.botworld.specs.declared.outcome.End.{End}
-use Rattle.botworld.specs.declared.outcome.End.TheVariants.{Note as ended, Refused as ended_refused, NoMemory as ended_no_memory}
 use Rattle.botworld.specs.declared.outcome.Outcome.{Outcome}
 use Rattle.botworld.specs.declared.outcome.Outcome.TheVariants.{Report as reported, NoSuchBot, NoSuchPacket}
+use Rattle.botworld.specs.declared.outcome.Report.{Report}
 use Rattle.botworld.specs.Net.{packet_at}
 
--- a note, and its number or letters where it has one
-abbrev pub note_text : Note → List ℕ
-note_text Queued = codes "Queued"
-note_text Idle = codes "Idle"
-note_text (Accepted number) = codes "Accepted " ++ decimal number
-note_text (Refused fault) = codes "Refused " ++ fault_code fault
-note_text (Served count) = codes "Served " ++ decimal count
-note_text Old = codes "Old"
-note_text Early = codes "Early"
-note_text (Applied number) = codes "Applied " ++ decimal number
-note_text Stray = codes "Stray"
+-- call B PROC CODE
+abbrev pub code_text : Code → List ℕ
+code_text Zero = codes " 0" ++ 10 ∷ []
+code_text One = codes " 1" ++ 10 ∷ []
+
+abbrev pub call_line : ℕ → MadeCall → List ℕ
+call_line bot made = codes "call " ++ decimal bot ++ codes " " ++ made.proc ++ code_text made.reply.code
+
+-- fault B NAME, the name being the code of a refused action, or that a proc is missing
+abbrev pub fault_text : Fault → List ℕ
+fault_text (unbound_fault unbound) = codes "Unbound " ++ unbound.proc
+fault_text (action_fault fault) = link_code fault
+
+abbrev pub fault_line : ℕ → Fault → List ℕ
+fault_line bot fault = codes "fault " ++ decimal bot ++ codes " " ++ fault_text fault ++ 10 ∷ []
+
+-- the note of a call of the link, and its number or letters where it has one
+abbrev pub link_note_text : LinkNote → List ℕ
+link_note_text Queued = codes "Queued"
+link_note_text Idle = codes "Idle"
+link_note_text (Accepted number) = codes "Accepted " ++ decimal number
+link_note_text (Refused fault) = codes "Refused " ++ fault_code fault
+link_note_text (Served count) = codes "Served " ++ decimal count
+link_note_text Old = codes "Old"
+link_note_text Early = codes "Early"
+link_note_text (Applied number) = codes "Applied " ++ decimal number
+link_note_text Stray = codes "Stray"
+
+-- any note; a step that is done without one is just done
+abbrev pub note_text : Option Note → List ℕ
+note_text None = codes "Done"
+note_text (Some (link_note note)) = link_note_text note
+note_text (Some (Bound number)) = codes "Bound " ++ decimal number
+note_text (Some (Unbound number)) = codes "Unbound " ++ decimal number
+note_text (Some (Bad fault)) = codes "Bad " ++ line_code fault
 
 -- B NOTE, or B refused CODE; a step that wants memory has no line
-abbrev pub end_line : ℕ → End → List ℕ
-end_line bot (ended note) = decimal bot ++ codes " " ++ note_text note ++ 10 ∷ []
-end_line bot (ended_refused fault) = decimal bot ++ codes " refused " ++ link_code fault ++ 10 ∷ []
-end_line bot ended_no_memory = []
+abbrev pub end_line : ℕ → End → Option Note → List ℕ
+end_line bot ended told = decimal bot ++ codes " " ++ note_text told ++ 10 ∷ []
+end_line bot (ended_refused refusal) told = decimal bot ++ codes " refused " ++ refusal_code refusal ++ 10 ∷ []
+end_line bot ended_no_memory told = []
 
 -- KIND DETAIL
 abbrev pub packet_text : Packet → List ℕ
@@ -60,9 +94,14 @@ abbrev pub sent_lines : List Sent → ℕ → ℕ → List ℕ
 sent_lines packets number zero = []
 sent_lines packets number (suc count) = found_line number (packet_at packets number) ++ sent_lines packets (number + 1) count
 
--- a step's packets and how it ended, with all packets sent so far
+-- a bot's part in a step, with all packets sent so far: its calls, the packets that it sent, its faults, and how it ended
+abbrev pub report_text : List Sent → Report → List ℕ
+report_text packets report =
+    flat_map (call_line report.bot) report.calls ++ sent_lines packets report.first report.count ++ flat_map (fault_line report.bot) report.faults
+    ++ end_line report.bot report.end report.note
+
 abbrev pub outcome_text : List Sent → Outcome → List ℕ
-outcome_text packets (reported report) = sent_lines packets report.first report.count ++ end_line report.bot report.end
+outcome_text packets (reported report) = report_text packets report
 outcome_text packets NoSuchBot = codes "world O2" ++ 10 ∷ []
 outcome_text packets NoSuchPacket = codes "world O3" ++ 10 ∷ []
 

@@ -19,3 +19,12 @@ pub fn put_number(out: &mut Vec<u8>, number: u64) -> Result<(), NoMemory>
     let mut buffer = Buffer::new();
     put(out, buffer.format(number).as_bytes())
 }
+
+/// Adds a word and a number.
+#[tactic(auto, using(std::proofs::Common::append_assoc))]
+pub fn put_counted(out: &mut Vec<u8>, word: &[u8], number: u64) -> Result<(), NoMemory>
+    ensures { OnOk result (out.new.items ≡ out.old.items ++ (word.now ++ decimal number)) }
+{
+    put(out, word)?;
+    put_number(out, number)
+}

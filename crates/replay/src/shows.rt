@@ -2,7 +2,7 @@
 ghost use Rattle.std.specs.Prelude.{◌≡◌, ◌++◌, OnOk};
 ghost use Rattle.std.specs.List.{flat_map};
 ghost use Rattle.std.specs.Option.{option_copied};
-ghost use Rattle.botworld.specs.Standing.{shown_version, shown_records};
+ghost use Rattle.replay.specs.Deeds.{net_text};
 ghost use Rattle.replay.specs.Text.{shown_text, version_line, user_lines, ban_line};
 ghost use Rattle.replay.specs.Users.{found_ban, found_user};
 
@@ -10,19 +10,34 @@ use crate::print::{put, put_number};
 use crate::records::{put_ban, put_user};
 use botworld::World;
 use bytetext::NoMemory;
+use procstore::{Promise, Run};
 use std::alloc::Global;
 use userfile::{Ban, User, Userfile};
 
 /// Adds a bot's version, users and bans, or that there is no such bot.
-#[tactic(auto, using(std::proofs::Common::append_assoc))]
-pub fn put_shown(alloc: Global, out: &mut Vec<u8>, world: &World, bot: u16) -> Result<(), NoMemory>
-    ensures { OnOk result (out.new.items ≡ out.old.items ++ shown_text bot (shown_version world.now bot)
-        (shown_records world.now bot)) }
+pub fn put_shown<P: Promise, B: Run>(
+    alloc: Global,
+    out: &mut Vec<u8>,
+    world: &World<P, B>,
+    bot: u16,
+) -> Result<(), NoMemory>
+    ensures { OnOk result (out.new.items ≡ out.old.items ++ net_text world.now bot) }
 {
-    let Some(version) = world.version(bot) else {
-        return put(out, b"world O2\n");
-    };
-    let Some(userfile) = world.userfile(bot) else {
+    put_records(alloc, out, bot, world.version(bot), world.userfile(bot))
+}
+
+// The same of what the world shows.
+#[tactic(auto, using(std::proofs::Common::append_assoc))]
+fn put_records(
+    alloc: Global,
+    out: &mut Vec<u8>,
+    bot: u16,
+    version: Option<u32>,
+    userfile: Option<&Userfile>,
+) -> Result<(), NoMemory>
+    ensures { OnOk result (out.new.items ≡ out.old.items ++ shown_text bot version (option_copied userfile.entry)) }
+{
+    let (Some(version), Some(userfile)) = (version, userfile) else {
         return put(out, b"world O2\n");
     };
     put_version(

@@ -1,64 +1,71 @@
 // From a script's bytes to its transcript.
-ghost use Rattle.std.specs.Prelude.{◌≡◌, ◌<◌, ◌≤◌, [], ◌∷◌, ◌++◌, ℕ, Err, length, IfOk, OnOk};
+ghost use Rattle.std.specs.Prelude.{◌≡◌, ◌<◌, ◌≤◌, [], ◌∷◌, ◌++◌, ℕ, Err, length, map, IfOk, OnOk};
 ghost use Rattle.script.specs.Reading.{HasFault};
 ghost use Rattle.script.specs.declared.TheConstants.{MAX_SCRIPT};
-ghost use Rattle.botworld.specs.Network.{State};
-ghost use Rattle.botworld.specs.Standing.{Stands, LeadsTo};
-ghost use Rattle.replay.specs.Transcript.{IsTranscript, IsRefusedRightly, TellsFault, commands_text, transcript_of};
-ghost use Rattle.replay.specs.Doing.{CommandDone, StepDone};
+ghost use Rattle.sharelink.specs.declared.TheConstants.{MAX_LEAVES};
+ghost use Rattle.botworld.specs.Standing.{Past, Stands};
+ghost use Rattle.replay.specs.Deeds.{Shows, Makes, command_deeds, deeds_of};
+ghost use Rattle.replay.specs.Doing.{Does, IsDoneFrom};
+ghost use Rattle.replay.specs.Starting.{first_state};
+ghost use Rattle.replay.specs.Transcript.{IsTranscript, IsRefusedRightly, TellsFault};
 
 use crate::outcomes::put_outcome;
 use crate::shows::put_shown;
-use botworld::{Outcome, Step, World, WorldError};
+use crate::starting::new_world;
+use botworld::{Step, World};
 use bytetext::{Failure, NoMemory};
+use procstore::{ProcStore, Promise, Run};
 use script::{Command, Script, ScriptError};
-use sharelink::MAX_LEAVES;
 use std::alloc::Global;
 use std::slice;
 
-/// The whole transcript of the script that these bytes spell.
+/// The whole transcript of the script that these bytes spell, where its binds call the procs of this store.
 ///
 /// # Errors
 /// `Refused` with the first line that breaks a rule; `NoMemory` where a growth is refused. Neither gives a part of the
 /// transcript. A script that is too long needs no memory to be refused.
-pub fn transcript(alloc: Global, script: &[u8]) -> Result<Vec<u8>, ScriptError>
-    ensures whole { IfOk result (λ text. IsTranscript script.now text.items) }
+pub fn transcript<P: Promise, B: Run>(
+    alloc: Global,
+    store: ProcStore<P, B>,
+    script: &[u8],
+) -> Result<Vec<u8>, ScriptError>
+    ensures whole { IfOk result (λ text. IsTranscript P.code_of P.may store script.now text.items) }
     ensures refused { IsRefusedRightly script.now result }
     // A script with a fault is answered with its first faulty line, unless memory runs out before that is seen.
     ensures faulty { (line : ℕ) → HasFault script.now line → TellsFault line result }
     ensures too_long { MAX_SCRIPT < length script.now → result ≡ Err (Failure.Refused (record { line = 0 })) }
 {
     match Script::read(alloc, script) {
-        Ok(script) => Ok(text_of(alloc, &script)?),
+        Ok(script) => Ok(text_of(alloc, store, &script)?),
         Err(error) => Err(error),
     }
 }
 
 // The transcript of a script.
-fn text_of(alloc: Global, script: &Script) -> Result<Vec<u8>, NoMemory>
+fn text_of<P: Promise, B: Run>(
+    alloc: Global,
+    store: ProcStore<P, B>,
+    script: &Script,
+) -> Result<Vec<u8>, NoMemory>
     requires { script.now.leaves ≤ MAX_LEAVES }
-    ensures { IfOk result (λ text. text.items ≡ transcript_of script.now) }
+    ensures { IfOk result (λ text. IsDoneFrom P.code_of P.may (first_state script.now.leaves store)
+        (deeds_of script.now.commands) text.items) }
 {
-    let mut world = match World::new(alloc, script.leaves) {
-        Ok(world) => world,
-        // A script has no more leaves than a world may have.
-        Err(WorldError::Refused(_)) => unreachable!(),
-        Err(WorldError::NoMemory) => return Err(NoMemory),
-    };
+    let mut world = new_world(alloc, store, script.leaves)?;
     let mut text = Vec::new(alloc);
     put_commands(alloc, &mut text, &mut world, script.commands.as_slice())?;
     Ok(text)
 }
 
 // Does commands in order, and adds what each prints.
-fn put_commands(
+fn put_commands<P: Promise, B: Run>(
     alloc: Global,
     text: &mut Vec<u8>,
-    world: &mut World,
+    world: &mut World<P, B>,
     commands: &[Command],
 ) -> Result<(), NoMemory>
-    ensures { OnOk result ((s : State) → Stands world.old s → text.new.items ≡ text.old.items ++ commands_text
-        world.old commands.now) }
+    ensures { OnOk result ((past : Past) → Stands P.code_of P.may world.old past
+        → Does P.code_of P.may past (deeds_of commands.now) world.new text.old.items text.new.items) }
 {
     for command in commands {
         put_command(alloc, text, world, command)?;
@@ -67,43 +74,63 @@ fn put_commands(
 }
 
 // Does a command, and adds what it prints.
-fn put_command(
+fn put_command<P: Promise, B: Run>(
     alloc: Global,
     text: &mut Vec<u8>,
-    world: &mut World,
+    world: &mut World<P, B>,
     command: &Command,
 ) -> Result<(), NoMemory>
-    ensures { OnOk result ((s : State) → Stands world.old s → CommandDone world.old command.now world.new
-        text.old.items text.new.items) }
+    ensures { OnOk result ((past : Past) → Stands P.code_of P.may world.old past
+        → Does P.code_of P.may past (command_deeds command.now) world.new text.old.items text.new.items) }
 {
     match command {
-        Command::Step(step) => put_step(alloc, text, world, step),
-        Command::Show(bot) => put_shown(alloc, text, world, *bot),
+        Command::Steps(steps) => put_steps(alloc, text, world, steps.as_slice()),
+        Command::Show(bot) => put_show(alloc, text, world, *bot),
     }
 }
 
-// Makes a step, and adds what came of it.
-fn put_step(
+// Adds what a bot is at.
+fn put_show<P: Promise, B: Run>(
     alloc: Global,
     text: &mut Vec<u8>,
-    world: &mut World,
-    step: &Step,
+    world: &World<P, B>,
+    bot: u16,
 ) -> Result<(), NoMemory>
-    ensures { OnOk result ((s : State) → Stands world.old s → StepDone world.old step.now world.new text.old.items
-        text.new.items) }
+    ensures { OnOk result ((past : Past) → Stands P.code_of P.may world.now past
+        → Does P.code_of P.may past (Shows bot ∷ []) world.now text.old.items text.new.items) }
 {
-    let outcome = make(alloc, world, step)?;
-    put_outcome(text, world, outcome)
+    put_shown(alloc, text, world, bot)
 }
 
-// Makes a step.
-fn make(alloc: Global, world: &mut World, step: &Step) -> Result<Outcome, NoMemory>
-    ensures { IfOk result (λ outcome. (s : State) → Stands world.old s → LeadsTo s (step.now ∷ []) (outcome ∷ [])
-        world.new) }
+// Makes steps in order, and adds what comes of each.
+fn put_steps<P: Promise, B: Run>(
+    alloc: Global,
+    text: &mut Vec<u8>,
+    world: &mut World<P, B>,
+    steps: &[Step],
+) -> Result<(), NoMemory>
+    ensures { OnOk result ((past : Past) → Stands P.code_of P.may world.old past
+        → Does P.code_of P.may past (map Makes steps.now) world.new text.old.items text.new.items) }
+{
+    for step in steps {
+        put_step(alloc, text, world, step)?;
+    }
+    Ok(())
+}
+
+// Makes a step, and adds what comes of it.
+fn put_step<P: Promise, B: Run>(
+    alloc: Global,
+    text: &mut Vec<u8>,
+    world: &mut World<P, B>,
+    step: &Step,
+) -> Result<(), NoMemory>
+    ensures { OnOk result ((past : Past) → Stands P.code_of P.may world.old past
+        → Does P.code_of P.may past (Makes step.now ∷ []) world.new text.old.items text.new.items) }
 {
     let transcript = world.run(alloc, slice::from_ref(step));
     if transcript.cut {
         return Err(NoMemory);
     }
-    Ok(transcript.outcomes.as_slice()[0])
+    put_outcome(text, world, &transcript.outcomes.as_slice()[0])
 }

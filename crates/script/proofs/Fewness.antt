@@ -7,7 +7,9 @@ use Rattle.script.specs.declared.command.Command.{Command}
 use Rattle.script.specs.declared.saying.Saying.{Saying}
 use Rattle.script.specs.declared.saying.Saying.TheVariants.{Nothing, Leaves, Told, Wrong}
 use Rattle.script.specs.declared.saying.Verb.{Verb}
-use Rattle.script.specs.declared.saying.Verb.TheVariants.{Leaves as leaves_verb, Ask as ask_verb, Pump as pump_verb, Deliver as deliver_verb, Show as show_verb}
+use Rattle.script.specs.declared.saying.Verb.TheVariants.{Leaves as leaves_verb, Ask as ask_verb, Pump as pump_verb, Connect as connect_verb}
+use Rattle.script.specs.declared.saying.Verb.TheVariants.{Line as line_verb, Bind as bind_verb, Unbind as unbind_verb}
+use Rattle.script.specs.declared.saying.Verb.TheVariants.{Deliver as deliver_verb, Show as show_verb}
 use Rattle.script.specs.Grammar.{few_leaves, counted, told, two_words, more_words, saying_by_words, saying_of, verb_of, bot_of}
 use Rattle.script.specs.Words.{words_of}
 use Rattle.script.specs.Reading.{said, onto_said}
@@ -45,22 +47,30 @@ two_words-few None a = tt
 two_words-few (Some leaves_verb) a = counted-few (bot_of a)
 two_words-few (Some ask_verb) a = tt
 two_words-few (Some pump_verb) a = told-few _
+two_words-few (Some connect_verb) a = told-few _
+two_words-few (Some line_verb) a = tt
+two_words-few (Some bind_verb) a = tt
+two_words-few (Some unbind_verb) a = tt
 two_words-few (Some deliver_verb) a = told-few _
 two_words-few (Some show_verb) a = told-few _
 
-more_words-few : (verb : Option Verb) (a name : List ℕ) (words : List (List ℕ)) → IsFew (more_words verb a name words)
-more_words-few None a name words = tt
-more_words-few (Some leaves_verb) a name words = tt
-more_words-few (Some ask_verb) a name words = told-few _
-more_words-few (Some pump_verb) a name words = tt
-more_words-few (Some deliver_verb) a name words = tt
-more_words-few (Some show_verb) a name words = tt
+more_words-few : (verb : Option Verb) (a first : List ℕ) (words : List (List ℕ)) → IsFew (more_words verb a first words)
+more_words-few None a first words = tt
+more_words-few (Some leaves_verb) a first words = tt
+more_words-few (Some ask_verb) a first words = told-few _
+more_words-few (Some pump_verb) a first words = tt
+more_words-few (Some connect_verb) a first words = tt
+more_words-few (Some line_verb) a first words = told-few _
+more_words-few (Some bind_verb) a first words = told-few _
+more_words-few (Some unbind_verb) a first words = told-few _
+more_words-few (Some deliver_verb) a first words = tt
+more_words-few (Some show_verb) a first words = tt
 
 saying_by_words-few : (words : List (List ℕ)) → IsFew (saying_by_words words)
 saying_by_words-few [] = tt
 saying_by_words-few (verb ∷ []) = tt
 saying_by_words-few (verb ∷ a ∷ []) = two_words-few (verb_of verb) a
-saying_by_words-few (verb ∷ a ∷ name ∷ words) = more_words-few (verb_of verb) a name words
+saying_by_words-few (verb ∷ a ∷ first ∷ words) = more_words-few (verb_of verb) a first words
 
 saying_of-few : (line : List ℕ) → IsFew (saying_of line)
 saying_of-few [] = tt

@@ -8,7 +8,7 @@ use Rattle.userfile.specs.declared.change.Change.{Change}
 use Rattle.userfile.specs.declared.change.Change.TheVariants.{AddUser, DelUser, AddHost, DelHost, SetGlobal, SetChan, SetBot, AddBan, DelBan}
 use Rattle.script.specs.declared.asking.Pair.{Pair}
 use Rattle.script.specs.declared.asking.Pair.TheVariants.{AddHost as add_host, DelHost as del_host, DelBan as del_ban, Global as set_global, Bot as set_bot}
-use Rattle.script.specs.Words.{is_empty, line_of, number_below, words_of}
+use Rattle.script.specs.Words.{is_empty, rest_of, number_below, words_of}
 
 -- flags are letters, or - for none
 abbrev pub unless_fault : Option FlagFault → ℕ → Option ℕ
@@ -29,7 +29,7 @@ expiry_of word = number_below 18446744073709551616 word
 -- a comment is the rest of the line, and not empty where there is one
 abbrev pub comment_of : List (List ℕ) → Option (List ℕ)
 comment_of [] = Some []
-comment_of (word ∷ words) = if is_empty (line_of (word ∷ words)) then None else Some (line_of (word ∷ words))
+comment_of (word ∷ words) = rest_of (word ∷ words)
 
 -- NAME H
 abbrev pub by_one_word : List ℕ → List ℕ → Option Change

@@ -2,17 +2,23 @@
 use Rattle.std.specs.Prelude.{ℕ, ◌==◌, nat_le, List, [], ◌∷◌, Option, None, Some, option_map, option_and_then, if◌then◌else◌, codes}
 use Rattle.std.specs.Str.{bytes_eq}
 use Rattle.script.specs.declared.command.Command.{Command}
-use Rattle.script.specs.declared.command.Command.TheVariants.{Step as Stepped, Show}
-use Rattle.userfile.specs.declared.change.Change.{Change}
+use Rattle.script.specs.declared.command.Command.TheVariants.{Steps, Show}
+use Rattle.procstore.specs.Kinds.{kind_of}
 use Rattle.sharelink.specs.declared.TheConstants.{MAX_LEAVES}
+use Rattle.botcore.specs.declared.event.Event.{Event}
+use Rattle.botcore.specs.declared.event.Event.TheVariants.{Ask, Pump, Connect, Bind, Unbind}
+use Rattle.botworld.specs.declared.step.Step.{Step}
 use Rattle.botworld.specs.declared.step.Step.TheVariants.{At, Deliver}
-use Rattle.botworld.specs.declared.step.Event.TheVariants.{Ask, Pump}
 use Rattle.script.specs.declared.saying.Verb.{Verb}
-use Rattle.script.specs.declared.saying.Verb.TheVariants.{Leaves as leaves_verb, Ask as ask_verb, Pump as pump_verb, Deliver as deliver_verb, Show as show_verb}
+use Rattle.script.specs.declared.saying.Verb.TheVariants.{Leaves as leaves_verb, Ask as ask_verb, Pump as pump_verb, Connect as connect_verb}
+use Rattle.script.specs.declared.saying.Verb.TheVariants.{Line as line_verb, Bind as bind_verb, Unbind as unbind_verb}
+use Rattle.script.specs.declared.saying.Verb.TheVariants.{Deliver as deliver_verb, Show as show_verb}
 use Rattle.script.specs.declared.saying.Saying.{Saying}
 use Rattle.script.specs.declared.saying.Saying.TheVariants.{Nothing, Leaves, Told, Wrong}
-use Rattle.script.specs.Words.{words_of, number_below}
+use Rattle.script.specs.Words.{words_of, rest_of, number_below}
 use Rattle.script.specs.Changes.{change_named}
+use Rattle.script.specs.Binds.{new_bind_of, old_bind_of}
+use Rattle.script.specs.Lines.{line_steps}
 
 -- a bot's number, and a packet's
 abbrev pub bot_of : List ℕ → Option ℕ
@@ -37,50 +43,76 @@ abbrev pub counted : Option ℕ → Saying
 counted None = Wrong
 counted (Some leaves) = Leaves leaves
 
+-- a command of one step
+abbrev pub one_step : Step → Command
+one_step step = Steps (step ∷ [])
+
+abbrev pub delivered : ℕ → Command
+delivered packet = one_step (Deliver packet)
+
+-- what a bot is told
+abbrev pub event_at : ℕ → Event → Command
+event_at bot event = one_step (At bot event)
+
 -- the first words
 abbrev pub verb_of : List ℕ → Option Verb
 verb_of word =
     if bytes_eq word (codes "leaves") then Some leaves_verb
     else if bytes_eq word (codes "ask") then Some ask_verb
     else if bytes_eq word (codes "pump") then Some pump_verb
+    else if bytes_eq word (codes "connect") then Some connect_verb
+    else if bytes_eq word (codes "line") then Some line_verb
+    else if bytes_eq word (codes "bind") then Some bind_verb
+    else if bytes_eq word (codes "unbind") then Some unbind_verb
     else if bytes_eq word (codes "deliver") then Some deliver_verb
     else if bytes_eq word (codes "show") then Some show_verb
     else None
 
 -- VERB A
-abbrev pub pumped : ℕ → Command
-pumped bot = Stepped (At bot Pump)
-
-abbrev pub delivered : ℕ → Command
-delivered packet = Stepped (Deliver packet)
-
 abbrev pub two_words : Option Verb → List ℕ → Saying
 two_words (Some leaves_verb) a = counted (leaves_of a)
-two_words (Some pump_verb) a = told (option_map pumped (bot_of a))
+two_words (Some pump_verb) a = told (option_map (λ bot. event_at bot Pump) (bot_of a))
+two_words (Some connect_verb) a = told (option_map (λ bot. event_at bot Connect) (bot_of a))
 two_words (Some deliver_verb) a = told (option_map delivered (packet_of a))
 two_words (Some show_verb) a = told (option_map Show (bot_of a))
 two_words (Some ask_verb) a = Wrong
+two_words (Some line_verb) a = Wrong
+two_words (Some bind_verb) a = Wrong
+two_words (Some unbind_verb) a = Wrong
 two_words None a = Wrong
 
 -- ask B NAME, and the words of the change
-abbrev pub asks : ℕ → Change → Command
-asks bot change = Stepped (At bot (Ask change))
-
 abbrev pub asked : Option ℕ → List ℕ → List (List ℕ) → Option Command
-asked bot name words = option_and_then (λ bot. option_map (asks bot) (change_named name words)) bot
+asked bot name words = option_and_then (λ bot. option_map (λ change. event_at bot (Ask change)) (change_named name words)) bot
+
+-- line B TEXT..
+abbrev pub read : Option ℕ → List (List ℕ) → Option Command
+read bot words = option_and_then (λ bot. option_map (λ text. Steps (line_steps bot text)) (rest_of words)) bot
+
+-- bind B TYPE FLAGS PROC MASK..
+abbrev pub bound : Option ℕ → List ℕ → List (List ℕ) → Option Command
+bound bot kind words = option_and_then (λ bot. option_map (λ bind. event_at bot (Bind bind)) (new_bind_of (kind_of kind) words)) bot
+
+-- unbind B TYPE PROC MASK..
+abbrev pub unbound : Option ℕ → List ℕ → List (List ℕ) → Option Command
+unbound bot kind words = option_and_then (λ bot. option_map (λ bind. event_at bot (Unbind bind)) (old_bind_of (kind_of kind) words)) bot
 
 abbrev pub more_words : Option Verb → List ℕ → List ℕ → List (List ℕ) → Saying
-more_words (Some ask_verb) a name words = told (asked (bot_of a) name words)
-more_words (Some leaves_verb) a name words = Wrong
-more_words (Some pump_verb) a name words = Wrong
-more_words (Some deliver_verb) a name words = Wrong
-more_words (Some show_verb) a name words = Wrong
-more_words None a name words = Wrong
+more_words (Some ask_verb) a first words = told (asked (bot_of a) first words)
+more_words (Some line_verb) a first words = told (read (bot_of a) (first ∷ words))
+more_words (Some bind_verb) a first words = told (bound (bot_of a) first words)
+more_words (Some unbind_verb) a first words = told (unbound (bot_of a) first words)
+more_words (Some leaves_verb) a first words = Wrong
+more_words (Some pump_verb) a first words = Wrong
+more_words (Some connect_verb) a first words = Wrong
+more_words (Some deliver_verb) a first words = Wrong
+more_words (Some show_verb) a first words = Wrong
+more_words None a first words = Wrong
 
 -- each command has its count of words
 abbrev pub saying_by_words : List (List ℕ) → Saying
 saying_by_words (verb ∷ a ∷ []) = two_words (verb_of verb) a
-saying_by_words (verb ∷ a ∷ name ∷ words) = more_words (verb_of verb) a name words
+saying_by_words (verb ∷ a ∷ first ∷ words) = more_words (verb_of verb) a first words
 saying_by_words (verb ∷ []) = Wrong
 saying_by_words [] = Wrong
 

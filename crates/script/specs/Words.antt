@@ -15,6 +15,10 @@ line_of words = join_with_byte 32 words
 abbrev pub is_empty : List ℕ → Bool
 is_empty word = length word == 0
 
+-- a word that takes the rest of the line, and is not empty
+abbrev pub rest_of : List (List ℕ) → Option (List ℕ)
+rest_of words = if is_empty (line_of words) then None else Some (line_of words)
+
 -- 0 to 9
 abbrev pub is_digit : ℕ → Bool
 is_digit b = nat_le 48 b && nat_le b 57

@@ -1,11 +1,11 @@
 // The changes that can be asked for.
-ghost use Rattle.std.specs.Prelude.{◌≡◌, ◌∷◌, map, option_map, IfOk};
-ghost use Rattle.script.specs.Words.{line_of};
+ghost use Rattle.std.specs.Prelude.{◌≡◌, map, option_map, IfOk};
 ghost use Rattle.script.specs.Changes.{by_more_words, by_one_word, by_three_words, by_two_words, pair_of};
 ghost use Rattle.script.specs.Changes.{change_by_words, change_named, change_of, channel_of, comment_of, flags_of};
 
 use crate::numeral::number;
 use crate::pieces::pieces_of;
+use crate::rest::rest_of;
 use bytetext::{NoMemory, Text};
 use flagexpr::Flags;
 use std::alloc::Global;
@@ -232,29 +232,6 @@ fn comment_of(alloc: Global, words: &[&[u8]]) -> Result<Option<Text>, NoMemory>
 {
     match words {
         [] => Ok(Some(Text::empty(alloc))),
-        [first, rest @ ..] => rest_of_line(alloc, first, rest),
+        [first, rest @ ..] => rest_of(alloc, first, rest),
     }
-}
-
-// The rest of a line from a word on, unless it is empty.
-fn rest_of_line(alloc: Global, first: &[u8], rest: &[&[u8]]) -> Result<Option<Text>, NoMemory>
-    ensures { IfOk result (λ text. text ≡ comment_of (first.now ∷ map (λ word. word.now) rest.now)) }
-{
-    let line = line_of(alloc, first, rest)?;
-    if line.is_empty() {
-        return Ok(None);
-    }
-    Ok(Some(Text::new(line)))
-}
-
-// Words as a line, with one space between each two.
-fn line_of(alloc: Global, first: &[u8], rest: &[&[u8]]) -> Result<Vec<u8>, NoMemory>
-    ensures { IfOk result (λ line. line.items ≡ line_of (first.now ∷ map (λ word. word.now) rest.now)) }
-{
-    let mut line = Vec::from_slice(alloc, first)?;
-    for word in rest {
-        line.push(b' ')?;
-        line.extend_from_slice(word)?;
-    }
-    Ok(line)
 }

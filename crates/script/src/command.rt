@@ -6,8 +6,9 @@ use std::alloc::Global;
 /// One command after the number of leaves. Whether there is such a bot or packet is seen when the command is done.
 #[derive(Drop)]
 pub enum Command {
-    /// The botnet makes a step.
-    Step(Step),
+    /// The botnet makes these steps, in order. A `line` has a step for each line of its text, so none where its text is
+    /// carriage returns alone; every other command has one step.
+    Steps(Steps),
     /// The version and the records of this bot are shown: 0 is the hub, and leaves are numbered from 1.
     Show(u16),
 }
@@ -15,11 +16,14 @@ pub enum Command {
 impl TryCopy for Command {
     fn copy(&self, alloc: Global) -> Result<Command, NoMemory> {
         match self {
-            Command::Step(step) => Ok(Command::Step(step.copy(alloc)?)),
+            Command::Steps(steps) => Ok(Command::Steps(steps.copy(alloc)?)),
             Command::Show(bot) => Ok(Command::Show(*bot)),
         }
     }
 }
+
+/// Steps, in order.
+pub type Steps = Seq<Step>;
 
 /// Commands, in order.
 pub type Commands = Seq<Command>;

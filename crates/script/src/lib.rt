@@ -1,8 +1,14 @@
 //! Scripts: a text of commands for a botnet, read whole before the first of them is done.
 //!
 //! A script has one command a line, and words with one space between them. Its first command is `leaves N`; then come
-//! `ask B CHANGE`, `pump B`, `deliver K` and `show B`, in any order. Empty lines and lines that begin with `#` are no
-//! commands. [`Script::read`] answers the number of leaves and the commands, or the first line that breaks a rule.
+//! `ask B CHANGE`, `pump B`, `connect B`, `line B TEXT`, `bind B TYPE FLAGS PROC MASK`, `unbind B TYPE PROC MASK`,
+//! `deliver K` and `show B`, in any order. Empty lines and lines that begin with `#` are no commands. [`Script::read`]
+//! answers the number of leaves and the commands, or the first line that breaks a rule.
+//!
+//! A TEXT takes the rest of the line, spaces and all, and a bot reads it as it would from a server: a carriage return in
+//! it ends a line, so a `line` has a step for each line that its text holds. A TYPE is `raw`, `msg`, `msgm`, `notc`, `pub`
+//! or `pubm`, and a MASK takes the rest of the line. Whether there is such a bind, and whether flags and mask are of a good
+//! shape, is seen when the bot is told.
 //!
 //! A CHANGE is `adduser H`, `deluser H`, `addhost H M`, `delhost H M`, `global H F`, `bot H F`, `chan H C F`,
 //! `addban C M H E COMMENT` or `delban C M`. F is letters, or `-` for none. A ban of all channels has the channel `*`,
@@ -17,15 +23,18 @@
 #![tactic(auto)]
 
 mod asking;
+mod binding;
 mod command;
 mod error;
+mod lines;
 mod numeral;
 mod pieces;
 mod reading;
+mod rest;
 mod saying;
 
 pub use crate::asking::change_of;
-pub use crate::command::{Command, Commands};
+pub use crate::command::{Command, Commands, Steps};
 pub use crate::error::{ScriptError, ScriptFault};
 pub use crate::reading::Script;
 

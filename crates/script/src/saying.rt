@@ -1,14 +1,19 @@
 // What one line says.
-ghost use Rattle.std.specs.Prelude.{◌≡◌, map, option_and_then, IfOk};
-ghost use Rattle.script.specs.Grammar.{asked, counted, few_leaves, told, verb_of, two_words, more_words};
-ghost use Rattle.script.specs.Grammar.{saying_by_words, saying_of};
+ghost use Rattle.std.specs.Prelude.{◌≡◌, ◌∷◌, map, option_and_then, IfOk};
+ghost use Rattle.script.specs.Grammar.{counted, few_leaves, told, verb_of, one_step, event_at, asked, read, bound, unbound};
+ghost use Rattle.script.specs.Grammar.{two_words, more_words, saying_by_words, saying_of};
 
 use crate::asking::change_named;
-use crate::command::Command;
+use crate::binding::{new_bind, old_bind};
+use crate::command::{Command, Steps};
+use crate::lines::line_steps;
 use crate::numeral::{bot_number, number};
 use crate::pieces::pieces_of;
-use botworld::{Event, Step};
+use crate::rest::rest_of;
+use botcore::Event;
+use botworld::Step;
 use bytetext::NoMemory;
+use procstore::Kind;
 use sharelink::MAX_LEAVES;
 use std::alloc::Global;
 
@@ -18,6 +23,10 @@ pub enum Verb {
     Leaves,
     Ask,
     Pump,
+    Connect,
+    Line,
+    Bind,
+    Unbind,
     Deliver,
     Show,
 }
@@ -54,8 +63,8 @@ fn saying_by_words(alloc: Global, words: &[&[u8]]) -> Result<Saying, NoMemory>
     ensures { IfOk result (λ saying. saying ≡ saying_by_words (map (λ word. word.now) words.now)) }
 {
     match words {
-        [verb, a] => Ok(two_words(verb, a)),
-        [verb, a, name, words @ ..] => more_words(alloc, verb, a, name, words),
+        [verb, a] => two_words(alloc, verb, a),
+        [verb, a, first, words @ ..] => more_words(alloc, verb, a, first, words),
         [] | [_] => Ok(Saying::Wrong),
     }
 }
@@ -70,6 +79,14 @@ fn verb_of(word: &[u8]) -> Option<Verb>
         Some(Verb::Ask)
     } else if word == b"pump".as_slice() {
         Some(Verb::Pump)
+    } else if word == b"connect".as_slice() {
+        Some(Verb::Connect)
+    } else if word == b"line".as_slice() {
+        Some(Verb::Line)
+    } else if word == b"bind".as_slice() {
+        Some(Verb::Bind)
+    } else if word == b"unbind".as_slice() {
+        Some(Verb::Unbind)
     } else if word == b"deliver".as_slice() {
         Some(Verb::Deliver)
     } else if word == b"show".as_slice() {
@@ -80,27 +97,28 @@ fn verb_of(word: &[u8]) -> Option<Verb>
 }
 
 // VERB A
-fn two_words(verb: &[u8], a: &[u8]) -> Saying
-    ensures { result ≡ two_words (verb_of verb.now) a.now }
+fn two_words(alloc: Global, verb: &[u8], a: &[u8]) -> Result<Saying, NoMemory>
+    ensures { IfOk result (λ saying. saying ≡ two_words (verb_of verb.now) a.now) }
 {
     match verb_of(verb) {
-        Some(Verb::Leaves) => count_leaves(bot_number(a)),
+        Some(Verb::Leaves) => Ok(count_leaves(bot_number(a))),
         Some(Verb::Pump) => match bot_number(a) {
-            Some(bot) => told(Step::At {
-                bot,
-                event: Event::Pump,
-            }),
-            None => Saying::Wrong,
+            Some(bot) => event_at(alloc, bot, Event::Pump),
+            None => Ok(Saying::Wrong),
+        },
+        Some(Verb::Connect) => match bot_number(a) {
+            Some(bot) => event_at(alloc, bot, Event::Connect),
+            None => Ok(Saying::Wrong),
         },
         Some(Verb::Deliver) => match number(a) {
-            Some(packet) => told(Step::Deliver { packet }),
-            None => Saying::Wrong,
+            Some(packet) => one_step(alloc, Step::Deliver { packet }),
+            None => Ok(Saying::Wrong),
         },
         Some(Verb::Show) => match bot_number(a) {
-            Some(bot) => Saying::Told(Command::Show(bot)),
-            None => Saying::Wrong,
+            Some(bot) => Ok(Saying::Told(Command::Show(bot))),
+            None => Ok(Saying::Wrong),
         },
-        Some(Verb::Ask) | None => Saying::Wrong,
+        Some(Verb::Ask | Verb::Line | Verb::Bind | Verb::Unbind) | None => Ok(Saying::Wrong),
     }
 }
 
@@ -120,31 +138,45 @@ fn count_leaves(leaves: Option<u16>) -> Saying
     }
 }
 
-// A step.
-fn told(step: Step) -> Saying
-    ensures { result ≡ Saying.Told (Command.Step step) }
+// What a bot is told.
+fn event_at(alloc: Global, bot: u16, event: Event) -> Result<Saying, NoMemory>
+    ensures { IfOk result (λ saying. saying ≡ Saying.Told (event_at bot event)) }
 {
-    Saying::Told(Command::Step(step))
+    one_step(alloc, Step::At { bot, event })
 }
 
-// ask B NAME, and the words of the change
+// A command of one step.
+fn one_step(alloc: Global, step: Step) -> Result<Saying, NoMemory>
+    ensures { IfOk result (λ saying. saying ≡ Saying.Told (one_step step)) }
+{
+    let mut steps = Steps::empty(alloc);
+    steps.push(step)?;
+    Ok(Saying::Told(Command::Steps(steps)))
+}
+
+// VERB A, and the words after it
 fn more_words(
     alloc: Global,
     verb: &[u8],
     a: &[u8],
-    name: &[u8],
+    first: &[u8],
     words: &[&[u8]],
 ) -> Result<Saying, NoMemory>
-    ensures { IfOk result (λ saying. saying ≡ more_words (verb_of verb.now) a.now name.now
+    ensures { IfOk result (λ saying. saying ≡ more_words (verb_of verb.now) a.now first.now
         (map (λ word. word.now) words.now)) }
 {
     match verb_of(verb) {
-        Some(Verb::Ask) => ask(alloc, bot_number(a), name, words),
-        Some(Verb::Leaves | Verb::Pump | Verb::Deliver | Verb::Show) | None => Ok(Saying::Wrong),
+        Some(Verb::Ask) => ask(alloc, bot_number(a), first, words),
+        Some(Verb::Line) => read_lines(alloc, bot_number(a), first, words),
+        Some(Verb::Bind) => bind(alloc, bot_number(a), first, words),
+        Some(Verb::Unbind) => unbind(alloc, bot_number(a), first, words),
+        Some(Verb::Leaves | Verb::Pump | Verb::Connect | Verb::Deliver | Verb::Show) | None => {
+            Ok(Saying::Wrong)
+        }
     }
 }
 
-// An ask of this bot.
+// NAME, and the words of the change
 fn ask(alloc: Global, bot: Option<u16>, name: &[u8], words: &[&[u8]]) -> Result<Saying, NoMemory>
     ensures { IfOk result (λ saying. saying ≡ told (asked bot name.now (map (λ word. word.now) words.now))) }
 {
@@ -152,10 +184,54 @@ fn ask(alloc: Global, bot: Option<u16>, name: &[u8], words: &[&[u8]]) -> Result<
         return Ok(Saying::Wrong);
     };
     match change_named(alloc, name, words)? {
-        Some(change) => Ok(told(Step::At {
-            bot,
-            event: Event::Ask(change),
-        })),
+        Some(change) => event_at(alloc, bot, Event::Ask(change)),
+        None => Ok(Saying::Wrong),
+    }
+}
+
+// TEXT..
+fn read_lines(
+    alloc: Global,
+    bot: Option<u16>,
+    first: &[u8],
+    words: &[&[u8]],
+) -> Result<Saying, NoMemory>
+    ensures { IfOk result (λ saying. saying ≡ told (read bot (first.now ∷ map (λ word. word.now) words.now))) }
+{
+    let Some(bot) = bot else {
+        return Ok(Saying::Wrong);
+    };
+    match rest_of(alloc, first, words)? {
+        Some(text) => {
+            let steps = line_steps(alloc, bot, text)?;
+            Ok(Saying::Told(Command::Steps(steps)))
+        }
+        None => Ok(Saying::Wrong),
+    }
+}
+
+// TYPE FLAGS PROC MASK..
+fn bind(alloc: Global, bot: Option<u16>, kind: &[u8], words: &[&[u8]]) -> Result<Saying, NoMemory>
+    ensures { IfOk result (λ saying. saying ≡ told (bound bot kind.now (map (λ word. word.now) words.now))) }
+{
+    let Some(bot) = bot else {
+        return Ok(Saying::Wrong);
+    };
+    match new_bind(alloc, Kind::of_word(kind), words)? {
+        Some(bind) => event_at(alloc, bot, Event::Bind(bind)),
+        None => Ok(Saying::Wrong),
+    }
+}
+
+// TYPE PROC MASK..
+fn unbind(alloc: Global, bot: Option<u16>, kind: &[u8], words: &[&[u8]]) -> Result<Saying, NoMemory>
+    ensures { IfOk result (λ saying. saying ≡ told (unbound bot kind.now (map (λ word. word.now) words.now))) }
+{
+    let Some(bot) = bot else {
+        return Ok(Saying::Wrong);
+    };
+    match old_bind(alloc, Kind::of_word(kind), words)? {
+        Some(bind) => event_at(alloc, bot, Event::Unbind(bind)),
         None => Ok(Saying::Wrong),
     }
 }

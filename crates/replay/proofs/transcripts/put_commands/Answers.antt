@@ -1,12 +1,16 @@
 use Rattle.std.proofs.Common.{arith}
-use Rattle.replay.proofs.Doings.{SoFar-none, SoFar-more, SoFar-all}
+use Rattle.replay.proofs.Doings.{Does-none, Does-command, Does-commands}
 use Rattle.replay.proofs.transcripts.put_commands.Goals as goal
 
 pub loop-command-init : goal.loop-command-init
-loop-command-init c = λ s h. SoFar-none s _ _ _ h
+loop-command-init g c = λ past stands. Does-none g.P.Promise.code_of g.P.Promise.may past _ _ stands
 
 pub loop-command-preserved : goal.loop-command-preserved
-loop-command-preserved c = λ s h. SoFar-more _ _ _ _ _ _ _ _ _ (omega arith) c.command-item.is (c.loop-command.invariant s h) c.in_ok-put_command.ensures
+loop-command-preserved g c = λ past stands.
+    Does-command g.P.Promise.code_of g.P.Promise.may past c.args.commands.now c.loop-command.command-index c.command-item.result _ _ _ _ _ (omega arith)
+    c.command-item.is (c.loop-command.invariant past stands) c.in_ok-put_command.ensures
 
 pub returns : goal.returns
-returns c = λ s h. SoFar-all _ _ _ _ _ _ (omega arith) (c.loop-command.invariant s h)
+returns g c = λ past stands.
+    Does-commands g.P.Promise.code_of g.P.Promise.may past c.args.commands.now c.loop-command.command-index _ _ _ (omega arith)
+    (c.loop-command.invariant past stands)

@@ -1,8 +1,10 @@
-use Rattle.botworld.specs.Network.{State}
-use Rattle.botworld.specs.Standing.{Stands}
-use Rattle.replay.proofs.Doings.{SoFar}
+use Rattle.std.proofs.Common.{take}
+use Rattle.botworld.specs.Standing.{Past, Stands}
+use Rattle.replay.specs.Deeds.{deeds_of}
+use Rattle.replay.specs.Doing.{Does}
 use Rattle.replay.proofs.transcripts.put_commands.Given as goal
 
 -- the commands so far are done
 abbrev pub invariant-loop-command : goal.invariant-loop-command
-invariant-loop-command l = (s : State) → Stands l.fn.world s → SoFar l.fn.world l.commands l.command-index l.world l.fn.text.items l.text.items
+invariant-loop-command g l = (past : Past) → Stands g.P.Promise.code_of g.P.Promise.may l.fn.world past
+    → Does g.P.Promise.code_of g.P.Promise.may past (deeds_of (take l.command-index l.commands)) l.world l.fn.text.items l.text.items

@@ -1,6 +1,6 @@
 use Rattle.std.proofs.Common.{◌∙◌, ap, arith, ◌++◌, [], get_or}
 use Rattle.script.proofs.Rests.{line_of-more}
-use Rattle.script.proofs.asking.line_of.Goals as goal
+use Rattle.script.proofs.rest.line_of.Goals as goal
 
 pub loop-word-preserved : goal.loop-word-preserved
 loop-word-preserved c =

@@ -1,0 +1,114 @@
+// The procs of this program, and what they promise.
+ghost use Rattle.std.specs.Prelude.{◌≡◌, codes, IfOk};
+ghost use Rattle.eggnet.specs.Procs.{asked_by_adduser, is_command, last_of, plain, reply_of_adduser, Keeps};
+
+use bytetext::{NoMemory, Text};
+use procstore::{Action, Actions, Call, Code, Kind, Proc, ProcStore, Promise, Reply, Run};
+use std::alloc::Global;
+use userfile::Change;
+
+/// What the procs of this program promise: `quiet` answers 0 and asks for nothing, `stop` answers 1 and asks for
+/// nothing, and `adduser` answers 0 and asks for a user where it is called as a command. Any of them may lack memory.
+#[derive(Drop)]
+pub struct Ours;
+
+impl Promise for Ours {
+    ghost use Rattle.std.specs.Prelude.{◌≡◌};
+    ghost use Rattle.eggnet.specs.Procs.{code_of, actions_of};
+
+    ghost code_of = { code_of };
+
+    ghost may = { λ name call actions. actions ≡ actions_of name call };
+}
+
+/// An answer that asks for nothing. Takes no memory.
+pub fn plain(alloc: Global, code: Code) -> Reply
+    ensures { result ≡ plain code }
+{
+    let actions = Actions::empty(alloc);
+    Reply { code, actions }
+}
+
+/// What `adduser` answers.
+///
+/// # Errors
+/// `NoMemory` where room is refused.
+pub fn reply_of_adduser(alloc: Global, call: &Call) -> Result<Reply, NoMemory>
+    ensures { IfOk result (λ reply. reply ≡ reply_of_adduser call.now) }
+{
+    let actions = asked_by_adduser(alloc, call)?;
+    let code = Code::Zero;
+    Ok(Reply { code, actions })
+}
+
+// What `adduser` asks for: a user whose handle is the text after the command.
+fn asked_by_adduser(alloc: Global, call: &Call) -> Result<Actions, NoMemory>
+    ensures { IfOk result (λ actions. actions ≡ asked_by_adduser call.now) }
+{
+    if !is_command(call.kind) {
+        return Ok(Actions::empty(alloc));
+    }
+    let handle = Text::from_slice(alloc, last_of(call.args.as_slice()))?;
+    Actions::one(alloc, Action::Ask(Change::AddUser { handle }))
+}
+
+// Whether a kind's last argument is what stands behind a first word.
+fn is_command(kind: Kind) -> bool
+    ensures { result ≡ is_command kind }
+{
+    match kind {
+        Kind::Msg | Kind::Pub => true,
+        Kind::Raw | Kind::Msgm | Kind::Notc | Kind::Pubm => false,
+    }
+}
+
+// The last argument.
+fn last_of(args: &[Text]) -> &[u8]
+    ensures { result.now ≡ last_of args.now }
+{
+    match args.last() {
+        Some(last) => last.as_bytes(),
+        None => b"",
+    }
+}
+
+/// A store of these bodies under the names of their procs.
+///
+/// # Errors
+/// `NoMemory` where room is refused.
+pub fn store_of<B: Run>(
+    alloc: Global,
+    quiet: B,
+    stop: B,
+    adduser: B,
+) -> Result<ProcStore<Ours, B>, NoMemory>
+    requires quiet_runs { B.can_run quiet }
+    requires quiet_keeps { Keeps (codes "quiet") (B.answers quiet) }
+    requires stop_runs { B.can_run stop }
+    requires stop_keeps { Keeps (codes "stop") (B.answers stop) }
+    requires adduser_runs { B.can_run adduser }
+    requires adduser_keeps { Keeps (codes "adduser") (B.answers adduser) }
+{
+    let mut store = ProcStore::new(alloc);
+    add(alloc, &mut store, b"quiet", quiet)?;
+    add(alloc, &mut store, b"stop", stop)?;
+    add(alloc, &mut store, b"adduser", adduser)?;
+    Ok(store)
+}
+
+// Adds a proc. There are few, and their names differ, so that only memory can be lacking.
+fn add<B: Run>(
+    alloc: Global,
+    store: &mut ProcStore<Ours, B>,
+    name: &[u8],
+    body: B,
+) -> Result<(), NoMemory>
+    requires runs { B.can_run body }
+    requires keeps { Keeps name.now (B.answers body) }
+{
+    let name = Text::from_slice(alloc, name)?;
+    match store.add(alloc, Proc::new(name, body)) {
+        Ok(()) => Ok(()),
+        Err(_) => Err(NoMemory),
+    }
+}

@@ -1,0 +1,72 @@
+// How a step ended, in a line.
+ghost use Rattle.std.specs.Prelude.{◌≡◌, ◌≢◌, ◌++◌, OnOk};
+ghost use Rattle.replay.specs.Text.{link_note_text, note_text, end_line};
+
+use crate::print::{put, put_counted, put_number};
+use botcore::{End, Note};
+use bytetext::NoMemory;
+use sharelink::Note as LinkNote;
+
+/// Adds how a step ended, as `B NOTE`, `B Done` or `B refused CODE`.
+///
+/// # Errors
+/// `NoMemory` where room is refused, and where the step itself ended so.
+#[tactic(auto, using(std::proofs::Common::append_assoc))]
+pub fn put_end(out: &mut Vec<u8>, bot: u16, end: End, note: Option<Note>) -> Result<(), NoMemory>
+    ensures made { OnOk result (end ≢ End.NoMemory) }
+    ensures added { OnOk result (out.new.items ≡ out.old.items ++ end_line bot end note) }
+{
+    match end {
+        End::Done => {
+            put_number(out, u64::from(bot))?;
+            put(out, b" ")?;
+            put_note(out, note)?;
+            put(out, b"\n")
+        }
+        End::Refused(refusal) => {
+            put_number(out, u64::from(bot))?;
+            put(out, b" refused ")?;
+            put(out, refusal.code().as_bytes())?;
+            put(out, b"\n")
+        }
+        End::NoMemory => Err(NoMemory),
+    }
+}
+
+// A note, with its number or letters where it has one; `Done` where there is none.
+#[tactic(auto, using(std::proofs::Common::append_assoc))]
+fn put_note(out: &mut Vec<u8>, note: Option<Note>) -> Result<(), NoMemory>
+    ensures { OnOk result (out.new.items ≡ out.old.items ++ note_text note) }
+{
+    match note {
+        None => put(out, b"Done"),
+        Some(Note::Link(note)) => put_link_note(out, note),
+        Some(Note::Bound(number)) => put_counted(out, b"Bound ", u64::from(number)),
+        Some(Note::Unbound(number)) => put_counted(out, b"Unbound ", u64::from(number)),
+        Some(Note::Bad(fault)) => {
+            put(out, b"Bad ")?;
+            put(out, fault.code().as_bytes())
+        }
+    }
+}
+
+// The note of a call of the link.
+#[tactic(auto, using(std::proofs::Common::append_assoc))]
+fn put_link_note(out: &mut Vec<u8>, note: LinkNote) -> Result<(), NoMemory>
+    ensures { OnOk result (out.new.items ≡ out.old.items ++ link_note_text note) }
+{
+    match note {
+        LinkNote::Queued => put(out, b"Queued"),
+        LinkNote::Idle => put(out, b"Idle"),
+        LinkNote::Accepted(number) => put_counted(out, b"Accepted ", u64::from(number)),
+        LinkNote::Refused(fault) => {
+            put(out, b"Refused ")?;
+            put(out, fault.code().as_bytes())
+        }
+        LinkNote::Served(count) => put_counted(out, b"Served ", count as u64),
+        LinkNote::Old => put(out, b"Old"),
+        LinkNote::Early => put(out, b"Early"),
+        LinkNote::Applied(number) => put_counted(out, b"Applied ", u64::from(number)),
+        LinkNote::Stray => put(out, b"Stray"),
+    }
+}

@@ -1,0 +1,73 @@
+// The bots of a script before its first step.
+ghost use Rattle.std.specs.Prelude.{◌≡◌, ◌+◌, ◌≤◌, IfOk};
+ghost use Rattle.sharelink.specs.declared.TheConstants.{MAX_LEAVES};
+ghost use Rattle.botcore.specs.Bots.{new_bot};
+ghost use Rattle.botworld.specs.Standing.{Stands, beginning};
+ghost use Rattle.replay.specs.Starting.{bots_from, config_of, first_state};
+
+use crate::print::put_number;
+use botcore::{Bot, Config};
+use botworld::World;
+use bytetext::{Failure, NoMemory, Text, Texts};
+use procstore::{ProcStore, Promise, Run};
+use std::alloc::Global;
+
+/// The bots of a script of so many leaves, with these procs.
+pub fn new_world<P: Promise, B: Run>(
+    alloc: Global,
+    store: ProcStore<P, B>,
+    leaves: u16,
+) -> Result<World<P, B>, NoMemory>
+    requires { leaves ≤ MAX_LEAVES }
+    ensures { IfOk result (λ w. Stands P.code_of P.may w (beginning (first_state leaves store))) }
+{
+    match World::new(alloc, new_bots(alloc, leaves)?, store) {
+        Ok(world) => Ok(world),
+        // The bots are numbered in order, and each has as many leaves as there are.
+        Err(_) => unreachable!(),
+    }
+}
+
+// The hub and its leaves.
+fn new_bots(alloc: Global, leaves: u16) -> Result<Vec<Bot>, NoMemory>
+    requires { leaves ≤ MAX_LEAVES }
+    ensures { IfOk result (λ bots. bots.items ≡ bots_from leaves 0 (leaves + 1)) }
+{
+    let mut bots = Vec::with_capacity(alloc, leaves as usize + 1)?;
+    for number in 0..leaves + 1 {
+        bots.push(bot(alloc, leaves, number)?)?;
+    }
+    Ok(bots)
+}
+
+// A bot of this number.
+fn bot(alloc: Global, leaves: u16, number: u16) -> Result<Bot, NoMemory>
+    requires few { leaves ≤ MAX_LEAVES }
+    requires numbered { number ≤ leaves }
+    ensures { IfOk result (λ bot. bot ≡ new_bot (config_of leaves number)) }
+{
+    match Bot::new(alloc, config(alloc, leaves, number)?) {
+        Ok(bot) => Ok(bot),
+        // Nick and channel are good, and the number is one of the botnet.
+        Err(Failure::Refused(_)) => unreachable!(),
+        Err(Failure::NoMemory) => Err(NoMemory),
+    }
+}
+
+// What the bot of this number is told.
+fn config(alloc: Global, leaves: u16, number: u16) -> Result<Config, NoMemory>
+    ensures { IfOk result (λ config. config ≡ config_of leaves number) }
+{
+    let mut nick = Vec::from_slice(alloc, b"egg")?;
+    put_number(&mut nick, u64::from(number))?;
+    let mut channels = Texts::empty(alloc);
+    channels.push(Text::from_slice(alloc, b"#egg")?)?;
+    Ok(Config {
+        number,
+        leaves,
+        nick: Text::new(nick),
+        channels,
+        exclusive: false,
+        offset: 0,
+    })
+}

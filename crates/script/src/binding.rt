@@ -1,0 +1,94 @@
+// The binds that a script makes and takes away.
+ghost use Rattle.std.specs.Prelude.{◌≡◌, map, IfOk};
+ghost use Rattle.script.specs.Binds.{new_bind_of, old_bind_of, new_bind_by, old_bind_by};
+
+use crate::rest::rest_of;
+use botcore::{NewBind, OldBind};
+use bytetext::{NoMemory, Text};
+use procstore::Kind;
+use std::alloc::Global;
+
+/// The bind of this kind that FLAGS PROC MASK.. spell; none where they don't, or where there is no such kind.
+///
+/// # Errors
+/// `NoMemory` where room is refused.
+pub fn new_bind(
+    alloc: Global,
+    kind: Option<Kind>,
+    words: &[&[u8]],
+) -> Result<Option<NewBind>, NoMemory>
+    ensures { IfOk result (λ bind. bind ≡ new_bind_of kind (map (λ word. word.now) words.now)) }
+{
+    match words {
+        [flags, proc, mask, rest @ ..] => {
+            let mask = rest_of(alloc, mask, rest)?;
+            new_bind_by(alloc, kind, flags, proc, mask)
+        }
+        [] | [_] | [_, _] => Ok(None),
+    }
+}
+
+// The same, of its parts.
+fn new_bind_by(
+    alloc: Global,
+    kind: Option<Kind>,
+    flags: &[u8],
+    proc: &[u8],
+    mask: Option<Text>,
+) -> Result<Option<NewBind>, NoMemory>
+    ensures { IfOk result (λ bind. bind ≡ new_bind_by kind flags.now proc.now mask) }
+{
+    let (Some(kind), Some(mask)) = (kind, mask) else {
+        return Ok(None);
+    };
+    if flags.is_empty() || proc.is_empty() {
+        return Ok(None);
+    }
+    let flags = Text::from_slice(alloc, flags)?;
+    let proc = Text::from_slice(alloc, proc)?;
+    Ok(Some(NewBind {
+        kind,
+        flags,
+        mask,
+        proc,
+    }))
+}
+
+/// The bind of this kind that PROC MASK.. name; none where they don't, or where there is no such kind.
+///
+/// # Errors
+/// `NoMemory` where room is refused.
+pub fn old_bind(
+    alloc: Global,
+    kind: Option<Kind>,
+    words: &[&[u8]],
+) -> Result<Option<OldBind>, NoMemory>
+    ensures { IfOk result (λ bind. bind ≡ old_bind_of kind (map (λ word. word.now) words.now)) }
+{
+    match words {
+        [proc, mask, rest @ ..] => {
+            let mask = rest_of(alloc, mask, rest)?;
+            old_bind_by(alloc, kind, proc, mask)
+        }
+        [] | [_] => Ok(None),
+    }
+}
+
+// The same, of its parts.
+fn old_bind_by(
+    alloc: Global,
+    kind: Option<Kind>,
+    proc: &[u8],
+    mask: Option<Text>,
+) -> Result<Option<OldBind>, NoMemory>
+    ensures { IfOk result (λ bind. bind ≡ old_bind_by kind proc.now mask) }
+{
+    let (Some(kind), Some(mask)) = (kind, mask) else {
+        return Ok(None);
+    };
+    if proc.is_empty() {
+        return Ok(None);
+    }
+    let proc = Text::from_slice(alloc, proc)?;
+    Ok(Some(OldBind { kind, mask, proc }))
+}
