@@ -1,0 +1,68 @@
+//! Reads conversations with the small server on standard input, and prints them with what the server answers.
+//!
+//! | line | what it does and prints |
+//! |---|---|
+//! | `server NAME` | begins a new server; the line |
+//! | `connect` | a client comes: `connect N`, where N is its number, or `connect` and the code |
+//! | `N TEXT` | the client of number N sends this line: the line, and then what goes out |
+//! | `gone N` | the connection of the client of number N is no more: the line, and then what goes out |
+//!
+//! What goes out is in order, as `N> TEXT` for each line, where N is the number of the client that gets it, or the
+//! code. Clients are numbered from 0 as they come to a server; one that comes in the place of one that is gone has its
+//! number.
+//!
+//! Empty lines and lines that begin with `#` say nothing. A line that is none of these ends the program: it tells the
+//! line on standard error and ends with status 1, as for input above 1,048,576 bytes; with 3 where reading or writing
+//! fails; with 4 where memory runs out. Nothing stands on standard output then.
+//!
+//! The crate's files `stdin` and `stdout` hold the conversations. The answers were worked out by hand from the rules
+//! that `miniircd` states.
+#![tactic(auto)]
+
+mod stop;
+mod talk;
+
+use crate::stop::Stop;
+use crate::talk::Talk;
+use std::alloc::Global;
+use std::io;
+use std::io::{Read, Write};
+use std::process::ExitCode;
+
+/// How much of standard input is read at most, in bytes.
+const MAX_INPUT: usize = 1_048_576;
+
+fn main(rt: HostRuntime) -> ExitCode {
+    match run(&rt) {
+        Ok(()) => ExitCode::from(0),
+        Err(stop) => {
+            let _ = eprintln!(rt; "ircdtalk: {stop}");
+            ExitCode::from(stop.status())
+        }
+    }
+}
+
+// Holds the conversations of standard input.
+fn run<R: Input + Print + AllocGlobal>(rt: &R) -> Result<(), Stop> {
+    let mut input = Vec::new(rt.alloc());
+    rt.reader()
+        .take(MAX_INPUT as u64 + 1)
+        .read_to_end(&mut input)?;
+    if input.len() > MAX_INPUT {
+        return Err(Stop::TooLong);
+    }
+    let told = told_of(rt.alloc(), &input)?;
+    io::writer(rt).write_all(&told)?;
+    Ok(())
+}
+
+// What is told of the conversations of a text.
+fn told_of(alloc: Global, input: &[u8]) -> Result<Vec<u8>, Stop> {
+    let mut talk = Talk::new(alloc);
+    for (i, line) in input.split(|byte| *byte == b'\n').enumerate() {
+        if let Err(error) = talk.read(alloc, line) {
+            return Err(Stop::at(i.saturating_add(1), error));
+        }
+    }
+    Ok(talk.into_bytes())
+}

@@ -1,0 +1,217 @@
+-- What each command of a client does to the clients and the channels (RFC 2812 section 3).
+use Rattle.std.specs.Prelude.{ℕ, Bool, true, false, not, ◌==◌, ◌&&◌, ◌||◌, List, [], ◌∷◌, ◌++◌, Option, Some, None, map, take, drop, length, nat_lt, nat_le, nat_eq, codes, slice_set, slice_get, if◌then◌else◌}
+use Rattle.std.specs.List.{list_any, list_all, slice_split}
+use Rattle.std.specs.Cmp.Lexicographic.{pointwise}
+use Rattle.rfccase.specs.Channels.{is_channel_name}
+use Rattle.ircline.specs.Classes.{filled}
+use Rattle.ircline.specs.declared.message.Message.{Message}
+use Rattle.miniircd.specs.declared.person.Person.{Person}
+use Rattle.miniircd.specs.declared.member.Member.{Member}
+use Rattle.miniircd.specs.declared.member.Channel.{Channel}
+use Rattle.miniircd.specs.declared.command.Command.{Command}
+use Rattle.miniircd.specs.declared.command.Command.TheVariants as command
+use Rattle.miniircd.specs.declared.change.Change.{Change}
+use Rattle.miniircd.specs.declared.change.Change.TheVariants as change
+use Rattle.miniircd.specs.declared.standing.Standing.{Standing}
+use Rattle.miniircd.specs.declared.standing.Standing.TheVariants as standing
+use Rattle.miniircd.specs.People.{is_registered, held_at, holder, word_at}
+use Rattle.miniircd.specs.Rooms.{room, member_of, has_member, is_on_some, joined_each, rooms_after, Enter, Leave, Title, Mark}
+use Rattle.miniircd.specs.declared.modes.Single.{Single}
+use Rattle.miniircd.specs.Modes.{singles}
+
+-- ---- commands
+
+abbrev pub is_command : List ℕ → List ℕ → Bool
+is_command word name = pointwise nat_eq word name
+
+abbrev pub command_of : List ℕ → Command
+command_of c =
+    if is_command c (codes "PRIVMSG") then command.Privmsg
+    else (if is_command c (codes "NOTICE") then command.Notice
+    else (if is_command c (codes "NICK") then command.Nick
+    else (if is_command c (codes "USER") then command.User
+    else (if is_command c (codes "JOIN") then command.Join
+    else (if is_command c (codes "PART") then command.Part
+    else (if is_command c (codes "TOPIC") then command.Topic
+    else (if is_command c (codes "KICK") then command.Kick
+    else (if is_command c (codes "MODE") then command.Mode
+    else (if is_command c (codes "NAMES") then command.Names
+    else (if is_command c (codes "WHO") then command.Who
+    else (if is_command c (codes "PING") then command.Ping
+    else (if is_command c (codes "QUIT") then command.Quit
+    else command.Unknown))))))))))))
+
+-- how many parameters a command needs
+abbrev pub needed : Command → ℕ
+needed command.Nick = 1
+needed command.User = 4
+needed command.Join = 1
+needed command.Part = 1
+needed command.Topic = 1
+needed command.Kick = 2
+needed command.Mode = 1
+needed command.Privmsg = 2
+needed command.Notice = 2
+needed command.Names = 1
+needed command.Who = 1
+needed command.Ping = 1
+needed command.Quit = 0
+needed command.Unknown = 0
+
+-- whether a client may send it before it is registered
+abbrev pub is_open : Command → Bool
+is_open command.Nick = true
+is_open command.User = true
+is_open command.Ping = true
+is_open command.Quit = true
+is_open command.Join = false
+is_open command.Part = false
+is_open command.Topic = false
+is_open command.Kick = false
+is_open command.Mode = false
+is_open command.Privmsg = false
+is_open command.Notice = false
+is_open command.Names = false
+is_open command.Who = false
+is_open command.Unknown = false
+
+-- ---- NICK and USER (sections 3.1.2 and 3.1.3)
+
+-- another client, if there is one
+abbrev pub is_other : ℕ → Option ℕ → Bool
+is_other client None = false
+is_other client (Some holder) = not (holder == client)
+
+-- a byte above a space, and none of ! @ , * ? : # & + % ~ .
+abbrev pub is_nick_byte : ℕ → Bool
+is_nick_byte b = nat_lt 32 b && not (list_any (λ x. x == b) (codes "!@,*?:#&+%~."))
+
+abbrev pub is_nick : List ℕ → Bool
+is_nick text = filled text && (nat_le (length text) 30 && list_all is_nick_byte text)
+
+abbrev pub nick_change : ℕ → Person → List (Option Person) → List ℕ → Change
+nick_change client p clients new =
+    if is_other client (holder new clients) then change.Same
+    else (if is_nick new then change.Person (record p { nick = new }) else change.Same)
+
+-- ! and @ have no place in a user name
+abbrev pub user_byte : ℕ → ℕ
+user_byte b = if b == 33 || b == 64 then 95 else b
+
+abbrev pub user_change : Person → List ℕ → Change
+user_change p name = if filled p.user then change.Same else change.Person (record p { user = map user_byte (take 30 name) })
+
+-- ---- channels (section 3.2)
+
+-- a client's standing with a channel
+abbrev pub standing_of : Option Member → Standing
+standing_of None = standing.Outside
+standing_of (Some member) = if member.op then standing.Op else standing.Plain
+
+abbrev pub standing_in : ℕ → Option Channel → Standing
+standing_in client None = standing.Unknown
+standing_in client (Some channel) = standing_of (member_of client channel.members)
+
+abbrev pub part_change : Standing → ℕ → List ℕ → List Channel → Change
+part_change standing.Unknown client name channels = change.Same
+part_change standing.Outside client name channels = change.Same
+part_change standing.Plain client name channels = change.Channels (rooms_after (Some name) (Leave client) channels)
+part_change standing.Op client name channels = change.Channels (rooms_after (Some name) (Leave client) channels)
+
+abbrev pub topic_change : Standing → List ℕ → Option (List ℕ) → List Channel → Change
+topic_change standing.Unknown name text channels = change.Same
+topic_change standing.Outside name text channels = change.Same
+topic_change standing.Plain name None channels = change.Same
+topic_change standing.Plain name (Some text) channels = change.Channels (rooms_after (Some name) (Title text) channels)
+topic_change standing.Op name None channels = change.Same
+topic_change standing.Op name (Some text) channels = change.Channels (rooms_after (Some name) (Title text) channels)
+
+-- the member of a channel that holds a nick
+abbrev pub on_room : Option ℕ → Option Channel → Option ℕ
+on_room None channel = None
+on_room (Some client) channel = if is_on_some client channel then Some client else None
+
+abbrev pub target_on : List (Option Person) → List Channel → List ℕ → List ℕ → Option ℕ
+target_on clients channels name nick = on_room (holder nick clients) (room name channels)
+
+abbrev pub kicked : Option ℕ → List ℕ → List Channel → Change
+kicked None name channels = change.Same
+kicked (Some client) name channels = change.Channels (rooms_after (Some name) (Leave client) channels)
+
+abbrev pub kick_change : Standing → List (Option Person) → List ℕ → List ℕ → List Channel → Change
+kick_change standing.Unknown clients name nick channels = change.Same
+kick_change standing.Outside clients name nick channels = change.Same
+kick_change standing.Plain clients name nick channels = change.Same
+kick_change standing.Op clients name nick channels = kicked (target_on clients channels name nick) name channels
+
+-- ---- MODE: o and v with a member's nick set and clear marks, one after another
+
+abbrev pub is_mark : ℕ → Bool
+is_mark letter = letter == 111 || letter == 118
+
+abbrev pub marked_on : Option ℕ → List ℕ → Single → List Channel → List Channel
+marked_on None name one channels = channels
+marked_on (Some client) name one channels = rooms_after (Some name) (Mark client (one.letter == 118) one.on) channels
+
+abbrev pub moded : List (Option Person) → List ℕ → Single → List Channel → List Channel
+moded clients name one channels =
+    if is_mark one.letter then marked_on (target_on clients channels name one.argument) name one channels else channels
+
+abbrev pub moded_each : List (Option Person) → List ℕ → List Single → List Channel → List Channel
+moded_each clients name [] channels = channels
+moded_each clients name (one ∷ more) channels = moded_each clients name more (moded clients name one channels)
+
+abbrev pub mode_change : Standing → List (Option Person) → List ℕ → List ℕ → List (List ℕ) → List Channel → Change
+mode_change standing.Unknown clients name modes arguments channels = change.Same
+mode_change standing.Outside clients name modes arguments channels = change.Same
+mode_change standing.Plain clients name modes arguments channels = change.Same
+mode_change standing.Op clients name modes arguments channels =
+    change.Channels (moded_each clients name (singles true modes arguments) channels)
+
+-- ---- a whole message: a QUIT is told apart before
+
+abbrev pub is_quit : Command → Bool
+is_quit command.Quit = true
+is_quit command.Nick = false
+is_quit command.User = false
+is_quit command.Join = false
+is_quit command.Part = false
+is_quit command.Topic = false
+is_quit command.Kick = false
+is_quit command.Mode = false
+is_quit command.Privmsg = false
+is_quit command.Notice = false
+is_quit command.Names = false
+is_quit command.Who = false
+is_quit command.Ping = false
+is_quit command.Unknown = false
+
+abbrev pub change_by : Command → ℕ → Person → List (Option Person) → List Channel → List (List ℕ) → Change
+change_by command.Nick client p clients channels ps = nick_change client p clients (word_at 0 ps)
+change_by command.User client p clients channels ps = user_change p (word_at 0 ps)
+change_by command.Join client p clients channels ps = change.Channels (joined_each client (slice_split (λ b. b == 44) (word_at 0 ps)) channels)
+change_by command.Part client p clients channels ps =
+    part_change (standing_in client (room (word_at 0 ps) channels)) client (word_at 0 ps) channels
+change_by command.Topic client p clients channels ps =
+    topic_change (standing_in client (room (word_at 0 ps) channels)) (word_at 0 ps) (slice_get ps 1) channels
+change_by command.Kick client p clients channels ps =
+    kick_change (standing_in client (room (word_at 0 ps) channels)) clients (word_at 0 ps) (word_at 1 ps) channels
+change_by command.Mode client p clients channels ps =
+    mode_change (standing_in client (room (word_at 0 ps) channels)) clients (word_at 0 ps) (word_at 1 ps) (drop 2 ps) channels
+change_by command.Quit client p clients channels ps = change.Same
+change_by command.Privmsg client p clients channels ps = change.Same
+change_by command.Notice client p clients channels ps = change.Same
+change_by command.Names client p clients channels ps = change.Same
+change_by command.Who client p clients channels ps = change.Same
+change_by command.Ping client p clients channels ps = change.Same
+change_by command.Unknown client p clients channels ps = change.Same
+
+-- a command counts where the client may send it and gives the parameters that it needs
+abbrev pub is_admitted : Person → Command → ℕ → Bool
+is_admitted p c count = (is_registered p || is_open c) && nat_le (needed c) count
+
+abbrev pub change_of : ℕ → Person → List (Option Person) → List Channel → Message → Change
+change_of client p clients channels m =
+    if is_admitted p (command_of m.command) (length m.params)
+    then change_by (command_of m.command) client p clients channels m.params
+    else change.Same

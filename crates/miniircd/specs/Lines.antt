@@ -1,0 +1,123 @@
+-- The lines that the server writes.
+use Rattle.std.specs.Prelude.{ℕ, zero, suc, ◌≤◌, ◌+◌, ◌-◌, ◌*◌, ◌/◌, Bool, ◌&&◌, ◌||◌, List, [], ◌∷◌, ◌++◌, Option, Some, None, take, drop, length, map, filter, not, nat_le, codes, if◌then◌else◌}
+use Rattle.std.specs.List.{flat_map}
+use Rattle.rfccase.specs.Channels.{is_channel_name}
+use Rattle.ircline.specs.Classes.{filled}
+use Rattle.ircline.specs.Printing.{wants_colon, last_text}
+use Rattle.miniircd.specs.declared.person.Person.{Person}
+use Rattle.miniircd.specs.declared.member.Member.{Member}
+use Rattle.miniircd.specs.declared.member.Channel.{Channel}
+use Rattle.miniircd.specs.People.{held_at}
+use Rattle.miniircd.specs.Rooms.{room, has_member, is_on_some, is_client, joined}
+use Rattle.miniircd.specs.Mail.{Letter}
+
+-- ---- one line
+
+-- a client without a nick is told '*' in its place
+abbrev pub shown : List ℕ → List ℕ
+shown nick = if filled nick then nick else 42 ∷ []
+
+-- a word that a reply repeats has at most 100 bytes
+abbrev pub repeated : List ℕ → List ℕ
+repeated word = 32 ∷ take 100 word
+
+-- a numbered reply (RFC 2812 section 5): the words have a space before each
+abbrev pub numbered : List ℕ → List ℕ → List ℕ → List ℕ → List ℕ
+numbered nick code words last = codes ":irc.test " ++ code ++ codes " " ++ shown nick ++ words ++ codes " :" ++ last
+
+-- a last parameter: its longest front that has room, with the colon that it may need
+abbrev pub cut : ℕ → List ℕ → List ℕ
+cut room last = if wants_colon (take room last) && nat_le room (length last) then take (room - 1) last else take room last
+
+-- of the fronts of a last parameter that have room after a space, with the colon that they may need, it is the longest
+abbrev pub IsLongest : ℕ → List ℕ → List ℕ → Type 0
+IsLongest room last front =
+    (length (last_text front) ≤ room + 1)
+    × ((k : ℕ) → k ≤ length last → length (last_text (take k last)) ≤ room + 1 → k ≤ length front)
+
+abbrev pub head : List ℕ → List ℕ → List ℕ → List ℕ
+head source command words = codes ":" ++ source ++ codes " " ++ command ++ words
+
+-- a message that is passed on (RFC 2812 section 2.3.1), of at most 510 bytes
+abbrev pub relayed : List ℕ → List ℕ → List ℕ → List ℕ → List ℕ
+relayed source command words last =
+    head source command words ++ last_text (cut (509 - length (head source command words)) last)
+
+-- who a client's messages come from
+abbrev pub source_of : Person → List ℕ
+source_of p = p.nick ++ codes "!" ++ p.user ++ codes "@local"
+
+-- ---- letters
+
+abbrev pub letter : ℕ → List ℕ → Letter
+letter to text = record { to = to; text = text }
+
+-- a reply to a client, about a word or about none
+abbrev pub told : ℕ → Person → List ℕ → List ℕ → List ℕ → Letter
+told to p code words last = letter to (numbered p.nick code words last)
+
+-- the same line for each of these members
+abbrev pub spread : List ℕ → List Member → List Letter
+spread text members = map (λ m. letter m.client text) members
+
+abbrev pub others : ℕ → List Member → List Member
+others client members = filter (λ m. not (is_client client m)) members
+
+-- ---- names (RFC 2812 section 5.1, replies 353 and 366)
+
+-- an operator has '@' before its nick, else one with a voice '+'
+abbrev pub marks : Member → List ℕ
+marks m = if m.op then codes "@" else (if m.voice then codes "+" else [])
+
+abbrev pub name_of : Option Person → Member → List (List ℕ)
+name_of None m = []
+name_of (Some p) m = (marks m ++ p.nick) ∷ []
+
+abbrev pub names_of : List (Option Person) → List Member → List (List ℕ)
+names_of clients members = flat_map (λ m. name_of (held_at clients m.client) m) members
+
+-- names with a space between
+abbrev pub side_by_side : List (List ℕ) → List ℕ
+side_by_side names = drop 1 (flat_map (λ name. 32 ∷ name) names)
+
+-- the names of a line, by its place from 0: ten in a line
+abbrev pub row : List (List ℕ) → ℕ → List ℕ
+row names i = side_by_side (take 10 (drop (10 * i) names))
+
+abbrev pub listed : ℕ → Person → List ℕ → List (List ℕ) → ℕ → Letter
+listed to p name names i = told to p (codes "353") (codes " =" ++ repeated name) (row names i)
+
+-- the lines before one
+unfoldable pub listed_before : ℕ → Person → List ℕ → List (List ℕ) → ℕ → List Letter
+listed_before to p name names zero = []
+listed_before to p name names (suc i) = listed_before to p name names i ++ listed to p name names i ∷ []
+
+abbrev pub listing : ℕ → Person → List ℕ → List (List ℕ) → List Letter
+listing to p name names =
+    listed_before to p name names ((length names + 10 - 1) / 10) ++ told to p (codes "366") (repeated name) (codes "End of names") ∷ []
+
+-- ---- JOIN (RFC 2812 section 3.2.1)
+
+-- a topic, where there is one
+abbrev pub titling : ℕ → Person → List ℕ → List ℕ → List Letter
+titling to p name topic = if filled topic then told to p (codes "332") (repeated name) topic ∷ [] else []
+
+-- the JOIN goes to all members, the new one last, who is then told the topic and the names
+abbrev pub arrival : ℕ → Person → List ℕ → List (Option Person) → Option Channel → List Letter
+arrival client p name clients None = []
+arrival client p name clients (Some channel) =
+    spread (relayed (source_of p) (codes "JOIN") [] name) channel.members
+    ++ titling client p name channel.topic
+    ++ listing client p name (names_of clients channel.members)
+
+abbrev pub join_letters : ℕ → Person → List (Option Person) → List ℕ → List Channel → List Letter
+join_letters client p clients name channels =
+    if not (is_channel_name name) then told client p (codes "403") (repeated name) (codes "No such channel") ∷ []
+    else (if is_on_some client (room name channels) then []
+    else arrival client p name clients (room name (joined client name channels)))
+
+-- a list of names, one after another
+abbrev pub join_letters_each : ℕ → Person → List (Option Person) → List (List ℕ) → List Channel → List Letter
+join_letters_each client p clients [] channels = []
+join_letters_each client p clients (name ∷ names) channels =
+    join_letters client p clients name channels ++ join_letters_each client p clients names (joined client name channels)

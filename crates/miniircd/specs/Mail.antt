@@ -1,0 +1,58 @@
+-- What goes out: to clients that are held, and in lines that the protocol allows.
+use Rattle.std.specs.Prelude.{◌≡◌, ℕ, Bool, true, false, not, ◌==◌, ◌&&◌, List, [], ◌∷◌, ◌++◌, Option, Some, None, is_some, filter, take, length, nat_le, if◌then◌else◌}
+use Rattle.std.specs.List.{list_all}
+use Rattle.ircline.specs.Classes.{filled, octet}
+use Rattle.miniircd.specs.declared.person.Person.{Person}
+use Rattle.miniircd.specs.declared.client.Client.{Client}
+use Rattle.miniircd.specs.declared.client.Sent.{Sent}
+use Rattle.miniircd.specs.People.{held_at}
+
+-- the clients, which of them is about to leave, and the lines that go out
+pub record Mail : Type 0 where
+  pub clients : List (Option Person)
+  pub leaver : Option ℕ
+  pub lines : List Sent
+
+-- who gets lines
+abbrev pub readers : Mail → List (Option Person) × Option ℕ
+readers mail = (mail.clients, mail.leaver)
+
+-- a line has at most 510 bytes before CR and LF, and no NUL, CR or LF (RFC 2812 section 2.3)
+abbrev pub sealed : List ℕ → List ℕ
+sealed text = take 510 (filter octet text)
+
+abbrev pub is_leaver : Option ℕ → ℕ → Bool
+is_leaver None client = false
+is_leaver (Some leaver) client = client == leaver
+
+-- a client gets lines where it is held and not about to leave
+abbrev pub serves : List (Option Person) → Option ℕ → ℕ → Bool
+serves clients leaver client = is_some (held_at clients client) && not (is_leaver leaver client)
+
+-- a text for a client
+pub record Letter : Type 0 where
+  pub to : ℕ
+  pub text : List ℕ
+
+-- what goes out of a letter
+abbrev pub delivery : List (Option Person) → Option ℕ → Letter → List Sent
+delivery clients leaver letter =
+    if filled (sealed letter.text) && serves clients leaver letter.to
+    then record { to = record { 0 = letter.to }; line = sealed letter.text } ∷ []
+    else []
+
+abbrev pub deliveries : List (Option Person) → Option ℕ → List Letter → List Sent
+deliveries clients leaver [] = []
+deliveries clients leaver (letter ∷ letters) = delivery clients leaver letter ++ deliveries clients leaver letters
+
+-- the mail after these letters, in their order
+abbrev pub posted : List Letter → Mail → Mail
+posted letters mail = record mail { lines = mail.lines ++ deliveries mail.clients mail.leaver letters }
+
+-- a line that a client may get
+abbrev pub is_sound : List (Option Person) → Option ℕ → Sent → Bool
+is_sound clients leaver sent =
+    serves clients leaver sent.to.0 && (filled sent.line && (nat_le (length sent.line) 510 && list_all octet sent.line))
+
+abbrev pub are_sound : List (Option Person) → Option ℕ → List Sent → Bool
+are_sound clients leaver lines = list_all (is_sound clients leaver) lines

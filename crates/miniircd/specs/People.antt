@@ -1,0 +1,39 @@
+-- The clients of the server: what each has said of itself, by its number.
+use Rattle.std.specs.Prelude.{ℕ, ◌&&◌, ◌+◌, Bool, List, [], ◌∷◌, Option, Some, None, slice_get, slice_index_or, if◌then◌else◌}
+use Rattle.rfccase.specs.Casemapping.{is_same}
+use Rattle.ircline.specs.Classes.{filled}
+use Rattle.slab.specs.Slab.{entries_from}
+use Rattle.miniircd.specs.declared.person.Person.{Person}
+
+-- the client of a number, if it is held
+abbrev pub held_at : List (Option Person) → ℕ → Option Person
+held_at clients client = slice_index_or clients client None
+
+-- one who has said nothing yet
+abbrev pub blank : Person
+blank = record { nick = []; user = [] }
+
+-- a client is registered once it has given a nick and a user name
+abbrev pub is_registered : Person → Bool
+is_registered p = filled p.nick && filled p.user
+
+-- whether the client holds this nick
+abbrev pub is_called : List ℕ → Person → Bool
+is_called nick p = filled p.nick && is_same nick p.nick
+
+-- the first client of these that holds a nick
+abbrev pub first_called : List ℕ → List (ℕ × Person) → Option ℕ
+first_called nick [] = None
+first_called nick (e ∷ es) = if is_called nick e.1 then Some e.0 else first_called nick es
+
+-- the client that holds a nick
+abbrev pub holder : List ℕ → List (Option Person) → Option ℕ
+holder nick clients = first_called nick (entries_from 0 clients)
+
+-- a parameter, empty where there is none
+abbrev pub or_empty : Option (List ℕ) → List ℕ
+or_empty None = []
+or_empty (Some text) = text
+
+abbrev pub word_at : ℕ → List (List ℕ) → List ℕ
+word_at index params = or_empty (slice_get params index)

@@ -1,0 +1,141 @@
+// What the server answers to one line of a client that is held, before anything is changed.
+ghost use Rattle.std.specs.Prelude.{◌≡◌, None, IfOk, IfSome};
+ghost use Rattle.ircline.specs.declared.line.Line.TheVariants.{Message as message_line};
+ghost use Rattle.ircline.specs.Words.{up_to};
+ghost use Rattle.ircline.specs.Classes.{is_end};
+ghost use Rattle.ircline.specs.Reading.{line_of};
+ghost use Rattle.miniircd.specs.declared.change.Effect.TheVariants.{Changed, Left};
+ghost use Rattle.miniircd.specs.Mail.{deliveries};
+ghost use Rattle.miniircd.specs.Rooms.{rooms_after, Leave};
+ghost use Rattle.miniircd.specs.Commands.{change_of};
+ghost use Rattle.miniircd.specs.Talk.{exact_letters};
+ghost use Rattle.miniircd.specs.Server.{Server, effected, after_message, after_line, letters_of, IsSoundAfter};
+
+use crate::change::{Change, Effect};
+use crate::client::Sent;
+use crate::command::read_command;
+use crate::edit::{Edit, rooms_after};
+use crate::lines::{farewell, source_of};
+use crate::member::Channel;
+use crate::people::spread_to_neighbours;
+use crate::person::Person;
+use crate::post::Post;
+use crate::replies::Sender;
+use crate::texts::param;
+use crate::turn::answer;
+use bytetext::{NoMemory, Seq};
+use ircline::{Line, Message, read_line};
+use slab::Slab;
+use std::alloc::Global;
+
+/// What a line of a client does to the server, and the lines that go out of it.
+#[derive(Drop)]
+pub struct Reply {
+    /// What it does.
+    pub effect: Effect,
+    /// The lines, in order.
+    pub lines: Seq<Sent>,
+}
+
+// The reply to a message that is no QUIT.
+fn reply_to_message(
+    alloc: Global,
+    clients: &Slab<Person>,
+    channels: &[Channel],
+    me: &Sender<'_>,
+    message: &Message,
+) -> Result<Reply, NoMemory>
+    ensures change { IfOk result (λ reply. reply.effect
+        ≡ Changed (change_of me.now.key me.now.person.now clients.now.slots channels.now message.now)) }
+    ensures told { IfOk result
+        (λ reply. IfSome (exact_letters me.now.key me.now.person.now clients.now.slots channels.now message.now)
+        (λ letters. reply.lines ≡ deliveries clients.now.slots None letters)) }
+    ensures sound { IfOk result (λ reply. IsSoundAfter me.now.key clients.now.slots reply.effect reply.lines) }
+{
+    let mut post = Post::new(alloc, clients, None);
+    let change = answer(alloc, &mut post, clients, channels, me, message)?;
+    Ok(Reply {
+        effect: Effect::Changed(change),
+        lines: Seq::new(post.into_lines()),
+    })
+}
+
+/// What a client leaves, with the reason that it may give.
+///
+/// # Errors
+/// `NoMemory` where room is refused.
+pub fn farewell_of(
+    alloc: Global,
+    clients: &Slab<Person>,
+    channels: &[Channel],
+    me: &Sender<'_>,
+    reason: Option<&[u8]>,
+) -> Result<Reply, NoMemory>
+    ensures left { IfOk result (λ reply. reply.effect ≡ Left (rooms_after None (Leave me.now.key) channels.now)) }
+    ensures sound { IfOk result (λ reply. IsSoundAfter me.now.key clients.now.slots reply.effect reply.lines) }
+{
+    let mut post = Post::new(alloc, clients, Some(me.key));
+    let source = source_of(alloc, me.person)?;
+    let line = farewell(alloc, source.as_slice(), reason)?;
+    spread_to_neighbours(alloc, &mut post, clients, channels, me.key, line.as_slice())?;
+    let after = rooms_after(alloc, channels, None, Edit::Leave(me.key))?;
+    Ok(Reply {
+        effect: Effect::Left(Seq::new(after)),
+        lines: Seq::new(post.into_lines()),
+    })
+}
+
+// The reply to a message: a QUIT, or another.
+fn reply_to_any(
+    alloc: Global,
+    clients: &Slab<Person>,
+    channels: &[Channel],
+    me: &Sender<'_>,
+    message: &Message,
+) -> Result<Reply, NoMemory>
+    ensures after { IfOk result
+        (λ reply. let server : Server = record { clients = clients.now.slots; channels = channels.now } in
+        effected me.now.key reply.effect server ≡ after_message me.now.key me.now.person.now message.now server) }
+    ensures told { IfOk result
+        (λ reply. IfSome (letters_of me.now.key me.now.person.now (message_line message.now)
+        (record { clients = clients.now.slots; channels = channels.now }))
+        (λ letters. reply.lines ≡ deliveries clients.now.slots None letters)) }
+    ensures sound { IfOk result (λ reply. IsSoundAfter me.now.key clients.now.slots reply.effect reply.lines) }
+{
+    let command = read_command(message.command.as_bytes());
+    if command.is_quit() {
+        let reason = param(message.params.as_slice(), 0);
+        farewell_of(alloc, clients, channels, me, reason)
+    } else {
+        reply_to_message(alloc, clients, channels, me, message)
+    }
+}
+
+/// The reply to a line of a client.
+///
+/// # Errors
+/// `NoMemory` where room is refused.
+pub fn reply_to(
+    alloc: Global,
+    clients: &Slab<Person>,
+    channels: &[Channel],
+    me: &Sender<'_>,
+    text: &[u8],
+) -> Result<Reply, NoMemory>
+    ensures after { IfOk result
+        (λ reply. let server : Server = record { clients = clients.now.slots; channels = channels.now } in
+        effected me.now.key reply.effect server ≡ after_line me.now.key me.now.person.now (line_of (up_to is_end text.now)) server) }
+    ensures told { IfOk result
+        (λ reply. IfSome (letters_of me.now.key me.now.person.now (line_of (up_to is_end text.now))
+        (record { clients = clients.now.slots; channels = channels.now }))
+        (λ letters. reply.lines ≡ deliveries clients.now.slots None letters)) }
+    ensures sound { IfOk result (λ reply. IsSoundAfter me.now.key clients.now.slots reply.effect reply.lines) }
+{
+    match read_line(alloc, text)? {
+        Line::Bad(_) => Ok(Reply {
+            effect: Effect::Changed(Change::Same),
+            lines: Seq::empty(alloc),
+        }),
+        Line::Message(message) => reply_to_any(alloc, clients, channels, me, &message),
+    }
+}

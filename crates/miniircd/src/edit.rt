@@ -1,0 +1,170 @@
+// How commands leave channels.
+ghost use Rattle.std.specs.Prelude.{◌≡◌, ◌++◌, ◌∷◌, [], IfOk, map, filter, not};
+ghost use Rattle.std.specs.Option.{option_copied};
+ghost use Rattle.miniircd.specs.Rooms.{seen, is_client, plain, marked, members_after, topic_after, edited, edited_if, is_used, concerns, rooms_after};
+
+use crate::member::{Channel, Member, plain};
+use crate::texts::is_same;
+use bytetext::{NoMemory, Seq, Text, TryCopy, copies_of};
+use std::alloc::Global;
+
+/// A change of a channel.
+#[derive(Clone, Copy)]
+pub enum Edit<'a> {
+    // A client joins.
+    Enter(usize),
+    // A client leaves.
+    Leave(usize),
+    // The topic is another one.
+    Title(&'a [u8]),
+    // A mark of a client is set or cleared: the voice, or else that of an operator.
+    Mark {
+        client: usize,
+        is_voice: bool,
+        on: bool,
+    },
+}
+
+fn marked(member: Member, client: usize, is_voice: bool, on: bool) -> Member
+    ensures { result ≡ marked client is_voice on member }
+{
+    if member.client != client {
+        return member;
+    }
+    if is_voice {
+        Member {
+            voice: on,
+            ..member
+        }
+    } else {
+        Member { op: on, ..member }
+    }
+}
+
+// The members with the marks of a client changed.
+fn marked_each(
+    alloc: Global,
+    members: &[Member],
+    client: usize,
+    is_voice: bool,
+    on: bool,
+) -> Result<Vec<Member>, NoMemory>
+    ensures { IfOk result (λ after. after.items ≡ map (marked client is_voice on) members.now) }
+{
+    let mut after = Vec::with_capacity(alloc, members.len())?;
+    for member in members {
+        after.push(marked(*member, client, is_voice, on))?;
+    }
+    Ok(after)
+}
+
+/// The members without a client.
+pub fn without(alloc: Global, members: &[Member], client: usize) -> Result<Vec<Member>, NoMemory>
+    ensures { IfOk result (λ after. after.items ≡ filter (λ m. not (is_client client m)) members.now) }
+{
+    let mut after = Vec::with_capacity(alloc, members.len())?;
+    for member in members {
+        if member.client != client {
+            after.push(*member)?;
+        }
+    }
+    Ok(after)
+}
+
+// The members and one more, who has no mark.
+fn with(alloc: Global, members: &[Member], client: usize) -> Result<Vec<Member>, NoMemory>
+    ensures { IfOk result (λ after. after.items ≡ members.now ++ plain client ∷ []) }
+{
+    let mut after = Vec::from_slice(alloc, members)?;
+    after.push(plain(client))?;
+    Ok(after)
+}
+
+fn members_after(alloc: Global, members: &[Member], edit: Edit<'_>) -> Result<Vec<Member>, NoMemory>
+    ensures { IfOk result (λ after. after.items ≡ members_after (seen edit.entry) members.now) }
+{
+    match edit {
+        Edit::Enter(client) => with(alloc, members, client),
+        Edit::Leave(client) => without(alloc, members, client),
+        Edit::Title(_) => copies_of(alloc, members),
+        Edit::Mark {
+            client,
+            is_voice,
+            on,
+        } => marked_each(alloc, members, client, is_voice, on),
+    }
+}
+
+fn topic_after<'a>(topic: &'a [u8], edit: Edit<'a>) -> &'a [u8]
+    ensures { result.now ≡ topic_after (seen edit.entry) topic.now }
+{
+    match edit {
+        Edit::Title(topic) => topic,
+        Edit::Enter(_) | Edit::Leave(_) | Edit::Mark { .. } => topic,
+    }
+}
+
+fn edited(alloc: Global, channel: &Channel, edit: Edit<'_>) -> Result<Channel, NoMemory>
+    ensures { IfOk result (λ after. after ≡ edited (seen edit.entry) channel.now) }
+{
+    let members = members_after(alloc, channel.members.as_slice(), edit)?;
+    Ok(Channel {
+        name: channel.name.copy(alloc)?,
+        topic: Text::from_slice(alloc, topic_after(channel.topic.as_bytes(), edit))?,
+        members: Seq::new(members),
+    })
+}
+
+// Whether the channel has this name, or any, where there is none.
+fn concerns(name: Option<&[u8]>, channel: &Channel) -> bool
+    ensures { result ≡ concerns (option_copied name.entry) channel.now }
+{
+    match name {
+        Some(name) => is_same(name, channel.name.as_bytes()),
+        None => true,
+    }
+}
+
+fn edited_if(
+    alloc: Global,
+    name: Option<&[u8]>,
+    edit: Edit<'_>,
+    channel: &Channel,
+) -> Result<Channel, NoMemory>
+    ensures { IfOk result (λ after. after ≡ edited_if (option_copied name.entry) (seen edit.entry) channel.now) }
+{
+    if concerns(name, channel) {
+        edited(alloc, channel, edit)
+    } else {
+        channel.copy(alloc)
+    }
+}
+
+fn is_used(channel: &Channel) -> bool
+    ensures { result ≡ is_used channel.now }
+{
+    channel.members.len() > 0
+}
+
+/// The channels after an edit of the one of a name, or without a name of each. One that nobody is on is forgotten.
+///
+/// # Errors
+/// `NoMemory` where room for them is refused.
+pub fn rooms_after(
+    alloc: Global,
+    channels: &[Channel],
+    name: Option<&[u8]>,
+    edit: Edit<'_>,
+) -> Result<Vec<Channel>, NoMemory>
+    ensures { IfOk result
+        (λ after. after.items ≡ rooms_after (option_copied name.entry) (seen edit.entry) channels.now) }
+{
+    let mut after = Vec::with_capacity(alloc, channels.len())?;
+    for channel in channels {
+        let channel = edited_if(alloc, name, edit, channel)?;
+        if is_used(&channel) {
+            after.push(channel)?;
+        }
+    }
+    Ok(after)
+}

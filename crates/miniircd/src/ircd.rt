@@ -1,0 +1,161 @@
+// The server.
+ghost use Rattle.std.specs.Prelude.{◌≡◌, ◌≤◌, ◌↔◌, [], true, None, Some, Err, IfOk, IfSome, OnOk, OnErr, slice_set};
+ghost use Rattle.slab.specs.Slab.{ContainsKey};
+ghost use Rattle.bytetext.specs.declared.failure.Failure.TheVariants.{Refused};
+ghost use Rattle.miniircd.specs.declared.fault.Fault.TheVariants.{Full, NoSuchClient};
+ghost use Rattle.miniircd.specs.People.{held_at};
+ghost use Rattle.miniircd.specs.Mail.{deliveries, are_sound};
+ghost use Rattle.miniircd.specs.Server.{count, Comes, effected, left, after, letters};
+
+use crate::answers::{Reply, farewell_of, reply_to};
+use crate::change::{Change, Effect};
+use crate::client::{Client, Sent};
+use crate::fault::{Fault, IrcdError};
+use crate::member::Channel;
+use crate::person::Person;
+use crate::replies::Sender;
+use bytetext::{Failure, Seq};
+use slab::Slab;
+use std::alloc::Global;
+use std::marker::Model;
+
+/// The most clients that the server holds.
+pub const MAX_CLIENTS: usize = 64;
+
+/// A small IRC server in memory: it reads the lines of its clients, and answers with the lines that go out.
+///
+/// ```text
+/// let mut server = Ircd::new(alloc);
+/// let ann = server.connect(alloc)?;
+/// server.line(alloc, ann, b"NICK ann")?;                  // no line yet
+/// server.line(alloc, ann, b"USER ann 0 * :Ann")?;         // to ann: :irc.test 001 ann :Welcome, and 422
+/// server.line(alloc, ann, b"JOIN #egg")?;                 // to ann: her JOIN, 353 and 366
+/// server.gone(alloc, ann)?;                               // nobody shared a channel with her
+/// ```
+#[derive(Drop)]
+pub struct Ircd {
+    clients: Slab<Person>,
+    channels: Seq<Channel>,
+}
+
+impl Model for Ircd {
+    ghost use Rattle.miniircd.specs.Server.{Server};
+
+    ghost Value = { Server };
+
+    ghost view = { λ s. record { clients = s.clients.slots; channels = s.channels } };
+}
+
+impl Ircd {
+    /// A server without clients and channels. Takes no memory.
+    pub fn new(alloc: Global) -> Ircd
+        ensures { result ≡ record { clients = []; channels = [] } }
+    {
+        Ircd {
+            clients: Slab::new(alloc),
+            channels: Seq::empty(alloc),
+        }
+    }
+
+    /// A client comes.
+    ///
+    /// # Errors
+    /// [`Fault::Full`] where 64 clients are held, and `NoMemory` where they aren't and room for one is refused.
+    pub fn connect(&mut self, alloc: Global) -> Result<Client, IrcdError>
+        ensures full { (result ≡ Err (Refused Full)) ↔ (64 ≤ count self.old) }
+        ensures came { IfOk result (λ client. Comes client.0 self.old self.new) }
+        ensures err { OnErr result (self.new ≡ self.old) }
+    {
+        if self.clients.len() >= MAX_CLIENTS {
+            return Err(Failure::Refused(Fault::Full));
+        }
+        let key = self.clients.insert(Person::blank(alloc))?;
+        Ok(Client(key))
+    }
+
+    /// A line of a client, without or with its CR and LF: the lines that go out of it, in order. A bad line is ignored.
+    ///
+    /// # Errors
+    /// [`Fault::NoSuchClient`] where the client isn't held, and `NoMemory` where it is and room is refused.
+    pub fn line(
+        &mut self,
+        alloc: Global,
+        client: Client,
+        text: &[u8],
+    ) -> Result<Seq<Sent>, IrcdError>
+        ensures unknown { (result ≡ Err (Refused NoSuchClient)) ↔ (held_at self.old.clients client.0 ≡ None) }
+        ensures after { OnOk result (self.new ≡ after client.0 text.now self.old) }
+        ensures told { IfOk result (λ lines. IfSome (letters client.0 text.now self.old)
+            (λ letters. lines ≡ deliveries self.old.clients None letters)) }
+        ensures sound { IfOk result (λ lines. are_sound self.new.clients None lines ≡ true) }
+        ensures err { OnErr result (self.new ≡ self.old) }
+    {
+        let Some(person) = self.clients.get(client.0) else {
+            return Err(Failure::Refused(Fault::NoSuchClient));
+        };
+        let me = Sender {
+            key: client.0,
+            person,
+        };
+        let reply = reply_to(alloc, &self.clients, self.channels.as_slice(), &me, text)?;
+        let Reply { effect, lines } = reply;
+        commit(&mut self.clients, &mut self.channels, client.0, effect);
+        Ok(lines)
+    }
+
+    /// A client is gone: who shared a channel with it gets its QUIT.
+    ///
+    /// # Errors
+    /// [`Fault::NoSuchClient`] where the client isn't held, and `NoMemory` where it is and room is refused.
+    pub fn gone(&mut self, alloc: Global, client: Client) -> Result<Seq<Sent>, IrcdError>
+        ensures unknown { (result ≡ Err (Refused NoSuchClient)) ↔ (held_at self.old.clients client.0 ≡ None) }
+        ensures left { OnOk result (self.new ≡ left client.0 self.old) }
+        ensures sound { IfOk result (λ lines. are_sound self.new.clients None lines ≡ true) }
+        ensures err { OnErr result (self.new ≡ self.old) }
+    {
+        let Some(person) = self.clients.get(client.0) else {
+            return Err(Failure::Refused(Fault::NoSuchClient));
+        };
+        let me = Sender {
+            key: client.0,
+            person,
+        };
+        let reply = farewell_of(alloc, &self.clients, self.channels.as_slice(), &me, None)?;
+        let Reply { effect, lines } = reply;
+        commit(&mut self.clients, &mut self.channels, client.0, effect);
+        Ok(lines)
+    }
+}
+
+// What a client that is held has said of itself is now this.
+fn place(clients: &mut Slab<Person>, client: usize, person: Person)
+    requires { ContainsKey clients.old client }
+    ensures { clients.new.slots ≡ slice_set clients.old.slots client (Some person) }
+{
+    clients[client] = person;
+}
+
+// A client that is held is gone.
+fn remove(clients: &mut Slab<Person>, client: usize)
+    requires { ContainsKey clients.old client }
+    ensures { clients.new.slots ≡ slice_set clients.old.slots client None }
+{
+    clients.remove(client);
+}
+
+// What a line of a client that is held does is done. Takes no memory.
+fn commit(clients: &mut Slab<Person>, channels: &mut Seq<Channel>, client: usize, effect: Effect)
+    requires { ContainsKey clients.old client }
+    ensures clients { clients.new.slots ≡ (effected client effect (record { clients = clients.old.slots; channels = channels.old })).clients }
+    ensures channels { channels.new ≡ (effected client effect (record { clients = clients.old.slots; channels = channels.old })).channels }
+{
+    match effect {
+        Effect::Changed(Change::Same) => {}
+        Effect::Changed(Change::Person(person)) => place(clients, client, person),
+        Effect::Changed(Change::Channels(after)) => *channels = after,
+        Effect::Left(after) => {
+            remove(clients, client);
+            *channels = after;
+        }
+    }
+}

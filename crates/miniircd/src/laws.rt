@@ -1,0 +1,19 @@
+// What the definition of a line that is passed on means.
+ghost use Rattle.std.specs.Prelude.{◌≡◌, ◌≤◌, ◌-◌, ◌++◌, ◌∷◌, [], ℕ, List, true, length};
+ghost use Rattle.std.specs.List.{flat_map};
+ghost use Rattle.ircline.specs.Classes.{filled};
+ghost use Rattle.ircline.specs.Printing.{canonical};
+ghost use Rattle.miniircd.specs.Lines.{cut, head, relayed, IsLongest};
+
+/// A line that is passed on is the canonical line of the message with its last parameter cut.
+pub fn relays_are_canonical()
+    ensures { (source command last : List ℕ) (middles : List (List ℕ)) → filled source ≡ true →
+        let words = flat_map (λ word. 32 ∷ word) middles in
+        relayed source command words last
+        ≡ canonical (record { prefix = source; command = command; params = middles ++ cut (509 - length (head source command words)) last ∷ []; rest = [] }) }
+{}
+
+/// A last parameter is cut to its longest front that has room.
+pub fn cuts_are_the_longest()
+    ensures { (room : ℕ) (last : List ℕ) → 1 ≤ room → IsLongest room last (cut room last) }
+{}

@@ -1,0 +1,46 @@
+//! A small IRC server, for programs and tests: clients, channels and what goes between them (RFC 2812).
+//!
+//! An [`Ircd`] holds no sockets. [`Ircd::connect`] gives the number of a client, [`Ircd::line`] takes a line of one and
+//! answers the lines that go out, each with the client that gets it, and [`Ircd::gone`] says that a connection is no more.
+//! It knows NICK, USER, JOIN, PART, TOPIC, KICK, MODE, PRIVMSG, NOTICE, NAMES, WHO, PING and QUIT. The server is called
+//! `irc.test`, and each client's host is `local`.
+//!
+//! Contracts see a server as its clients by their numbers and its channels in the order in which they were made
+//! (`specs/Server.antt`). `after` in that file is what a line leaves, a definition for each command in
+//! `specs/Commands.antt`; for PING, JOIN, PRIVMSG and NOTICE of a registered client `letters` says which lines go out.
+//! Every line that goes out goes to a client that is held then, has 1 to 510 bytes, and no NUL, CR or LF.
+//! What one call needs of memory it takes before it changes anything.
+#![tactic(auto)]
+
+mod answers;
+mod change;
+mod client;
+mod command;
+mod edit;
+mod fault;
+mod ircd;
+mod join;
+mod laws;
+mod lines;
+mod member;
+mod mode;
+mod modes;
+mod names;
+mod people;
+mod person;
+mod post;
+mod register;
+mod replies;
+mod rooms;
+mod standing;
+mod talk;
+mod texts;
+mod turn;
+mod who;
+
+pub use crate::client::{Client, Sent};
+pub use crate::fault::{Fault, IrcdError};
+pub use crate::ircd::{Ircd, MAX_CLIENTS};
+pub use crate::laws::{cuts_are_the_longest, relays_are_canonical};
+pub use crate::member::{Channel, Member};
+pub use crate::person::Person;

@@ -1,0 +1,107 @@
+// Channels and those who are on them.
+ghost use Rattle.std.specs.Prelude.{◌≡◌, IfOk};
+ghost use Rattle.std.specs.Option.{option_copied};
+ghost use Rattle.miniircd.specs.Rooms.{plain, room, member_of, opened, has_member, is_on_some};
+
+use crate::texts::is_same;
+use bytetext::{NoMemory, Seq, Text, TryCopy};
+use std::alloc::Global;
+
+/// A client that is on a channel.
+#[derive(Clone, Copy, Debug)]
+pub struct Member {
+    /// The client's number.
+    pub client: usize,
+    /// Whether it is a channel operator.
+    pub op: bool,
+    /// Whether it has a voice.
+    pub voice: bool,
+}
+
+impl TryCopy for Member {
+    fn copy(&self, _alloc: Global) -> Result<Member, NoMemory> {
+        Ok(*self)
+    }
+}
+
+/// A channel that somebody is on.
+#[derive(Debug, Drop)]
+pub struct Channel {
+    /// The name, as the first member spelled it.
+    pub name: Text,
+    /// The topic, empty where there is none.
+    pub topic: Text,
+    /// The members in the order in which they joined.
+    pub members: Seq<Member>,
+}
+
+impl TryCopy for Channel {
+    fn copy(&self, alloc: Global) -> Result<Channel, NoMemory> {
+        Ok(Channel {
+            name: self.name.copy(alloc)?,
+            topic: self.topic.copy(alloc)?,
+            members: self.members.copy(alloc)?,
+        })
+    }
+}
+
+// One who joins a channel that has members.
+pub(crate) fn plain(client: usize) -> Member
+    ensures { result ≡ plain client }
+{
+    Member {
+        client,
+        op: false,
+        voice: false,
+    }
+}
+
+// A channel that a client has just made by joining it.
+pub fn opened(alloc: Global, name: &[u8], client: usize) -> Result<Channel, NoMemory>
+    ensures { IfOk result (λ channel. channel ≡ opened name.now client) }
+{
+    let mut members = Seq::empty(alloc);
+    members.push(Member {
+        client,
+        op: true,
+        voice: false,
+    })?;
+    Ok(Channel {
+        name: Text::from_slice(alloc, name)?,
+        topic: Text::empty(alloc),
+        members,
+    })
+}
+
+// The channel of this name.
+pub fn channel_of<'a>(channels: &'a [Channel], name: &[u8]) -> Option<&'a Channel>
+    ensures { option_copied result ≡ room name.now channels.now }
+{
+    channels
+        .iter()
+        .find(|channel| is_same(name, channel.name.as_bytes()))
+}
+
+// The client as a member of these.
+pub fn member_of(members: &[Member], client: usize) -> Option<&Member>
+    ensures { option_copied result ≡ member_of client members.now }
+{
+    members.iter().find(|member| member.client == client)
+}
+
+// Whether the client is one of these.
+pub fn is_member(members: &[Member], client: usize) -> bool
+    ensures { result ≡ has_member client members.now }
+{
+    members.iter().any(|member| member.client == client)
+}
+
+/// Whether the client is on the channel of this name.
+pub fn is_on(channels: &[Channel], name: &[u8], client: usize) -> bool
+    ensures { result ≡ is_on_some client (room name.now channels.now) }
+{
+    match channel_of(channels, name) {
+        Some(channel) => is_member(channel.members.as_slice(), client),
+        None => false,
+    }
+}

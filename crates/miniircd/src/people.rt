@@ -1,0 +1,52 @@
+// Walks over the clients.
+ghost use Rattle.std.specs.Prelude.{◌≡◌, OnOk};
+ghost use Rattle.miniircd.specs.People.{holder};
+ghost use Rattle.miniircd.specs.Mail.{readers};
+
+use crate::member::{Channel, is_member};
+use crate::person::Person;
+use crate::post::Post;
+use bytetext::NoMemory;
+use slab::Slab;
+use std::alloc::Global;
+
+/// The client that holds a nick.
+pub fn holder(clients: &Slab<Person>, nick: &[u8]) -> Option<usize>
+    ensures { result ≡ holder nick.now clients.now.slots }
+{
+    for (client, person) in clients.iter() {
+        if person.is_called(nick) {
+            return Some(client);
+        }
+    }
+    None
+}
+
+// Whether two clients share a channel.
+fn shares(channels: &[Channel], a: usize, b: usize) -> bool {
+    channels.iter().any(|channel| {
+        is_member(channel.members.as_slice(), a) && is_member(channel.members.as_slice(), b)
+    })
+}
+
+/// A line goes once to each other client that shares a channel with this one.
+///
+/// # Errors
+/// `NoMemory` where room is refused.
+pub fn spread_to_neighbours(
+    alloc: Global,
+    post: &mut Post<'_>,
+    clients: &Slab<Person>,
+    channels: &[Channel],
+    client: usize,
+    text: &[u8],
+) -> Result<(), NoMemory>
+    ensures { OnOk result (readers post.new ≡ readers post.old) }
+{
+    for (other, _) in clients.iter() {
+        if other != client && shares(channels, client, other) {
+            post.send(alloc, other, text)?;
+        }
+    }
+    Ok(())
+}

@@ -1,0 +1,104 @@
+// The lines that go out of one call.
+ghost use Rattle.std.specs.Prelude.{◌≡◌, ◌&&◌, ◌∷◌, [], true, IfOk, OnOk};
+ghost use Rattle.ircline.specs.Classes.{filled, octet};
+ghost use Rattle.miniircd.specs.Mail.{sealed, posted, readers, serves, are_sound};
+
+use crate::client::{Client, Sent};
+use crate::person::Person;
+use bytetext::{NoMemory, Text};
+use slab::Slab;
+use std::alloc::Global;
+use std::marker::Model;
+
+// The most bytes that a line has before CR and LF (RFC 2812 section 2.3).
+const MAX_LINE: usize = 510;
+
+/// The lines of one call. Whatever it is given, what goes out of it is sound: each line goes to a client that is held
+/// and isn't about to leave, has 1 to 510 bytes, and no NUL, CR or LF.
+#[derive(Drop)]
+pub struct Post<'a> {
+    clients: &'a Slab<Person>,
+    leaver: Option<usize>,
+    lines: Vec<Sent>,
+}
+
+impl<'a> Model for Post<'a> {
+    ghost use Rattle.std.specs.Prelude.{◌≡◌, true};
+    ghost use Rattle.miniircd.specs.Mail.{Mail, are_sound};
+
+    ghost Value = { Mail };
+
+    ghost view = { λ p. record { clients = p.clients.now.slots; leaver = p.leaver; lines = p.lines.items } };
+
+    ghost invariant = { λ p. are_sound p.clients.now.slots p.leaver p.lines.items ≡ true };
+}
+
+impl<'a> Post<'a> {
+    /// No line yet.
+    pub fn new(alloc: Global, clients: &'a Slab<Person>, leaver: Option<usize>) -> Post<'a>
+        ensures { result ≡ record { clients = clients.now.slots; leaver = leaver; lines = [] } }
+    {
+        Post {
+            clients,
+            leaver,
+            lines: Vec::new(alloc),
+        }
+    }
+
+    // Whether the client is held and isn't about to leave.
+    fn serves(&self, client: usize) -> bool
+        ensures { result ≡ serves self.now.clients self.now.leaver client }
+    {
+        self.clients.contains(client) && self.leaver != Some(client)
+    }
+
+    // Whether there is a line, for a client that gets lines.
+    fn takes(&self, to: usize, line: &[u8]) -> bool
+        ensures { result ≡ (filled line.now && serves self.now.clients self.now.leaver to) }
+    {
+        line.len() > 0 && self.serves(to)
+    }
+
+    /// A line goes to a client, if that is held and isn't about to leave.
+    ///
+    /// # Errors
+    /// `NoMemory` where room for it is refused.
+    pub fn send(&mut self, alloc: Global, to: usize, text: &[u8]) -> Result<(), NoMemory>
+        ensures told { OnOk result (self.new ≡ posted (record { to = to; text = text.now } ∷ []) self.old) }
+        ensures readers { OnOk result (readers self.new ≡ readers self.old) }
+    {
+        let line = sealed(alloc, text)?;
+        if self.takes(to, line.as_bytes()) {
+            self.lines.push(Sent {
+                to: Client(to),
+                line,
+            })?;
+        }
+        Ok(())
+    }
+
+    /// The lines, in order.
+    pub fn into_lines(self) -> Vec<Sent>
+        ensures lines { result.items ≡ self.entry.lines }
+        ensures sound { are_sound self.entry.clients self.entry.leaver result.items ≡ true }
+    {
+        self.lines
+    }
+}
+
+// The text as a line.
+fn sealed(alloc: Global, text: &[u8]) -> Result<Text, NoMemory>
+    ensures { IfOk result (λ line. line ≡ sealed text.now) }
+{
+    let mut bytes = Vec::from_slice(alloc, text)?;
+    bytes.retain(|byte| is_octet(*byte));
+    bytes.truncate(MAX_LINE);
+    Ok(Text::new(bytes))
+}
+
+// Whether the byte may stand in a line.
+fn is_octet(byte: u8) -> bool
+    ensures { result ≡ octet byte }
+{
+    byte != 0 && !(byte == b'\r' || byte == b'\n')
+}

@@ -1,0 +1,168 @@
+// NICK and USER (RFC 2812 sections 3.1.2 and 3.1.3).
+ghost use Rattle.std.specs.Prelude.{◌≡◌, map, IfOk, OnOk};
+ghost use Rattle.std.specs.List.{list_all};
+ghost use Rattle.miniircd.specs.People.{holder};
+ghost use Rattle.miniircd.specs.Mail.{readers};
+ghost use Rattle.miniircd.specs.Commands.{is_other, is_nick_byte, is_nick, nick_change, user_byte, user_change};
+
+use crate::change::Change;
+use crate::lines::{relayed, source_of};
+use crate::member::Channel;
+use crate::people::{holder, spread_to_neighbours};
+use crate::person::Person;
+use crate::post::Post;
+use crate::replies::{Sender, tell, tell_of};
+use crate::texts::front;
+use bytetext::{NoMemory, Text, TryCopy};
+use slab::Slab;
+use std::alloc::Global;
+
+// The most bytes of a nick, and of a user name.
+const MAX_NAME: usize = 30;
+
+// Whether it is another client.
+fn is_other(client: usize, holder: Option<usize>) -> bool
+    ensures { result ≡ is_other client holder }
+{
+    match holder {
+        Some(holder) => holder != client,
+        None => false,
+    }
+}
+
+fn is_nick_byte(byte: u8) -> bool
+    ensures { result ≡ is_nick_byte byte }
+{
+    byte > b' ' && !b"!@,*?:#&+%~.".contains(&byte)
+}
+
+fn are_nick_bytes(text: &[u8]) -> bool
+    ensures { result ≡ list_all is_nick_byte text.now }
+{
+    text.iter().all(|byte| is_nick_byte(*byte))
+}
+
+fn is_nick(text: &[u8]) -> bool
+    ensures { result ≡ is_nick text.now }
+{
+    text.len() > 0 && (text.len() <= MAX_NAME && are_nick_bytes(text))
+}
+
+// One who has given both names is welcome.
+fn welcome(
+    alloc: Global,
+    post: &mut Post<'_>,
+    client: usize,
+    person: &Person,
+) -> Result<(), NoMemory>
+    ensures { OnOk result (readers post.new ≡ readers post.old) }
+{
+    if !person.is_registered() {
+        return Ok(());
+    }
+    let me = Sender {
+        key: client,
+        person,
+    };
+    tell(alloc, post, &me, b"001", b"", b"Welcome")?;
+    tell(alloc, post, &me, b"422", b"", b"No MOTD")
+}
+
+// A new nick goes to the client and to each who shares a channel with it.
+fn announce(
+    alloc: Global,
+    post: &mut Post<'_>,
+    clients: &Slab<Person>,
+    channels: &[Channel],
+    me: &Sender<'_>,
+    new: &[u8],
+) -> Result<(), NoMemory>
+    ensures { OnOk result (readers post.new ≡ readers post.old) }
+{
+    let source = source_of(alloc, me.person)?;
+    let line = relayed(alloc, source.as_slice(), b"NICK", b"", new)?;
+    post.send(alloc, me.key, line.as_slice())?;
+    spread_to_neighbours(alloc, post, clients, channels, me.key, line.as_slice())
+}
+
+/// NICK.
+///
+/// # Errors
+/// `NoMemory` where room is refused.
+pub fn nick(
+    alloc: Global,
+    post: &mut Post<'_>,
+    clients: &Slab<Person>,
+    channels: &[Channel],
+    me: &Sender<'_>,
+    new: &[u8],
+) -> Result<Change, NoMemory>
+    ensures change { IfOk result
+        (λ change. change ≡ nick_change me.now.key me.now.person.now clients.now.slots new.now) }
+    ensures readers { OnOk result (readers post.new ≡ readers post.old) }
+{
+    if is_other(me.key, holder(clients, new)) {
+        tell_of(alloc, post, me, b"433", new, b"Nickname in use")?;
+        return Ok(Change::Same);
+    }
+    if !is_nick(new) {
+        tell_of(alloc, post, me, b"432", new, b"Erroneous nickname")?;
+        return Ok(Change::Same);
+    }
+    let person = Person {
+        nick: Text::from_slice(alloc, new)?,
+        user: me.person.user.copy(alloc)?,
+    };
+    if me.person.is_registered() {
+        announce(alloc, post, clients, channels, me, new)?;
+    } else {
+        welcome(alloc, post, me.key, &person)?;
+    }
+    Ok(Change::Person(person))
+}
+
+fn user_byte(byte: u8) -> u8
+    ensures { result ≡ user_byte byte }
+{
+    if byte == b'!' || byte == b'@' {
+        b'_'
+    } else {
+        byte
+    }
+}
+
+// A user name, in which `!` and `@` have no place.
+fn user_name(alloc: Global, text: &[u8]) -> Result<Vec<u8>, NoMemory>
+    ensures { IfOk result (λ name. name.items ≡ map user_byte text.now) }
+{
+    let mut name = Vec::with_capacity(alloc, text.len())?;
+    for byte in text {
+        name.push(user_byte(*byte))?;
+    }
+    Ok(name)
+}
+
+/// USER.
+///
+/// # Errors
+/// `NoMemory` where room is refused.
+pub fn user(
+    alloc: Global,
+    post: &mut Post<'_>,
+    me: &Sender<'_>,
+    name: &[u8],
+) -> Result<Change, NoMemory>
+    ensures change { IfOk result (λ change. change ≡ user_change me.now.person.now name.now) }
+    ensures readers { OnOk result (readers post.new ≡ readers post.old) }
+{
+    if me.person.user.len() > 0 {
+        return Ok(Change::Same);
+    }
+    let name = user_name(alloc, front(name, MAX_NAME))?;
+    let person = Person {
+        nick: me.person.nick.copy(alloc)?,
+        user: Text::new(name),
+    };
+    welcome(alloc, post, me.key, &person)?;
+    Ok(Change::Person(person))
+}

@@ -1,0 +1,86 @@
+// Replies to a client, and lines for the members of a channel.
+ghost use Rattle.std.specs.Prelude.{◌≡◌, ◌∷◌, [], OnOk};
+ghost use Rattle.miniircd.specs.Mail.{posted, readers};
+ghost use Rattle.miniircd.specs.Lines.{repeated, told, spread, others};
+
+use crate::edit::without;
+use crate::lines::{numbered, repeated};
+use crate::member::Member;
+use crate::person::Person;
+use crate::post::Post;
+use bytetext::NoMemory;
+use std::alloc::Global;
+
+/// The client whose line is answered.
+#[derive(Clone, Copy)]
+pub struct Sender<'a> {
+    /// Its number.
+    pub key: usize,
+    /// What the server knows of it.
+    pub person: &'a Person,
+}
+
+/// A reply to the sender: its words have a space before each.
+pub fn tell(
+    alloc: Global,
+    post: &mut Post<'_>,
+    me: &Sender<'_>,
+    code: &[u8],
+    words: &[u8],
+    last: &[u8],
+) -> Result<(), NoMemory>
+    ensures told { OnOk result (post.new
+        ≡ posted (told me.now.key me.now.person.now code.now words.now last.now ∷ []) post.old) }
+    ensures readers { OnOk result (readers post.new ≡ readers post.old) }
+{
+    let line = numbered(alloc, me.person.nick.as_bytes(), code, words, last)?;
+    post.send(alloc, me.key, line.as_slice())
+}
+
+/// A reply to the sender that repeats one word.
+pub fn tell_of(
+    alloc: Global,
+    post: &mut Post<'_>,
+    me: &Sender<'_>,
+    code: &[u8],
+    word: &[u8],
+    last: &[u8],
+) -> Result<(), NoMemory>
+    ensures told { OnOk result (post.new
+        ≡ posted (told me.now.key me.now.person.now code.now (repeated word.now) last.now ∷ []) post.old) }
+    ensures readers { OnOk result (readers post.new ≡ readers post.old) }
+{
+    let words = repeated(alloc, word)?;
+    tell(alloc, post, me, code, words.as_slice(), last)
+}
+
+/// A line goes to each of these members.
+pub fn spread(
+    alloc: Global,
+    post: &mut Post<'_>,
+    members: &[Member],
+    text: &[u8],
+) -> Result<(), NoMemory>
+    ensures told { OnOk result (post.new ≡ posted (spread text.now members.now) post.old) }
+    ensures readers { OnOk result (readers post.new ≡ readers post.old) }
+{
+    for member in members {
+        post.send(alloc, member.client, text)?;
+    }
+    Ok(())
+}
+
+/// A line goes to each of these members but one client.
+pub fn spread_to_others(
+    alloc: Global,
+    post: &mut Post<'_>,
+    members: &[Member],
+    client: usize,
+    text: &[u8],
+) -> Result<(), NoMemory>
+    ensures told { OnOk result (post.new ≡ posted (spread text.now (others client members.now)) post.old) }
+    ensures readers { OnOk result (readers post.new ≡ readers post.old) }
+{
+    let others = without(alloc, members, client)?;
+    spread(alloc, post, others.as_slice(), text)
+}

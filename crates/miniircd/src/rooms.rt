@@ -1,0 +1,255 @@
+// PART, TOPIC and KICK (RFC 2812 sections 3.2.2, 3.2.4 and 3.2.8).
+ghost use Rattle.std.specs.Prelude.{◌≡◌, Some, IfOk, OnOk};
+ghost use Rattle.std.specs.Option.{option_copied};
+ghost use Rattle.miniircd.specs.People.{holder};
+ghost use Rattle.miniircd.specs.Mail.{readers};
+ghost use Rattle.miniircd.specs.Rooms.{room};
+ghost use Rattle.miniircd.specs.Commands.{standing_in, part_change, topic_change, target_on, kicked, kick_change};
+
+use crate::change::Change;
+use crate::edit::{Edit, rooms_after};
+use crate::lines::{relayed, source_of};
+use crate::member::{Channel, channel_of, is_on};
+use crate::people::holder;
+use crate::person::Person;
+use crate::post::Post;
+use crate::replies::{Sender, spread, tell_of};
+use crate::standing::{Standing, find_standing};
+use bytetext::{NoMemory, Seq};
+use slab::Slab;
+use std::alloc::Global;
+
+/// What keeps a client from a command on a channel, by its standing.
+///
+/// # Errors
+/// `NoMemory` where room is refused.
+pub fn turn_away(
+    alloc: Global,
+    post: &mut Post<'_>,
+    me: &Sender<'_>,
+    name: &[u8],
+    standing: Standing,
+) -> Result<(), NoMemory>
+    ensures { OnOk result (readers post.new ≡ readers post.old) }
+{
+    match standing {
+        Standing::Unknown => tell_of(alloc, post, me, b"403", name, b"No such channel"),
+        Standing::Outside => tell_of(alloc, post, me, b"442", name, b"Not on channel"),
+        Standing::Plain | Standing::Op => {
+            tell_of(alloc, post, me, b"482", name, b"Not operator")
+        }
+    }
+}
+
+/// A message of a client goes to all who are on a channel: the words after its name have a space before each.
+///
+/// # Errors
+/// `NoMemory` where room is refused.
+pub fn pass_on(
+    alloc: Global,
+    post: &mut Post<'_>,
+    channels: &[Channel],
+    me: &Sender<'_>,
+    command: &[u8],
+    name: &[u8],
+    words: &[u8],
+    last: &[u8],
+) -> Result<(), NoMemory>
+    ensures { OnOk result (readers post.new ≡ readers post.old) }
+{
+    let Some(channel) = channel_of(channels, name) else {
+        return Ok(());
+    };
+    let source = source_of(alloc, me.person)?;
+    let mut all = Vec::from_slice(alloc, b" ")?;
+    all.extend_from_slice(name)?;
+    all.extend_from_slice(words)?;
+    let line = relayed(alloc, source.as_slice(), command, all.as_slice(), last)?;
+    spread(alloc, post, channel.members.as_slice(), line.as_slice())
+}
+
+// A message of a client that has a channel's name alone goes to all who are on it.
+fn pass_name_on(
+    alloc: Global,
+    post: &mut Post<'_>,
+    channels: &[Channel],
+    me: &Sender<'_>,
+    command: &[u8],
+    name: &[u8],
+) -> Result<(), NoMemory>
+    ensures { OnOk result (readers post.new ≡ readers post.old) }
+{
+    let Some(channel) = channel_of(channels, name) else {
+        return Ok(());
+    };
+    let source = source_of(alloc, me.person)?;
+    let line = relayed(alloc, source.as_slice(), command, b"", name)?;
+    spread(alloc, post, channel.members.as_slice(), line.as_slice())
+}
+
+/// PART, with what the client says of it.
+///
+/// # Errors
+/// `NoMemory` where room is refused.
+pub fn part(
+    alloc: Global,
+    post: &mut Post<'_>,
+    channels: &[Channel],
+    me: &Sender<'_>,
+    name: &[u8],
+    text: Option<&[u8]>,
+) -> Result<Change, NoMemory>
+    ensures change { IfOk result (λ change. change
+        ≡ part_change (standing_in me.now.key (room name.now channels.now)) me.now.key name.now channels.now) }
+    ensures readers { OnOk result (readers post.new ≡ readers post.old) }
+{
+    let standing = find_standing(channels, name, me.key);
+    match standing {
+        Standing::Unknown | Standing::Outside => {
+            turn_away(alloc, post, me, name, standing)?;
+            Ok(Change::Same)
+        }
+        Standing::Plain | Standing::Op => {
+            match text {
+                Some(text) => pass_on(alloc, post, channels, me, b"PART", name, b"", text)?,
+                None => pass_name_on(alloc, post, channels, me, b"PART", name)?,
+            }
+            let after = rooms_after(alloc, channels, Some(name), Edit::Leave(me.key))?;
+            Ok(Change::Channels(Seq::new(after)))
+        }
+    }
+}
+
+// The topic of a channel goes to one who asks.
+fn tell_topic(
+    alloc: Global,
+    post: &mut Post<'_>,
+    channels: &[Channel],
+    me: &Sender<'_>,
+    name: &[u8],
+) -> Result<(), NoMemory>
+    ensures { OnOk result (readers post.new ≡ readers post.old) }
+{
+    let Some(channel) = channel_of(channels, name) else {
+        return Ok(());
+    };
+    match channel.topic.as_bytes() {
+        [] => tell_of(alloc, post, me, b"331", name, b"No topic"),
+        topic => tell_of(alloc, post, me, b"332", name, topic),
+    }
+}
+
+/// TOPIC: without a text it asks for the topic.
+///
+/// # Errors
+/// `NoMemory` where room is refused.
+pub fn topic(
+    alloc: Global,
+    post: &mut Post<'_>,
+    channels: &[Channel],
+    me: &Sender<'_>,
+    name: &[u8],
+    text: Option<&[u8]>,
+) -> Result<Change, NoMemory>
+    ensures change { IfOk result (λ change. change
+        ≡ topic_change (standing_in me.now.key (room name.now channels.now)) name.now (option_copied text.entry) channels.now) }
+    ensures readers { OnOk result (readers post.new ≡ readers post.old) }
+{
+    let standing = find_standing(channels, name, me.key);
+    match (standing, text) {
+        (Standing::Unknown | Standing::Outside, _) => {
+            turn_away(alloc, post, me, name, standing)?;
+            Ok(Change::Same)
+        }
+        (Standing::Plain | Standing::Op, None) => {
+            tell_topic(alloc, post, channels, me, name)?;
+            Ok(Change::Same)
+        }
+        (Standing::Plain | Standing::Op, Some(text)) => {
+            pass_on(alloc, post, channels, me, b"TOPIC", name, b"", text)?;
+            let after = rooms_after(alloc, channels, Some(name), Edit::Title(text))?;
+            Ok(Change::Channels(Seq::new(after)))
+        }
+    }
+}
+
+/// The member of a channel that holds a nick.
+pub fn target_on(
+    clients: &Slab<Person>,
+    channels: &[Channel],
+    name: &[u8],
+    nick: &[u8],
+) -> Option<usize>
+    ensures { result ≡ target_on clients.now.slots channels.now name.now nick.now }
+{
+    match holder(clients, nick) {
+        Some(client) if is_on(channels, name, client) => Some(client),
+        Some(_) | None => None,
+    }
+}
+
+// A client that is a member of a channel, if there is one, has to leave it.
+fn kick_out(
+    alloc: Global,
+    post: &mut Post<'_>,
+    channels: &[Channel],
+    me: &Sender<'_>,
+    name: &[u8],
+    nick: &[u8],
+    reason: &[u8],
+    target: Option<usize>,
+) -> Result<Change, NoMemory>
+    ensures change { IfOk result (λ change. change ≡ kicked target name.now channels.now) }
+    ensures readers { OnOk result (readers post.new ≡ readers post.old) }
+{
+    let Some(client) = target else {
+        tell_of(alloc, post, me, b"401", nick, b"No such nick")?;
+        return Ok(Change::Same);
+    };
+    let mut words = Vec::from_slice(alloc, b" ")?;
+    words.extend_from_slice(nick)?;
+    pass_on(
+        alloc,
+        post,
+        channels,
+        me,
+        b"KICK",
+        name,
+        words.as_slice(),
+        reason,
+    )?;
+    let after = rooms_after(alloc, channels, Some(name), Edit::Leave(client))?;
+    Ok(Change::Channels(Seq::new(after)))
+}
+
+/// KICK: a missing reason is the client's nick.
+///
+/// # Errors
+/// `NoMemory` where room is refused.
+pub fn kick(
+    alloc: Global,
+    post: &mut Post<'_>,
+    clients: &Slab<Person>,
+    channels: &[Channel],
+    me: &Sender<'_>,
+    name: &[u8],
+    nick: &[u8],
+    reason: Option<&[u8]>,
+) -> Result<Change, NoMemory>
+    ensures change { IfOk result (λ change. change
+        ≡ kick_change (standing_in me.now.key (room name.now channels.now)) clients.now.slots name.now nick.now channels.now) }
+    ensures readers { OnOk result (readers post.new ≡ readers post.old) }
+{
+    let standing = find_standing(channels, name, me.key);
+    match standing {
+        Standing::Unknown | Standing::Outside | Standing::Plain => {
+            turn_away(alloc, post, me, name, standing)?;
+            Ok(Change::Same)
+        }
+        Standing::Op => {
+            let target = target_on(clients, channels, name, nick);
+            let reason = reason.unwrap_or(me.person.nick.as_bytes());
+            kick_out(alloc, post, channels, me, name, nick, reason, target)
+        }
+    }
+}

@@ -1,0 +1,54 @@
+// Texts that are the same by casemapping (RFC 2812 section 2.2), and the parameters of a message.
+ghost use Rattle.std.specs.Prelude.{◌≡◌, drop, take};
+ghost use Rattle.std.specs.List.{slice_get};
+ghost use Rattle.std.specs.Option.{option_copied};
+ghost use Rattle.rfccase.specs.Casemapping.{is_same};
+ghost use Rattle.miniircd.specs.People.{word_at};
+
+use bytetext::Text;
+use rfccase::same;
+
+// Whether two texts are the same by casemapping.
+pub(crate) fn is_same(a: &[u8], b: &[u8]) -> bool
+    ensures { result ≡ is_same a.now b.now }
+{
+    same(a, b)
+}
+
+// The parameter at this place, from 0.
+pub(crate) fn param(params: &[Text], index: usize) -> Option<&[u8]>
+    ensures { option_copied result ≡ slice_get params.now index }
+{
+    match params.get(index) {
+        Some(text) => Some(text.as_bytes()),
+        None => None,
+    }
+}
+
+// The parameter at this place, empty where there is none.
+pub(crate) fn word(params: &[Text], index: usize) -> &[u8]
+    ensures { result.now ≡ word_at index params.now }
+{
+    match params.get(index) {
+        Some(text) => text.as_bytes(),
+        None => b"",
+    }
+}
+
+// The parameters from this place on.
+pub(crate) fn params_from(params: &[Text], from: usize) -> &[Text]
+    ensures { result.now ≡ drop from params.now }
+{
+    if from < params.len() {
+        &params[from..]
+    } else {
+        &[]
+    }
+}
+
+// The first bytes of a text, at most so many.
+pub(crate) fn front(text: &[u8], len: usize) -> &[u8]
+    ensures { result.now ≡ take len text.now }
+{
+    &text[..len.min(text.len())]
+}

@@ -1,0 +1,193 @@
+// One message of a client: what it changes, and what is told of it.
+ghost use Rattle.std.specs.Prelude.{◌≡◌, ◌==◌, IfOk, IfSome, OnOk};
+ghost use Rattle.std.specs.List.{slice_split};
+ghost use Rattle.miniircd.specs.declared.change.Change.TheVariants.{Channels};
+ghost use Rattle.miniircd.specs.Mail.{readers, posted};
+ghost use Rattle.miniircd.specs.Rooms.{joined_each};
+ghost use Rattle.miniircd.specs.Lines.{join_letters_each};
+ghost use Rattle.miniircd.specs.Commands.{change_by, change_of};
+ghost use Rattle.miniircd.specs.Talk.{exact_by, exact_of_few, exact_letters};
+
+use crate::change::Change;
+use crate::command::{Command, read_command};
+use crate::join::join_each;
+use crate::member::Channel;
+use crate::mode::mode;
+use crate::person::Person;
+use crate::post::Post;
+use crate::register::{nick, user};
+use crate::replies::{Sender, tell, tell_of};
+use crate::rooms::{kick, part, topic};
+use crate::talk::{answer_ping, talk};
+use crate::texts::{param, params_from, word};
+use crate::who::{names, who};
+use bytetext::{NoMemory, Seq, Text, copies_of};
+use ircline::Message;
+use slab::Slab;
+use std::alloc::Global;
+
+// What a client joins by a JOIN.
+fn join(
+    alloc: Global,
+    post: &mut Post<'_>,
+    clients: &Slab<Person>,
+    channels: &[Channel],
+    me: &Sender<'_>,
+    list: &[u8],
+) -> Result<Change, NoMemory>
+    ensures change { IfOk result
+        (λ change. change ≡ Channels (joined_each me.now.key (slice_split (λ b. b == 44) list.now) channels.now)) }
+    ensures told { OnOk result (post.new
+        ≡ posted (join_letters_each me.now.key me.now.person.now clients.now.slots (slice_split (λ b. b == 44) list.now) channels.now)
+        post.old) }
+    ensures readers { OnOk result (readers post.new ≡ readers post.old) }
+{
+    let channels = copies_of(alloc, channels)?;
+    let after = join_each(alloc, post, clients, me, list, channels)?;
+    Ok(Change::Channels(Seq::new(after)))
+}
+
+// A command that its client may send, with the parameters that it needs. A QUIT is told apart before.
+fn act(
+    alloc: Global,
+    post: &mut Post<'_>,
+    clients: &Slab<Person>,
+    channels: &[Channel],
+    me: &Sender<'_>,
+    command: Command,
+    name: &[u8],
+    params: &[Text],
+) -> Result<Change, NoMemory>
+    ensures change { IfOk result
+        (λ change. change ≡ change_by command me.now.key me.now.person.now clients.now.slots channels.now params.now) }
+    ensures told { OnOk result
+        (IfSome (exact_by command me.now.key me.now.person.now clients.now.slots channels.now params.now)
+        (λ letters. post.new ≡ posted letters post.old)) }
+    ensures readers { OnOk result (readers post.new ≡ readers post.old) }
+{
+    let first = word(params, 0);
+    match command {
+        Command::Nick => nick(alloc, post, clients, channels, me, first),
+        Command::User => user(alloc, post, me, first),
+        Command::Join => join(alloc, post, clients, channels, me, first),
+        Command::Part => part(alloc, post, channels, me, first, param(params, 1)),
+        Command::Topic => topic(alloc, post, channels, me, first, param(params, 1)),
+        Command::Kick => {
+            let reason = param(params, 2);
+            kick(
+                alloc,
+                post,
+                clients,
+                channels,
+                me,
+                first,
+                word(params, 1),
+                reason,
+            )
+        }
+        Command::Mode => {
+            let arguments = params_from(params, 2);
+            mode(
+                alloc,
+                post,
+                clients,
+                channels,
+                me,
+                first,
+                word(params, 1),
+                arguments,
+            )
+        }
+        Command::Privmsg => {
+            let text = word(params, 1);
+            talk(alloc, post, clients, channels, me, true, first, text)?;
+            Ok(Change::Same)
+        }
+        Command::Notice => {
+            let text = word(params, 1);
+            talk(alloc, post, clients, channels, me, false, first, text)?;
+            Ok(Change::Same)
+        }
+        Command::Names => {
+            names(alloc, post, clients, channels, me, first)?;
+            Ok(Change::Same)
+        }
+        Command::Who => {
+            who(alloc, post, clients, channels, me, first)?;
+            Ok(Change::Same)
+        }
+        Command::Ping => {
+            answer_ping(alloc, post, me.key, first)?;
+            Ok(Change::Same)
+        }
+        Command::Unknown => {
+            tell_of(alloc, post, me, b"421", name, b"Unknown command")?;
+            Ok(Change::Same)
+        }
+        Command::Quit => Ok(Change::Same),
+    }
+}
+
+// What one is told who gives too few parameters.
+fn tell_few(
+    alloc: Global,
+    post: &mut Post<'_>,
+    me: &Sender<'_>,
+    command: Command,
+    word: &[u8],
+) -> Result<(), NoMemory>
+    ensures told { OnOk result
+        (IfSome (exact_of_few command me.now.key me.now.person.now word.now) (λ letters. post.new
+        ≡ posted letters post.old)) }
+    ensures readers { OnOk result (readers post.new ≡ readers post.old) }
+{
+    match command {
+        Command::Notice => Ok(()),
+        Command::Nick
+        | Command::User
+        | Command::Join
+        | Command::Part
+        | Command::Topic
+        | Command::Kick
+        | Command::Mode
+        | Command::Privmsg
+        | Command::Names
+        | Command::Who
+        | Command::Ping
+        | Command::Quit
+        | Command::Unknown => tell_of(alloc, post, me, b"461", word, b"Need more parameters"),
+    }
+}
+
+/// A message of a client: what it changes, and what is told of it.
+///
+/// # Errors
+/// `NoMemory` where room is refused.
+pub fn answer(
+    alloc: Global,
+    post: &mut Post<'_>,
+    clients: &Slab<Person>,
+    channels: &[Channel],
+    me: &Sender<'_>,
+    message: &Message,
+) -> Result<Change, NoMemory>
+    ensures change { IfOk result
+        (λ change. change ≡ change_of me.now.key me.now.person.now clients.now.slots channels.now message.now) }
+    ensures told { OnOk result
+        (IfSome (exact_letters me.now.key me.now.person.now clients.now.slots channels.now message.now)
+        (λ letters. post.new ≡ posted letters post.old)) }
+    ensures readers { OnOk result (readers post.new ≡ readers post.old) }
+{
+    let name = message.command.as_bytes();
+    let params = message.params.as_slice();
+    let command = read_command(name);
+    if !(me.person.is_registered() || command.is_open()) {
+        tell(alloc, post, me, b"451", b"", b"Not registered")?;
+        return Ok(Change::Same);
+    }
+    if params.len() < command.needed() {
+        tell_few(alloc, post, me, command, name)?;
+        return Ok(Change::Same);
+    }
+    act(alloc, post, clients, channels, me, command, name, params)
+}

@@ -1,0 +1,96 @@
+// NAMES and WHO (RFC 2812 sections 3.2.5 and 3.6.1).
+ghost use Rattle.std.specs.Prelude.{◌≡◌, OnOk};
+ghost use Rattle.miniircd.specs.Mail.{readers};
+
+use crate::lines::repeated;
+use crate::member::{Channel, Member, channel_of};
+use crate::names::{marks, tell_names};
+use crate::person::Person;
+use crate::post::Post;
+use crate::replies::{Sender, tell, tell_of};
+use bytetext::NoMemory;
+use slab::Slab;
+use std::alloc::Global;
+
+// The members of the channel of a name.
+fn members_of<'a>(channels: &'a [Channel], name: &[u8]) -> &'a [Member] {
+    match channel_of(channels, name) {
+        Some(channel) => channel.members.as_slice(),
+        None => &[],
+    }
+}
+
+/// NAMES of a channel: nobody is on one that isn't there.
+///
+/// # Errors
+/// `NoMemory` where room is refused.
+pub fn names(
+    alloc: Global,
+    post: &mut Post<'_>,
+    clients: &Slab<Person>,
+    channels: &[Channel],
+    me: &Sender<'_>,
+    name: &[u8],
+) -> Result<(), NoMemory>
+    ensures { OnOk result (readers post.new ≡ readers post.old) }
+{
+    let members = members_of(channels, name);
+    tell_names(alloc, post, clients, me, name, members)
+}
+
+// The words of the reply about a member, with a space before each.
+fn words_of(
+    alloc: Global,
+    name: &[u8],
+    member: &Member,
+    person: &Person,
+) -> Result<Vec<u8>, NoMemory> {
+    let mut words = repeated(alloc, name)?;
+    words.push(b' ')?;
+    words.extend_from_slice(person.user.as_bytes())?;
+    words.extend_from_slice(b" local irc.test ")?;
+    words.extend_from_slice(person.nick.as_bytes())?;
+    words.extend_from_slice(b" H")?;
+    words.extend_from_slice(marks(member))?;
+    Ok(words)
+}
+
+// The reply about one member.
+fn tell_member(
+    alloc: Global,
+    post: &mut Post<'_>,
+    clients: &Slab<Person>,
+    me: &Sender<'_>,
+    name: &[u8],
+    member: &Member,
+) -> Result<(), NoMemory>
+    ensures { OnOk result (readers post.new ≡ readers post.old) }
+{
+    let Some(person) = clients.get(member.client) else {
+        return Ok(());
+    };
+    let words = words_of(alloc, name, member, person)?;
+    let mut last = Vec::from_slice(alloc, b"0 ")?;
+    last.extend_from_slice(person.nick.as_bytes())?;
+    tell(alloc, post, me, b"352", words.as_slice(), last.as_slice())
+}
+
+/// WHO of a channel: nobody is on one that isn't there.
+///
+/// # Errors
+/// `NoMemory` where room is refused.
+pub fn who(
+    alloc: Global,
+    post: &mut Post<'_>,
+    clients: &Slab<Person>,
+    channels: &[Channel],
+    me: &Sender<'_>,
+    name: &[u8],
+) -> Result<(), NoMemory>
+    ensures { OnOk result (readers post.new ≡ readers post.old) }
+{
+    for member in members_of(channels, name) {
+        tell_member(alloc, post, clients, me, name, member)?;
+    }
+    tell_of(alloc, post, me, b"315", name, b"End of who")
+}
