@@ -1,7 +1,10 @@
 // Scripts: `script`.
-use botworld::{Event, Step};
+use botcore::{Event, NewBind, OldBind};
+use botworld::Step;
 use bytetext::{NoMemory, TryCopy};
-use script::{Command, Commands, Script, ScriptError, change_of};
+use ircline::Line;
+use procstore::Kind;
+use script::{Command, Script, ScriptError, change_of};
 use std::alloc::Global;
 use userfile::Change;
 
@@ -14,24 +17,36 @@ fn fault_of(alloc: Global, bytes: &[u8]) -> Result<Option<u64>, NoMemory> {
     }
 }
 
+// The steps of a command; none of a show.
+fn steps_of(command: &Command) -> &[Step] {
+    match command {
+        Command::Steps(steps) => steps.as_slice(),
+        Command::Show(_) => &[],
+    }
+}
+
 // Whether these are the commands that the script of the test has.
-fn are_read(commands: &Commands) -> bool {
+fn are_read(commands: &[Command]) -> bool {
+    let [ask, pump, deliver, Command::Show(1)] = commands else {
+        return false;
+    };
     matches!(
-        commands.as_slice(),
-        [
-            Command::Step(Step::At {
-                bot: 0,
-                event: Event::Ask(Change::AddUser { .. })
-            }),
-            Command::Step(Step::At {
-                bot: 65535,
-                event: Event::Pump
-            }),
-            Command::Step(Step::Deliver {
-                packet: 18446744073709551615
-            }),
-            Command::Show(1)
-        ]
+        steps_of(ask),
+        [Step::At {
+            bot: 0,
+            event: Event::Ask(Change::AddUser { .. })
+        }]
+    ) && matches!(
+        steps_of(pump),
+        [Step::At {
+            bot: 65535,
+            event: Event::Pump
+        }]
+    ) && matches!(
+        steps_of(deliver),
+        [Step::Deliver {
+            packet: 18446744073709551615
+        }]
     )
 }
 
@@ -43,15 +58,82 @@ fn a_script_is_read_and_copied(alloc: Global) -> Result<bool, ScriptError> {
     let twin = script.copy(alloc)?;
     Ok(
         script.leaves == 7
-            && are_read(&script.commands)
+            && are_read(script.commands.as_slice())
             && twin.leaves == 7
-            && are_read(&twin.commands),
+            && are_read(twin.commands.as_slice()),
     )
 }
 
 #[test]
 fn a_script_is_read(rt: HostRuntime) {
     assert!(rt; a_script_is_read_and_copied(rt.alloc()) == Ok(true));
+}
+
+// Whether this is the bind that the script of the test makes.
+fn is_bound(bind: &NewBind) -> bool {
+    bind.kind == Kind::Pubm
+        && bind.flags.is_same(b"o|v")
+        && bind.proc.is_same(b"quiet")
+        && bind.mask.is_same(b"#a  hi*")
+}
+
+// Whether this is the bind that it takes away.
+fn is_unbound(bind: &OldBind) -> bool {
+    bind.kind == Kind::Msg && bind.proc.is_same(b"quiet") && bind.mask.is_same(b"no word")
+}
+
+// Whether a script of the words of binds and lines is read.
+fn binds_and_lines_are_read(alloc: Global) -> Result<bool, ScriptError> {
+    let bytes =
+        b"leaves 0\nconnect 0\nbind 0 pubm o|v quiet #a  hi*\nunbind 0 msg quiet no word\nline 7  PING x\rQUIT\nline 0 \r\r";
+    let script = Script::read(alloc, bytes)?;
+    let [connect, bind, unbind, two, none] = script.commands.as_slice() else {
+        return Ok(false);
+    };
+    let connects = matches!(
+        steps_of(connect),
+        [Step::At {
+            bot: 0,
+            event: Event::Connect
+        }]
+    );
+    let binds = match steps_of(bind) {
+        [
+            Step::At {
+                bot: 0,
+                event: Event::Bind(bind),
+            },
+        ] => is_bound(bind),
+        _ => false,
+    };
+    let unbinds = match steps_of(unbind) {
+        [
+            Step::At {
+                bot: 0,
+                event: Event::Unbind(bind),
+            },
+        ] => is_unbound(bind),
+        _ => false,
+    };
+    let reads = matches!(
+        steps_of(two),
+        [
+            Step::At {
+                bot: 7,
+                event: Event::Line(Line::Message(_))
+            },
+            Step::At {
+                bot: 7,
+                event: Event::Line(Line::Message(_))
+            }
+        ]
+    );
+    Ok(connects && binds && unbinds && reads && steps_of(none).is_empty())
+}
+
+#[test]
+fn a_line_is_cut_where_its_text_has_a_carriage_return(rt: HostRuntime) {
+    assert!(rt; binds_and_lines_are_read(rt.alloc()) == Ok(true));
 }
 
 #[test]
@@ -94,7 +176,19 @@ const FAULTY: &[u8] = b"pump 65536\n\
     ask 0 addban * m h 18446744073709551616\n\
     ask 0 addban * m h 0 \n\
     ask 0 delban *\n\
-    ask 0 fly a";
+    ask 0 fly a\n\
+    connect\n\
+    connect 0 1\n\
+    line 0\n\
+    line 0 \n\
+    line 65536 PING x\n\
+    bind 0 pub * quiet\n\
+    bind 0 pub * quiet \n\
+    bind 0 pub  quiet !x\n\
+    bind 0 join * quiet *\n\
+    unbind 0 pub quiet\n\
+    unbind 0 pub  !x\n\
+    unbind 0 PUB quiet !x";
 
 // The first faulty line of a script of two lines, the first of them `leaves 0`.
 fn fault_behind(alloc: Global, line: &[u8]) -> Result<Option<u64>, NoMemory> {
@@ -113,7 +207,7 @@ fn a_line_that_is_no_command_is_a_fault(rt: HostRuntime) {
             "at {line:?}"
         );
     }
-    assert!(rt; count == 21);
+    assert!(rt; count == 33);
 }
 
 // The change of these words, as a number of its kind; 0 for none.

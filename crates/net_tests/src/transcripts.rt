@@ -1,4 +1,11 @@
 // Scripts and their transcripts: `replay`.
+ghost use Rattle.std.specs.Prelude.{◌≡◌, ℕ, List, IfOk};
+ghost use Rattle.procstore.specs.Promises.{KeepsPromise};
+ghost use Rattle.procstore.specs.declared.reply.Code.TheVariants.{Zero};
+
+use crate::procs::{Plain, asks_for_user, no_procs};
+use bytetext::{NoMemory, Text};
+use procstore::{Body, Call, Proc, ProcStore, Promise, Reply, Run};
 use replay::{ReplayError, replay, transcript};
 use script::ScriptError;
 use std::alloc::Global;
@@ -7,7 +14,7 @@ use std::io::{ErrorKind, Read, Write};
 
 // Whether this is the end of the transcript of the script.
 fn ends_with(alloc: Global, script: &[u8], wanted: &[u8]) -> bool {
-    match transcript(alloc, script) {
+    match transcript(alloc, no_procs(alloc), script) {
         Ok(text) => text.ends_with(wanted),
         Err(_) => false,
     }
@@ -17,7 +24,7 @@ fn ends_with(alloc: Global, script: &[u8], wanted: &[u8]) -> bool {
 fn is_written(alloc: Global, script: &[u8], wanted: &[u8]) -> bool {
     let mut reader = script;
     let mut written = Vec::new(alloc);
-    let answer = replay(alloc, &mut reader, &mut written);
+    let answer = replay(alloc, no_procs(alloc), &mut reader, &mut written);
     answer.is_ok() && written.as_slice() == wanted
 }
 
@@ -47,9 +54,41 @@ fn every_record_is_shown(rt: HostRuntime) {
     assert!(rt; ends_with(rt.alloc(), script, wanted));
 }
 
+// Whether a bot that calls this proc of the name `adduser` has the user for whom it asks.
+fn adds_a_user<B: Run>(alloc: Global, adduser: B) -> Result<bool, ScriptError>
+    requires runs { B.can_run adduser }
+    requires keeps { (name : List ℕ) → KeepsPromise ⟦<Plain as Promise>⟧.code_of ⟦<Plain as Promise>⟧.may
+        ⟦<Plain as Promise>⟧.may_lack name (B.answers adduser) }
+{
+    let name = Text::from_slice(alloc, b"adduser")?;
+    let mut store: ProcStore<Plain, B> = ProcStore::new(alloc);
+    if store.add(alloc, Proc::new(name, adduser)).is_err() {
+        return Ok(false);
+    }
+    let script =
+        b"leaves 0\nbind 0 msg * adduser hi\nline 0 :a!b@c PRIVMSG egg0 :hi dave\npump 0\nshow 0\n";
+    let wanted =
+        b"0 Bound 1\ncall 0 adduser 0\n0 Done\n0 Accepted 1\n0 version 1 users 1 bans 0\n0 user dave - -\n";
+    let text = transcript(alloc, store, script)?;
+    Ok(text.as_slice() == wanted.as_slice())
+}
+
+#[test]
+fn a_message_adds_a_user(rt: HostRuntime) {
+    let alloc = rt.alloc();
+    let adduser: Body = Box::new(
+        alloc,
+        move |call: &Call| -> Result<Reply, NoMemory>
+            ensures { IfOk result (λ reply. reply.code ≡ Zero) }
+        { asks_for_user(alloc, call) },
+    )
+    .expect(&rt, "memory");
+    assert!(rt; adds_a_user(alloc, adduser) == Ok(true));
+}
+
 // The faulty line of a transcript that there isn't.
 fn faulty_line(alloc: Global, script: &[u8]) -> Option<u64> {
-    match transcript(alloc, script) {
+    match transcript(alloc, no_procs(alloc), script) {
         Err(ScriptError::Refused(fault)) => Some(fault.line),
         Err(ScriptError::NoMemory) | Ok(_) => None,
     }
@@ -66,7 +105,7 @@ fn is_fault_of(answer: Result<(), ReplayError>, line: u64) -> bool {
 // Whether a replay of what this reader gives ends with a fault of this line, and nothing written.
 fn is_fault<R: Read + Drop>(alloc: Global, mut reader: R, line: u64) -> bool {
     let mut written = Vec::new(alloc);
-    let answer = replay(alloc, &mut reader, &mut written);
+    let answer = replay(alloc, no_procs(alloc), &mut reader, &mut written);
     is_fault_of(answer, line) && written.is_empty()
 }
 
@@ -115,7 +154,7 @@ impl Write for Full {
 fn written_into(alloc: Global, room: usize) -> (Result<(), ReplayError>, usize) {
     let mut writer = Full { room, taken: 0 };
     let mut reader: &[u8] = b"leaves 0\nshow 0\n";
-    let answer = replay(alloc, &mut reader, &mut writer);
+    let answer = replay(alloc, no_procs(alloc), &mut reader, &mut writer);
     (answer, writer.taken)
 }
 
@@ -123,7 +162,7 @@ fn written_into(alloc: Global, room: usize) -> (Result<(), ReplayError>, usize) 
 fn a_stream_that_fails_is_a_read_or_a_write_fault(rt: HostRuntime) {
     let mut reader = Broken(b"leaves 0\nshow 0\n");
     let mut written = Vec::new(rt.alloc());
-    let answer = replay(rt.alloc(), &mut reader, &mut written);
+    let answer = replay(rt.alloc(), no_procs(rt.alloc()), &mut reader, &mut written);
     assert!(rt; answer == Err(ReplayError::Read) && written.is_empty());
     // Of a transcript of 27 bytes the last is left over, or none is and the flush fails.
     assert!(rt; written_into(rt.alloc(), 26) == (Err(ReplayError::Write), 26));

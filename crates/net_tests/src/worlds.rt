@@ -1,124 +1,137 @@
 // All bots and their packets: `botworld`.
-use botworld::{End, Event, Outcome, Report, Step, Transcript, World, WorldError};
+use crate::nets::{new_bots, world};
+use crate::procs::{Nothing, Plain, no_procs};
+use botcore::{End, Event, Note};
+use botworld::{Outcome, Step, Transcript, World};
 use bytetext::{NoMemory, Text, TryCopy};
-use sharelink::Note;
+use sharelink::{Note as LinkNote, Packet};
 use std::alloc::Global;
 use userfile::{Change, ChangeFault};
 
-fn ask(change: Change) -> Step {
-    Step::At {
-        bot: 0,
-        event: Event::Ask(change),
-    }
-}
-
-fn pump(bot: u16) -> Step {
-    Step::At {
-        bot,
-        event: Event::Pump,
-    }
-}
-
-// What the hub tells of a step before any packet was sent.
-fn told(note: Note) -> Outcome {
-    Outcome::Report(Report {
-        bot: 0,
-        end: End::Note(note),
-        first: 1,
-        count: 0,
-    })
+fn at(bot: u16, event: Event) -> Step {
+    Step::At { bot, event }
 }
 
 // How many users a bot has, or none where there is no such bot.
-fn users_of(world: &World, bot: u16) -> Option<usize> {
+fn users_of(world: &World<Plain, Nothing>, bot: u16) -> Option<usize> {
     match world.userfile(bot) {
         Some(userfile) => Some(userfile.user_count()),
         None => None,
     }
 }
 
-// Whether a world of so many leaves has the last of them, or the code with which it is refused.
-fn made(alloc: Global, leaves: u16) -> &'static str {
-    match World::new(alloc, leaves) {
-        Ok(world) if world.version(leaves) == Some(0) && users_of(&world, leaves) == Some(0) => {
-            "all"
+// Whether a world of so many leaves has the last of them, without users, and none after it.
+fn is_made(alloc: Global, leaves: u16) -> bool {
+    match world(alloc, no_procs(alloc), leaves) {
+        Some(world) => {
+            world.version(leaves) == Some(0)
+                && users_of(&world, leaves) == Some(0)
+                && world.version(leaves.saturating_add(1)).is_none()
         }
-        Ok(_) => "fewer",
-        Err(WorldError::Refused(fault)) => fault.code(),
-        Err(WorldError::NoMemory) => "memory",
+        None => false,
+    }
+}
+
+// The code with which a world of so many bots is refused, where each has so many leaves, and how many of them are
+// handed back.
+fn refused(alloc: Global, count: u16, leaves: u16) -> Option<(&'static str, usize)> {
+    let bots = new_bots(alloc, count, leaves).ok()?;
+    match World::new(alloc, bots, no_procs(alloc)) {
+        Ok(_) => None,
+        Err(refused) => Some((refused.why.code(), refused.bots.len())),
     }
 }
 
 #[test]
-fn a_world_has_at_most_a_thousand_leaves(rt: HostRuntime) {
-    assert!(rt; made(rt.alloc(), 1) == "all");
-    assert!(rt; made(rt.alloc(), 1000) == "all");
-    assert!(rt; made(rt.alloc(), 1001) == "O1");
+fn a_world_has_a_hub_and_all_leaves_of_it(rt: HostRuntime) {
+    assert!(rt; is_made(rt.alloc(), 0));
+    assert!(rt; is_made(rt.alloc(), 3));
+    assert!(rt; refused(rt.alloc(), 0, 0) == Some(("O1", 0)));
+    assert!(rt; refused(rt.alloc(), 2, 2) == Some(("O1", 2)));
+    assert!(rt; refused(rt.alloc(), 1, 1) == Some(("O1", 1)));
 }
 
-// Copies of the steps by which a user is added at leaf 1.
-fn adding(alloc: Global) -> Result<[Step; 3], NoMemory> {
+// A copy of an ask for a user.
+fn asking(alloc: Global) -> Result<Step, NoMemory> {
     let handle = Text::from_slice(alloc, b"alice")?;
-    let asking = ask(Change::AddUser { handle }).copy(alloc)?;
-    Ok([asking, pump(0), Step::Deliver { packet: 1 }])
+    at(0, Event::Ask(Change::AddUser { handle })).copy(alloc)
 }
 
-// Whether this world has leaf 1 at version 1, and the packet that brought it there.
-fn has_the_change(world: &World) -> bool {
-    world.version(1) == Some(1)
-        && users_of(world, 1) == Some(1)
-        && world.packet(1).is_some_and(|sent| sent.to == 1)
-        && world.packet(0).is_none()
-        && world.version(2).is_none()
+// Steps by which a user is added at leaf 1.
+fn adding(alloc: Global) -> Result<[Step; 3], NoMemory> {
+    let asking = asking(alloc)?;
+    Ok([asking, at(0, Event::Pump), Step::Deliver { packet: 1 }])
 }
 
-// Whether a world of one leaf, after these steps, has the change, and its copy too.
+// Whether a world of one leaf has the change after these steps, and the packet that brought it there.
 fn holds_after(alloc: Global, steps: &[Step]) -> bool {
-    let Ok(mut world) = World::new(alloc, 1) else {
+    let Some(mut world) = world(alloc, no_procs(alloc), 1) else {
         return false;
     };
-    let cut = world.run(alloc, steps).cut;
-    !cut && has_the_change(&world) && world.copy(alloc).is_ok_and(|twin| has_the_change(&twin))
+    let transcript = world.run(alloc, steps);
+    !transcript.cut
+        && world.version(1) == Some(1)
+        && users_of(&world, 1) == Some(1)
+        && world.packet(1).is_some_and(|sent| sent.to == 1)
+        && world.packet(0).is_none()
 }
 
 #[test]
-fn a_copy_shows_what_the_world_shows(rt: HostRuntime) {
+fn a_change_reaches_a_leaf(rt: HostRuntime) {
     let steps = adding(rt.alloc()).expect(&rt, "memory");
     assert!(rt; holds_after(rt.alloc(), &steps));
 }
 
-// Steps that ask for what is not there.
-fn missing(alloc: Global) -> Result<[Step; 5], NoMemory> {
+// Steps that ask for what is not there, and one that makes up a packet.
+fn missing(alloc: Global) -> Result<[Step; 6], NoMemory> {
     let handle = Text::from_slice(alloc, b"carol")?;
+    let made_up = Packet::Hello {
+        leaf: 1,
+        version: 0,
+    };
     Ok([
-        ask(Change::DelUser { handle }),
-        pump(0),
-        pump(0),
-        pump(1),
+        at(0, Event::Ask(Change::DelUser { handle })),
+        at(0, Event::Pump),
+        at(0, Event::Pump),
+        at(1, Event::Pump),
         Step::Deliver { packet: 9 },
+        at(0, Event::Receive(made_up)),
     ])
 }
 
 // A copy of what comes of these steps in a world without leaves.
 fn run(alloc: Global, steps: &[Step]) -> Option<Transcript> {
-    let mut world = World::new(alloc, 0).ok()?;
+    let mut world = world(alloc, no_procs(alloc), 0)?;
     world.run(alloc, steps).copy(alloc).ok()
+}
+
+// The note of the link that an outcome tells, where the step is done.
+fn link_note(outcome: &Outcome) -> Option<LinkNote> {
+    match outcome {
+        Outcome::Report(report) => match (report.end, report.note) {
+            (End::Done, Some(Note::Link(note))) => Some(note),
+            (_, _) => None,
+        },
+        Outcome::NoSuchBot | Outcome::NoSuchPacket => None,
+    }
 }
 
 #[test]
 fn what_is_not_there_changes_nothing(rt: HostRuntime) {
     let steps = missing(rt.alloc()).expect(&rt, "memory");
-    let expected = [
-        told(Note::Queued),
-        told(Note::Refused(ChangeFault::NoSuchUser)),
-        told(Note::Idle),
-        Outcome::NoSuchBot,
-        Outcome::NoSuchPacket,
-    ];
     let transcript = run(rt.alloc(), &steps).expect(&rt, "memory");
-    assert!(rt; !transcript.cut && transcript.outcomes.as_slice() == expected.as_slice());
-    assert!(rt;
-        Outcome::NoSuchBot.code() == Some("O2") && Outcome::NoSuchPacket.code() == Some("O3")
-    );
-    assert!(rt; told(Note::Queued).code().is_none());
+    let outcomes = transcript.outcomes.as_slice();
+    assert!(rt; !transcript.cut && outcomes.len() == 6);
+    let notes = [
+        Some(LinkNote::Queued),
+        Some(LinkNote::Refused(ChangeFault::NoSuchUser)),
+        Some(LinkNote::Idle),
+        None,
+        None,
+        None,
+    ];
+    let codes = [None, None, None, Some("O2"), Some("O3"), Some("O3")];
+    for (outcome, (note, code)) in outcomes.iter().zip(notes.iter().zip(codes)) {
+        assert!(rt; link_note(outcome) == *note && outcome.code() == code);
+    }
 }

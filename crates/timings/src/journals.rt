@@ -1,7 +1,4 @@
 // What a journal on two disks costs.
-ghost use Rattle.std.specs.Prelude.{IfOk};
-ghost use Rattle.storage.specs.State.{IsSettled};
-ghost use Rattle.disks.specs.Memory.{state_of};
 ghost use Rattle.bytejournal.specs.Journal.{IsSound};
 
 use crate::report;
@@ -11,7 +8,7 @@ use bytejournal::Journal;
 use disks::{FileDisk, MemDisk};
 use std::alloc::Global;
 use std::env;
-use std::fs::{File, OpenOptions};
+use std::fs::File;
 use std::rt::{Env, Files};
 use std::time::{Clock, Instant};
 use storage::Disk;
@@ -25,9 +22,14 @@ const ENTRY: &[u8] = b"addhost alice *!*@*.host1.example.net";
 /// Times appends to a journal in memory, and how it is opened again.
 pub fn measure<R: AllocGlobal + Clock + Eprint>(rt: &R, sizes: &Sizes) -> Result<(), Stop> {
     let alloc = rt.alloc();
-    let made = Journal::create(alloc, MemDisk::new(alloc), MemDisk::new(alloc), b"base");
-    let Ok(mut journal) = made else {
-        return Err(Stop::Refused);
+    let mut journal = match Journal::create(
+        alloc,
+        MemDisk::new(alloc),
+        MemDisk::new(alloc),
+        b"base",
+    ) {
+        Ok(journal) => journal,
+        Err(returned) => return Err(Stop::from(returned.error)),
     };
     let start = Instant::now(rt)?;
     append_all(alloc, &mut journal, sizes.entries)?;
@@ -39,8 +41,9 @@ pub fn measure<R: AllocGlobal + Clock + Eprint>(rt: &R, sizes: &Sizes) -> Result
         start.elapsed(rt)?,
     );
     let start = Instant::now(rt)?;
-    let Ok(opened) = journal.restart(alloc) else {
-        return Err(Stop::Refused);
+    let opened = match journal.restart(alloc) {
+        Ok(opened) => opened,
+        Err(returned) => return Err(Stop::from(returned.error)),
     };
     report::each(
         rt,
@@ -64,26 +67,17 @@ where
     let (Some(first), Some(second)) = (words.next(), words.next()) else {
         return Err(Stop::Unknown);
     };
-    let first = disk_of(rt, first.as_str())?;
-    let second = disk_of(rt, second.as_str())?;
-    let Ok(mut journal) = Journal::create(rt.alloc(), first, second, b"base") else {
-        return Err(Stop::Refused);
+    let first = FileDisk::open(rt, first.as_str())?;
+    let second = FileDisk::open(rt, second.as_str())?;
+    let mut journal = match Journal::create(rt.alloc(), first, second, b"base") {
+        Ok(journal) => journal,
+        Err(returned) => return Err(Stop::from(returned.error)),
     };
     let start = Instant::now(rt)?;
     append_all(rt.alloc(), &mut journal, IN_FILES)?;
     report::each(rt, "journal", "append-files", IN_FILES, start.elapsed(rt)?);
     report::outcome(rt, "entries appended in files", IN_FILES);
     Ok(())
-}
-
-// The disk in a file.
-fn disk_of<R: AllocGlobal + Files<File = File>>(rt: &R, path: &str) -> Result<FileDisk, Stop>
-    ensures { IfOk result (λ disk. IsSettled (state_of disk.mirror)) }
-{
-    let mut options = OpenOptions::new();
-    options.read(true).write(true).create(true);
-    let file = options.open(rt, path)?;
-    Ok(FileDisk::new(rt.alloc(), file)?)
 }
 
 // Appends so many entries.

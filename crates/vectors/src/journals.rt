@@ -1,12 +1,13 @@
 // A journal on two disks in memory, whose faults are planned.
-ghost use Rattle.std.specs.Prelude.{◌≡◌, ◌<◌, ◌^◌, length, IfOk, IfSome};
+ghost use Rattle.std.specs.Prelude.{◌≡◌, ◌<◌, ◌^◌, true, length, Ok, IfOk, OnOk, IfSome};
+ghost use Rattle.storage.specs.State.{IsSettled};
 ghost use Rattle.disks.specs.Memory.{state_of};
 ghost use Rattle.bytejournal.specs.Journal.{IsSound};
 
 use crate::sink::Sink;
 use crate::stop::{BAD_NUMBER, BAD_WORDS, CaseError};
 use crate::words::{cut, number};
-use bytejournal::{Disks, Journal, JournalError};
+use bytejournal::{Disks, Journal, JournalError, Opened, Returned};
 use bytetext::Text;
 use disks::{MemDisk, Tear};
 use std::alloc::Global;
@@ -14,10 +15,10 @@ use std::alloc::Global;
 /// `journal STEP..`: what each step answers, with ` ; ` between. A step is one word: `append ENTRY`, `rebase BASE`,
 /// `fail DISK CALL TEAR` or `restart`.
 pub fn journal(alloc: Global, words: &[Text], out: &mut Sink) -> Result<(), CaseError> {
-    let Ok(made) = Journal::create(alloc, MemDisk::new(alloc), MemDisk::new(alloc), b"base") else {
-        return Err(CaseError::NoMemory);
+    let made = Journal::create(alloc, MemDisk::new(alloc), MemDisk::new(alloc), b"base");
+    let Some(mut journal) = or_told(made, out)? else {
+        return Ok(());
     };
-    let mut journal = made;
     for (i, step) in words.iter().enumerate() {
         out.between(b" ; ", i);
         journal = match make(alloc, journal, step.as_bytes(), out)? {
@@ -85,14 +86,42 @@ fn short(text: &[u8]) -> Result<&[u8], CaseError>
     }
 }
 
-// Tells how an append or a rebase ended.
-fn tell(answer: Result<(), JournalError>, out: &mut Sink) -> Result<(), CaseError> {
+/// Tells how an append or a rebase ended.
+pub(crate) fn tell(answer: Result<(), JournalError>, out: &mut Sink) -> Result<(), CaseError> {
     match answer {
         Ok(()) => out.put(b"ok"),
         Err(JournalError::Refused(fault)) => out.put(fault.code().as_bytes()),
         Err(JournalError::NoMemory) => return Err(CaseError::NoMemory),
     }
     Ok(())
+}
+
+/// What a call gave; else its fault is told.
+pub(crate) fn or_told<T: Drop>(
+    given: Result<T, Returned<MemDisk>>,
+    out: &mut Sink,
+) -> Result<Option<T>, CaseError>
+    ensures { IfOk result (λ told. IfSome told (λ value. given ≡ Ok value)) }
+{
+    match given {
+        Ok(value) => Ok(Some(value)),
+        Err(returned) => {
+            tell(Err(returned.error), out)?;
+            Ok(None)
+        }
+    }
+}
+
+// The journal that was opened, to go on with; else it is told that a gate is missing.
+fn whole(opened: Opened<MemDisk>, out: &mut Sink) -> Option<Journal<MemDisk>>
+    requires { opened.whole ≡ true → IsSound state_of opened.journal }
+    ensures { IfSome result (λ journal. IsSound state_of journal) }
+{
+    if opened.whole {
+        return Some(opened.journal);
+    }
+    out.put(b", a gate is missing");
+    None
 }
 
 // DISK CALL TEAR
@@ -106,28 +135,30 @@ fn planned(
 {
     let (disk, rest) = cut(rest, b' ');
     let (call, tear) = cut(rest, b' ');
-    let Ok(opened) = journal.restart(alloc) else {
-        return Err(BAD_WORDS);
+    let Some(opened) = or_told(journal.restart(alloc), out)? else {
+        return Ok(None);
     };
-    if !opened.whole {
-        return Err(BAD_WORDS);
-    }
     let mut disks = opened.journal.into_disks();
     plan(&mut disks, disk, call_of(call)?, tear_of(tear)?)?;
-    let Ok(opened) = Journal::open(alloc, disks.first, disks.second) else {
-        return Err(BAD_WORDS);
+    let Some(opened) = or_told(Journal::open(alloc, disks.first, disks.second), out)? else {
+        return Ok(None);
     };
-    if !opened.whole {
-        return Err(BAD_WORDS);
-    }
     out.put(b"ok");
-    Ok(Some(opened.journal))
+    Ok(whole(opened, out))
 }
 
-fn plan(disks: &mut Disks<MemDisk>, disk: &[u8], call: u64, tear: Tear) -> Result<(), CaseError>
-    requires { 0 < call }
-    ensures first { disks.new.first ≡ disks.old.first }
-    ensures second { disks.new.second ≡ disks.old.second }
+/// Plans a fault of the disk that this word names.
+pub(crate) fn plan(
+    disks: &mut Disks<MemDisk>,
+    disk: &[u8],
+    call: u64,
+    tear: Tear,
+) -> Result<(), CaseError>
+    requires call { 0 < call }
+    requires first { IsSettled (state_of disks.old.first) }
+    requires second { IsSettled (state_of disks.old.second) }
+    ensures first { OnOk result (IsSettled (state_of disks.new.first)) }
+    ensures second { OnOk result (IsSettled (state_of disks.new.second)) }
 {
     match disk {
         b"first" => disks.first.plan(call, tear),
@@ -137,7 +168,8 @@ fn plan(disks: &mut Disks<MemDisk>, disk: &[u8], call: u64, tear: Tear) -> Resul
     Ok(())
 }
 
-fn call_of(word: &[u8]) -> Result<u64, CaseError>
+/// Which call fails, from 1.
+pub(crate) fn call_of(word: &[u8]) -> Result<u64, CaseError>
     ensures { IfOk result (λ call. 0 < call) }
 {
     let call = number::<u64>(word)?;
@@ -147,7 +179,8 @@ fn call_of(word: &[u8]) -> Result<u64, CaseError>
     Ok(call)
 }
 
-fn tear_of(word: &[u8]) -> Result<Tear, CaseError> {
+/// What the crash leaves.
+pub(crate) fn tear_of(word: &[u8]) -> Result<Tear, CaseError> {
     match word {
         b"old" => Ok(Tear::Old),
         b"new" => Ok(Tear::New),
@@ -163,21 +196,11 @@ fn restarted(
 ) -> Result<Option<Journal<MemDisk>>, CaseError>
     ensures { IfOk result (λ next. IfSome next (λ journal. IsSound state_of journal)) }
 {
-    match journal.restart(alloc) {
-        Ok(opened) => {
-            put_held(&opened.base, opened.entries.as_slice(), out);
-            if opened.whole {
-                Ok(Some(opened.journal))
-            } else {
-                out.put(b", a gate is missing");
-                Ok(None)
-            }
-        }
-        Err(returned) => {
-            tell(Err(returned.error), out)?;
-            Ok(None)
-        }
-    }
+    let Some(opened) = or_told(journal.restart(alloc), out)? else {
+        return Ok(None);
+    };
+    put_held(&opened.base, opened.entries.as_slice(), out);
+    Ok(whole(opened, out))
 }
 
 // A base and the entries after it.
