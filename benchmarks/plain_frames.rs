@@ -1,11 +1,11 @@
 //! Packets as bytes, as `sharewire` spells and reads them, in plain Rust: the packets and the stream of
-//! `crates/timings/src/frames.rt`, fed in pieces of the same sizes, with the same tests of what is read.
+//! `crates/timings/src/frames.rt`, fed in pieces of the same size, with the same tests of what is read.
 
 use std::hint::black_box;
 use std::time::Instant;
 
 const FRAMES: u64 = 100_000;
-const PIECES: [(&str, usize); 3] = [("read-1460", 1_460), ("read-4096", 4_096), ("read-16384", 16_384)];
+const PIECE: usize = 4_096;
 
 #[allow(dead_code)]
 enum Change {
@@ -200,14 +200,12 @@ fn main() {
         told(name, FRAMES, start);
     }
     eprintln!("# bytes of the frames: {}", stream.len());
-    for (name, size) in PIECES {
-        let start = Instant::now();
-        let (mut held, mut count) = (Vec::new(), 0);
-        for piece in stream.chunks(size) {
-            let packets = feed(&mut held, piece).expect("good frames");
-            count += black_box(packets).len() as u64;
-        }
-        told(name, count, start);
-        eprintln!("# packets read: {count}");
+    let start = Instant::now();
+    let (mut held, mut count) = (Vec::new(), 0);
+    for piece in stream.chunks(PIECE) {
+        let packets = feed(&mut held, piece).expect("good frames");
+        count += black_box(packets).len() as u64;
     }
+    told("read", count, start);
+    eprintln!("# packets read: {count}");
 }

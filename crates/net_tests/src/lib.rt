@@ -1,9 +1,9 @@
-//! Tests of the crates above the pure parts: the sharing link, one bot, the world of all bots, scripts and transcripts.
-//! What `library_tests` says of itself holds here; the tests are in two crates since each is one piece of work in the gate.
+//! Tests of the crates above the pure parts: the sharing link, the world of all bots, scripts and transcripts. What
+//! `library_tests` says of itself holds here; the tests are in two crates since each is one piece of work in the gate.
 #![tactic(auto)]
 
 #[cfg(test)]
-mod bots;
+mod calls;
 #[cfg(test)]
 mod links;
 #[cfg(test)]

@@ -40,6 +40,16 @@ pub fn no_procs(alloc: Global) -> ProcStore<Plain, Nothing> {
     ProcStore::new(alloc)
 }
 
+// An answer that asks for nothing.
+pub fn quiet(alloc: Global) -> Reply
+    ensures { result.code ≡ Zero }
+{
+    Reply {
+        code: Code::Zero,
+        actions: Actions::empty(alloc),
+    }
+}
+
 // An answer that asks for a user by the call's last argument.
 pub fn asks_for_user(alloc: Global, call: &Call) -> Result<Reply, NoMemory>
     ensures { IfOk result (λ reply. reply.code ≡ Zero) }

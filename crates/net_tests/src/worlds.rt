@@ -22,7 +22,7 @@ fn users_of(world: &World<Plain, Nothing>, bot: u16) -> Option<usize> {
 
 // Whether a world of so many leaves has the last of them, without users, and none after it.
 fn is_made(alloc: Global, leaves: u16) -> bool {
-    match world(alloc, no_procs(alloc), leaves) {
+    match world(alloc, no_procs(alloc), leaves, false) {
         Some(world) => {
             world.version(leaves) == Some(0)
                 && users_of(&world, leaves) == Some(0)
@@ -35,7 +35,7 @@ fn is_made(alloc: Global, leaves: u16) -> bool {
 // The code with which a world of so many bots is refused, where each has so many leaves, and how many of them are
 // handed back.
 fn refused(alloc: Global, count: u16, leaves: u16) -> Option<(&'static str, usize)> {
-    let bots = new_bots(alloc, count, leaves).ok()?;
+    let bots = new_bots(alloc, count, leaves, false).ok()?;
     match World::new(alloc, bots, no_procs(alloc)) {
         Ok(_) => None,
         Err(refused) => Some((refused.why.code(), refused.bots.len())),
@@ -65,7 +65,7 @@ fn adding(alloc: Global) -> Result<[Step; 3], NoMemory> {
 
 // Whether a world of one leaf has the change after these steps, and the packet that brought it there.
 fn holds_after(alloc: Global, steps: &[Step]) -> bool {
-    let Some(mut world) = world(alloc, no_procs(alloc), 1) else {
+    let Some(mut world) = world(alloc, no_procs(alloc), 1, false) else {
         return false;
     };
     let transcript = world.run(alloc, steps);
@@ -101,7 +101,7 @@ fn missing(alloc: Global) -> Result<[Step; 6], NoMemory> {
 
 // A copy of what comes of these steps in a world without leaves.
 fn run(alloc: Global, steps: &[Step]) -> Option<Transcript> {
-    let mut world = world(alloc, no_procs(alloc), 0)?;
+    let mut world = world(alloc, no_procs(alloc), 0, false)?;
     world.run(alloc, steps).copy(alloc).ok()
 }
 

@@ -1,5 +1,5 @@
 // What packets cost as bytes.
-ghost use Rattle.std.specs.Prelude.{◌<◌, IfOk};
+ghost use Rattle.std.specs.Prelude.{IfOk};
 ghost use Rattle.sharewire.specs.Frames.{CanBeWritten};
 
 use crate::report;
@@ -11,8 +11,10 @@ use std::alloc::Global;
 use std::time::{Clock, Instant};
 use userfile::{Change, shape};
 
-/// Times three packets, each written so often, and the stream of all these frames, which is read in pieces: of a
-/// segment of TCP over Ethernet, of a page, and of four pages.
+/// How many bytes are fed at a time.
+const PIECE: usize = 4_096;
+
+/// Times three packets, each written so often, and the stream of all these frames, which is read in pieces.
 pub fn measure<R: AllocGlobal + Clock + Eprint>(rt: &R, sizes: &Sizes) -> Result<(), Stop> {
     let alloc = rt.alloc();
     let mut stream = Vec::new(alloc);
@@ -26,9 +28,7 @@ pub fn measure<R: AllocGlobal + Clock + Eprint>(rt: &R, sizes: &Sizes) -> Result
     measure_write(rt, "write-ban", &ban(alloc)?, sizes.frames, &mut stream)?;
     measure_write(rt, "write-text", &text(alloc)?, sizes.frames, &mut stream)?;
     report::outcome(rt, "bytes of the frames", stream.len() as u64);
-    measure_read(rt, "read-1460", stream.as_slice(), 1_460)?;
-    measure_read(rt, "read-4096", stream.as_slice(), 4_096)?;
-    measure_read(rt, "read-16384", stream.as_slice(), 16_384)
+    measure_read(rt, stream.as_slice())
 }
 
 fn measure_write<R: AllocGlobal + Clock + Eprint>(
@@ -63,29 +63,20 @@ fn write_all(
     Ok(())
 }
 
-fn measure_read<R: AllocGlobal + Clock + Eprint>(
-    rt: &R,
-    name: &str,
-    stream: &[u8],
-    piece: usize,
-) -> Result<(), Stop>
-    requires { 0 < piece }
-{
+fn measure_read<R: AllocGlobal + Clock + Eprint>(rt: &R, stream: &[u8]) -> Result<(), Stop> {
     let start = Instant::now(rt)?;
-    let packets = read_all(rt.alloc(), stream, piece)?;
+    let packets = read_all(rt.alloc(), stream)?;
     let spent = start.elapsed(rt)?;
-    report::each(rt, "frames", name, packets, spent);
+    report::each(rt, "frames", "read", packets, spent);
     report::outcome(rt, "packets read", packets);
     Ok(())
 }
 
-// How many packets the stream has, as pieces of it are fed, each of so many bytes but for the last.
-fn read_all(alloc: Global, stream: &[u8], piece: usize) -> Result<u64, NoMemory>
-    requires { 0 < piece }
-{
+// How many packets the stream has, as pieces of it are fed.
+fn read_all(alloc: Global, stream: &[u8]) -> Result<u64, NoMemory> {
     let mut reader = WireReader::new(alloc);
     let mut count: u64 = 0;
-    for piece in stream.chunks(piece) {
+    for piece in stream.chunks(PIECE) {
         let feed = reader.feed(alloc, piece)?;
         count = count.saturating_add(feed.packets.len() as u64);
     }

@@ -4,7 +4,6 @@
 //! |---|---|
 //! | `persons` | who a person is, in userfiles of 500 users with 16 hostmasks each, of five shapes |
 //! | `masks` | masks on a text each, 100,000 times |
-//! | `binds` | the binds that a line calls, in tables of 500 binds of three shapes, without users and with 500 |
 //! | `channels` | 100,000 lines for a bot on 200 channels of 1,000 people, 1,000 who quit; 8,000 who quit and come back |
 //! | `timers` | 200 timers over ten minutes, and 500 cron masks over a day |
 //! | `lines` | a stream of about 10 MB, to its lines |
@@ -20,7 +19,6 @@
 //! can't be read; 4 where memory runs out.
 #![tactic(auto)]
 
-mod binds;
 mod channels;
 mod crowd;
 mod frames;
@@ -69,7 +67,6 @@ where
 enum Part {
     Persons,
     Masks,
-    Binds,
     Channels,
     Timers,
     Lines,
@@ -79,10 +76,9 @@ enum Part {
     Small,
 }
 
-const PARTS: [(&[u8], Part); 10] = [
+const PARTS: [(&[u8], Part); 9] = [
     (b"persons", Part::Persons),
     (b"masks", Part::Masks),
-    (b"binds", Part::Binds),
     (b"channels", Part::Channels),
     (b"timers", Part::Timers),
     (b"lines", Part::Lines),
@@ -103,7 +99,6 @@ where
     match *part {
         Part::Persons => persons::measure(rt, &FULL),
         Part::Masks => masks::measure(rt, &FULL),
-        Part::Binds => binds::measure(rt, &FULL),
         Part::Channels => channels::measure(rt, &FULL),
         Part::Timers => timers::measure(rt),
         Part::Lines => lines::measure(rt, &FULL),
@@ -118,7 +113,6 @@ where
 fn all<R: AllocGlobal + Clock + Eprint>(rt: &R, sizes: &Sizes) -> Result<(), Stop> {
     persons::measure(rt, sizes)?;
     masks::measure(rt, sizes)?;
-    binds::measure(rt, sizes)?;
     channels::measure(rt, sizes)?;
     timers::measure(rt)?;
     lines::measure(rt, sizes)?;

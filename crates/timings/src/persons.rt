@@ -15,7 +15,6 @@ const MASKS: u32 = 16;
 // What the hostmasks of all users look like, where `<` stands for the user's number and `>` for the mask's; a person whom
 // such a mask matches; and the words under which times are printed: of adding a mask, and of looking up nobody, the first
 // and the last user.
-#[derive(Clone, Copy)]
 struct Shape {
     mask: &'static [u8],
     person: &'static [u8],
@@ -84,20 +83,6 @@ fn measure_shape<R: AllocGlobal + Clock + Eprint>(
     )
 }
 
-/// A userfile with so many users, each with 16 hostmasks of the first shape.
-pub fn userfile(alloc: Global, users: u32) -> Result<Userfile, Stop> {
-    let mut userfile = Userfile::new(alloc);
-    for user in 0..users {
-        add_user(&mut userfile, alloc, &SHAPES[0], user)?;
-    }
-    Ok(userfile)
-}
-
-/// Someone whom one of this user's hostmasks in such a userfile matches, another for each number.
-pub fn person(alloc: Global, user: u32, number: u32) -> Result<Text, NoMemory> {
-    filled(alloc, SHAPES[0].person, user, number % MASKS)
-}
-
 // Adds the users, and tells how long a hostmask takes.
 fn fill<R: AllocGlobal + Clock + Eprint>(
     rt: &R,
@@ -137,8 +122,8 @@ fn handle(alloc: Global, user: u32) -> Result<Text, NoMemory> {
     filled(alloc, b"user<", user, 0)
 }
 
-/// A text with these numbers in the places of `<` and `>`.
-pub fn filled(alloc: Global, text: &[u8], user: u32, host: u32) -> Result<Text, NoMemory> {
+// A text with these numbers in their places.
+fn filled(alloc: Global, text: &[u8], user: u32, host: u32) -> Result<Text, NoMemory> {
     let mut filled = Vec::new(alloc);
     for byte in text {
         match *byte {

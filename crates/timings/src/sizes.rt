@@ -9,10 +9,6 @@ pub struct Sizes {
     pub persons: u32,
     /// How often each mask is tried.
     pub matches: u32,
-    /// The binds of a table, at most 500.
-    pub binds: u32,
-    /// How many lines binds are looked up for.
-    pub lines: u32,
     /// The channels that the bot is on, a multiple of 4. Each has five times as many people.
     pub channels: u32,
     /// How often each kind of line comes once for each channel.
@@ -32,8 +28,6 @@ pub const FULL: Sizes = Sizes {
     users: 500,
     persons: 1_000,
     matches: 100_000,
-    binds: 500,
-    lines: 2_000,
     channels: 200,
     rounds: 125,
     split: 8_000,
@@ -47,8 +41,6 @@ pub const SMALL: Sizes = Sizes {
     users: 20,
     persons: 50,
     matches: 100,
-    binds: 20,
-    lines: 50,
     channels: 8,
     rounds: 4,
     split: 100,
