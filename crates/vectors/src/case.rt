@@ -3,8 +3,8 @@ use crate::civil::Form;
 use crate::sink::Sink;
 use crate::stop::{CaseError, NO_SUCH_CASE};
 use crate::{
-    binds, botjournals, casemapping, channels, civil, clock, cron, events, flags, frames, journals,
-    lines, masks, persons, queues, spellings, timers,
+    binds, casemapping, channels, civil, clock, cron, events, flags, frames, journals, lines,
+    masks, persons, queues, spellings, timers,
 };
 use bytetext::Text;
 use std::alloc::Global;
@@ -14,7 +14,6 @@ use std::alloc::Global;
 enum Asked {
     Ban,
     Binds,
-    BotJournal,
     Chan,
     Change,
     Civil,
@@ -45,10 +44,9 @@ enum Asked {
     UserFlags,
 }
 
-const ASKED: [(&[u8], Asked); 31] = [
+const ASKED: [(&[u8], Asked); 30] = [
     (b"ban", Asked::Ban),
     (b"binds", Asked::Binds),
-    (b"botjournal", Asked::BotJournal),
     (b"chan", Asked::Chan),
     (b"change", Asked::Change),
     (b"civil", Asked::Civil),
@@ -99,7 +97,6 @@ fn answer_to(asked: Asked, alloc: Global, words: &[Text], out: &mut Sink) -> Res
     match asked {
         Asked::Ban => persons::ban(alloc, words, out),
         Asked::Binds => binds::binds(alloc, words, out),
-        Asked::BotJournal => botjournals::botjournal(alloc, words, out),
         Asked::Chan => channels::chan(alloc, words, out),
         Asked::Change => spellings::change(alloc, words, out),
         Asked::Civil => civil::civil(alloc, Form::Numbers, words, out),

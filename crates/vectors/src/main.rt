@@ -18,7 +18,6 @@
 //! | `timers STEP..` | what each step answers |
 //! | `queues STEP..` | what each step answers |
 //! | `journal STEP..` | what each step answers |
-//! | `botjournal FIRST SECOND BEGIN STEP..` | what BEGIN and each step answer |
 //! | `binds STEP..` | what each step answers |
 //! | `spell CHANGE` | the bytes that spell the change, or the code of its shape |
 //! | `change BYTES`, `record BYTES` | how many bytes spell a change or record, and what they spell, or the code |
@@ -59,13 +58,6 @@
 //! the ranges that weren't kept: `old` or `new` bytes, or this number in each byte; and `restart`, which answers the base
 //! and the entries, with `, ` between, or the code.
 //!
-//! `botjournal` has these steps for a bot's journal, on disks that hold the bytes FIRST and SECOND; BASE and ENTRY are
-//! their spellings in hexadecimal digits. BEGIN is `create BASE`, which answers `ok` or the code, or `open`, which
-//! answers as `restart` does: `base BOT VERSION REQUEST`, the last a request's number, with each record, `reply LEAF
-//! REQUEST NUMBER` (or a code in the number's place) and `out CHANGE` after `, `, and each entry after ` | `: `accepted
-//! ORIGIN REQUEST CHANGE`, `settled LEAF REQUEST CODE`, `applied NUMBER CHANGE`, `reqout REQUEST CHANGE` or `reqdone
-//! REQUEST`; or the code, and how long the two disks are that were handed back.
-//!
 //! The steps of `binds` are `bind KIND FLAGS PROC MASK` and `unbind KIND PROC MASK`, which answer the bind's number or the
 //! code; `find KIND GLOBAL CHANNEL BOT SUBJECT`, which answers the numbers of the binds that are called; and `list`,
 //! which answers `NUMBER KIND FLAGS PROC MASK` of each bind. The last two answer `none` where there is none.
@@ -87,7 +79,6 @@
 #![tactic(auto)]
 
 mod binds;
-mod botjournals;
 mod case;
 mod casemapping;
 mod changes;

@@ -56,8 +56,8 @@ fn bare(alloc: Global, word: &[u8]) -> Result<Text, CaseError> {
     }
 }
 
-/// The bytes that hexadecimal digits spell.
-pub fn bytes_of(alloc: Global, digits: &[u8]) -> Result<Text, CaseError> {
+// The bytes that hexadecimal digits spell.
+fn bytes_of(alloc: Global, digits: &[u8]) -> Result<Text, CaseError> {
     match hex::decode(alloc, digits) {
         Ok(bytes) => Ok(Text::new(bytes)),
         Err(FromHexError::OutOfMemory) => Err(Failure::NoMemory),
