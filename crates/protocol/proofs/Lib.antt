@@ -1,0 +1,15 @@
+pub mod Lists
+pub mod Truth
+pub mod Counted
+pub mod Growing
+pub mod Goes
+pub mod Snapshots
+pub mod HubGoes
+pub mod LeafGoes
+pub mod Steps
+pub mod Shapes
+pub mod Holding
+pub mod Runs
+pub mod Moves
+pub mod Journals
+pub mod Recovery

@@ -1,0 +1,161 @@
+-- A leaf's side of the link, call by call. A call journals at most one record.
+use Rattle.std.specs.Prelude.{ℕ, ◌+◌, ◌==◌, nat_lt, nat_le, Bool, true, false, not, ◌||◌, List, [], ◌∷◌, ◌++◌, length, if◌then◌else◌, Option, None, Some, Ok}
+use Rattle.userfile.specs.Records.{Records}
+use Rattle.userfile.specs.Apply.{bad_shape, refusal, changed}
+use Rattle.userfile.specs.Together.{records_fault}
+use Rattle.userfile.specs.declared.change.Change.{Change as UserChange}
+use Rattle.userfile.specs.declared.error.ChangeFault.{ChangeFault}
+use Rattle.usercodec.specs.declared.records.Record.{Record}
+use Rattle.botjournal.specs.declared.reply.Answer.{Answer}
+use Rattle.botjournal.specs.declared.reply.Answer.TheVariants.{Taken, Refused as refused_request}
+use Rattle.protocol.specs.Numbers.{last_number, Place, Below, Same, Next, Above, place_of}
+use Rattle.protocol.specs.Packets.{Packet, Outgoing}
+use Rattle.protocol.specs.Packets.Packet.{Hello, Change, Request, Accepted as accepted_packet, Refused as refused_packet, BotText, Part}
+use Rattle.protocol.specs.Notes.{Note}
+use Rattle.protocol.specs.Notes.Note.{Idle, Sent, Accepted, Refused, Old, Early, Applied, Kept, Installed, Compacted, Text, Stray}
+use Rattle.protocol.specs.Notes.LinkFault.{Diverged, NumbersSpent}
+use Rattle.protocol.specs.Bots.{How, Row, noted, refused, Bot, unless_down, journals, restarted}
+use Rattle.protocol.specs.Snapshots.{PartSet, records_from, joined, set_for, with_part, is_behind}
+use Rattle.protocol.specs.HubRules.{ask_taken}
+
+-- ---- what a leaf is
+
+-- what outlives a restart: the version and its records, the last request number, the change that is out under that number,
+-- and the generation of the journal
+pub record LeafState : Type 0 where
+  pub version : ℕ
+  pub records : Records
+  pub last : ℕ
+  pub out : Option UserChange
+  pub generation : ℕ
+
+-- what a restart loses: the asks that wait, and the parts that are kept
+pub record LeafLoose : Type 0 where
+  pub waiting : List UserChange
+  pub parts : Option PartSet
+
+-- no ask waits, and no part is kept
+abbrev pub no_loose : LeafLoose
+no_loose = record { waiting = []; parts = None }
+
+-- what a leaf journals: the next change is applied, a change goes out under the next request number, the one that is out was
+-- replied to, records of a version take the place of what there was, or the state alone
+pub data LeafRecord : Type 0 where
+  Apply : UserChange → LeafRecord
+  Out : UserChange → LeafRecord
+  Done : LeafRecord
+  Install : (version : ℕ) → Records → LeafRecord
+  Compact : LeafRecord
+
+abbrev pub Leaf : Type 0
+Leaf = Bot LeafState LeafLoose LeafRecord
+
+-- a record that is kept: the call, the restart that finds it and the journal that is read all fold it in so
+abbrev pub leaf_folded : LeafState → LeafRecord → LeafState
+leaf_folded old (Apply change) = record old { version = old.version + 1; records = changed old.records change }
+leaf_folded old (Out change) = record old { last = old.last + 1; out = Some change }
+leaf_folded old Done = record old { out = None }
+leaf_folded old (Install version records) = record old { version = version; records = records; generation = old.generation + 1 }
+leaf_folded old Compact = record old { generation = old.generation + 1 }
+
+-- ---- the calls
+
+abbrev pub leaf_asked : Leaf → UserChange → Row Leaf
+leaf_asked old change =
+    unless_down old (ask_taken old
+    (record old { loose = record old.loose { waiting = old.loose.waiting ++ change ∷ [] } }) (length old.loose.waiting) (bad_shape change))
+
+module _ (leaves number : ℕ) (how : How) (old : Leaf) where
+  -- the leaf tells the hub its version
+  abbrev pub hello : Outgoing
+  hello = record { to = 0; packet = Hello number old.kept.version }
+
+  -- the leaf asks the hub for a change
+  abbrev pub asking : ℕ → UserChange → Outgoing
+  asking request change = record { to = 0; packet = Request number request change }
+
+  -- the request that is out goes again; else the oldest ask gets the next request number while there is one, and is journaled
+  -- before it goes; a hello goes first
+  abbrev pub leaf_pumped_up : Option UserChange → List UserChange → Row Leaf
+  leaf_pumped_up (Some change) waiting =
+      record { told = Ok (Sent old.kept.last); sends = hello ∷ asking old.kept.last change ∷ []; after = old }
+  leaf_pumped_up None [] = record { told = Ok Idle; sends = hello ∷ []; after = old }
+  leaf_pumped_up None (change ∷ rest) =
+      if nat_lt old.kept.last last_number
+      then journals leaf_folded how old (Out change) (Sent (old.kept.last + 1))
+      (hello ∷ asking (old.kept.last + 1) change ∷ []) (record old.loose { waiting = rest })
+      else refused NumbersSpent old
+
+  abbrev pub leaf_pumped : Row Leaf
+  leaf_pumped = unless_down old (leaf_pumped_up old.kept.out old.loose.waiting)
+
+  -- what the hub says can't be of these records; the parts that are kept are dropped
+  abbrev pub diverged : Row Leaf
+  diverged = refused Diverged (record old { loose = record old.loose { parts = None } })
+
+  abbrev pub next_applied : UserChange → Option ChangeFault → Row Leaf
+  next_applied change (Some fault) = diverged
+  next_applied change None = journals leaf_folded how old (Apply change) (Applied (old.kept.version + 1)) [] old.loose
+
+  -- the change that is numbered one above the version is applied, and no other
+  abbrev pub change_placed : UserChange → Place → Row Leaf
+  change_placed change Below = noted Old old
+  change_placed change Same = noted Old old
+  change_placed change Next = next_applied change (refusal old.kept.records change)
+  change_placed change Above = noted Early old
+
+  -- the note of a reply
+  abbrev pub note_of : Answer → Note
+  note_of (Taken n) = Accepted n
+  note_of (refused_request fault) = Refused fault
+
+  -- a reply to the request that is out ends it
+  abbrev pub reply_taken : Answer → Option UserChange → Bool → Row Leaf
+  reply_taken answer None is_last = noted Old old
+  reply_taken answer (Some change) false = noted Old old
+  reply_taken answer (Some change) true = journals leaf_folded how old Done (note_of answer) [] old.loose
+
+  abbrev pub reply_received : ℕ → ℕ → Answer → Row Leaf
+  reply_received leaf request answer =
+      if not (leaf == number) || (request == 0) then noted Stray old
+      else reply_taken answer old.kept.out (request == old.kept.last)
+
+  -- the whole set: its records are put in place where they stand together, in the next generation while there is one
+  abbrev pub installed : ℕ → Records → Option ChangeFault → Row Leaf
+  installed version records (Some fault) = diverged
+  installed version records None =
+      if nat_lt old.kept.generation last_number
+      then journals leaf_folded how old (Install version records) (Installed version) [] (record old.loose { parts = None })
+      else refused NumbersSpent old
+
+  -- a part that leaves the set incomplete is kept
+  abbrev pub set_taken : ℕ → PartSet → Option (List Record) → Row Leaf
+  set_taken part set None = noted (Kept part) (record old { loose = record old.loose { parts = Some set } })
+  set_taken part set (Some items) =
+      installed set.version (records_from items) (records_fault (records_from items).users (records_from items).bans)
+
+  abbrev pub part_taken : ℕ → PartSet → Row Leaf
+  part_taken part set = set_taken part set (joined set.count set.parts)
+
+  abbrev pub leaf_received_up : Packet → Row Leaf
+  leaf_received_up (Change n origin request change) = change_placed change (place_of n old.kept.version)
+  leaf_received_up (accepted_packet leaf request n) = reply_received leaf request (Taken n)
+  leaf_received_up (refused_packet leaf request fault) = reply_received leaf request (refused_request fault)
+  leaf_received_up (Part version part count items) =
+      if (part == 0) || nat_lt count part then noted Stray old
+      else if nat_le version old.kept.version || is_behind version old.loose.parts then noted Old old
+      else part_taken part (with_part (set_for old.loose.parts version count) part items)
+  leaf_received_up (BotText from to text) = if nat_lt leaves from || not (to == number) then noted Stray old else noted (Text from text) old
+  leaf_received_up (Hello leaf version) = noted Stray old
+  leaf_received_up (Request leaf request change) = noted Stray old
+
+  abbrev pub leaf_received : Packet → Row Leaf
+  leaf_received packet = unless_down old (leaf_received_up packet)
+
+  abbrev pub leaf_compacted : Row Leaf
+  leaf_compacted = unless_down old (
+      if nat_lt old.kept.generation last_number then journals leaf_folded how old Compact Compacted [] old.loose
+      else refused NumbersSpent old)
+
+  abbrev pub leaf_restarted : Row Leaf
+  leaf_restarted = restarted leaf_folded (λ (leaf : LeafState). leaf.version) no_loose how old

@@ -1,0 +1,15 @@
+pub mod Numbers
+pub mod Packets
+pub mod Notes
+pub mod Bots
+pub mod Snapshots
+pub mod HubRules
+pub mod LeafRules
+pub mod History
+pub mod Truth
+pub mod Soundness
+pub mod Network
+pub mod Standing
+pub mod Claims
+pub mod Journals
+pub mod Recovery

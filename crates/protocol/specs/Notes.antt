@@ -1,0 +1,61 @@
+-- What a call of a link tells of itself.
+use Rattle.std.specs.Prelude.{ℕ, List}
+use Rattle.userfile.specs.declared.error.ChangeFault.{ChangeFault}
+
+-- what came of a call
+pub data Note : Type 0 where
+  -- the ask waits for a pump
+  Queued : Note
+  -- nothing waits
+  Idle : Note
+  -- the leaf's request of this number went out
+  Sent : (request : ℕ) → Note
+  -- a change was accepted under this number
+  Accepted : (number : ℕ) → Note
+  -- the records refuse the change
+  Refused : ChangeFault → Note
+  -- a hello is answered with so many packets
+  Served : (count : ℕ) → Note
+  -- the packet tells nothing new
+  Old : Note
+  -- the last request comes again
+  Repeat : Note
+  -- a request before this one is missing
+  Gap : Note
+  -- a change before this one is missing
+  Early : Note
+  -- the change of this number was applied
+  Applied : (number : ℕ) → Note
+  -- the part of this number is kept until the others are there
+  Kept : (part : ℕ) → Note
+  -- the records of this version were put in place
+  Installed : (version : ℕ) → Note
+  -- the journal has the state alone
+  Compacted : Note
+  -- a text goes on its way to another bot
+  Relayed : Note
+  -- a text is for this bot
+  Text : (from : ℕ) (text : List ℕ) → Note
+  -- the packet is not for this bot, or names what the net does not have
+  Stray : Note
+  -- the journal was opened again, at this version
+  Restarted : (version : ℕ) → Note
+
+-- why a call is refused
+pub data LinkFault : Type 0 where
+  -- the change has a bad shape
+  BadChange : ChangeFault → LinkFault
+  -- S1: as many asks wait as may
+  AsksFull : LinkFault
+  -- S2: a device failed, and the bot waits for a restart
+  Down : LinkFault
+  -- S3: the records are not the hub's
+  Diverged : LinkFault
+  -- S4: the version, the request number or the generation is the last
+  NumbersSpent : LinkFault
+  -- S5: the device failed while the journal was written
+  JournalFault : LinkFault
+  -- S7: no such text may go there
+  BadBotText : LinkFault
+  -- J1: the device failed while the journal was opened
+  DiskFault : LinkFault

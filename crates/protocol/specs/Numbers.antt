@@ -1,0 +1,29 @@
+-- Numbers that go from 1: the items of lists by their numbers, and where one number stands to another.
+use Rattle.std.specs.Prelude.{ℕ, zero, suc, ◌+◌, ◌==◌, nat_lt, List, slice_get, if◌then◌else◌, Option, None}
+
+-- the last version, request number and generation
+abbrev pub last_number : ℕ
+last_number = 4294967295
+
+-- the item of this number, the first of which is 1
+abbrev pub item_at : {X : Type 0} → List X → ℕ → Option X
+item_at xs zero = None
+item_at xs (suc place) = slice_get xs place
+
+-- a function with one value put anew
+abbrev pub set_at : {X : Type 0} → (ℕ → X) → ℕ → X → ℕ → X
+set_at f i x j = if j == i then x else f j
+
+-- where a number stands to the last one
+pub data Place : Type 0 where
+  Below : Place
+  Same : Place
+  Next : Place
+  Above : Place
+
+abbrev pub place_of : ℕ → ℕ → Place
+place_of number last =
+    if nat_lt number last then Below
+    else if number == last then Same
+    else if number == (last + 1) then Next
+    else Above
