@@ -1,5 +1,5 @@
 -- The contents of texts, read.
-use Rattle.std.proofs.Common.{◌≡◌, ℕ, ◌+◌, ◌-◌, ◌^◌, ◌<◌, arith, ⊎_elim, inl, inr, true, false, Result, Ok, Err, Option, Some, None, List, [], ◌∷◌, ◌++◌, refl}
+use Rattle.std.proofs.Common.{◌≡◌, ℕ, ◌+◌, ◌-◌, ◌^◌, ◌<◌, ◌≤◌, arith, Bool, true, false, Result, Ok, Err, Option, Some, None, List, [], ◌∷◌, ◌++◌, refl}
 use Rattle.std.proofs.Common.{sym, ap, subst, ◌∙◌}
 use Rattle.std.specs.Prelude.{IsSome, option_map}
 use Rattle.bytetext.specs.declared.failure.Failure.{Failure}
@@ -9,8 +9,9 @@ use Rattle.bytejournal.specs.declared.fault.JournalFault.{JournalFault}
 use Rattle.bytejournal.specs.declared.fault.JournalFault.TheVariants.{DiskFault, NotAJournal, Spent, GenerationsSpent}
 use Rattle.bytejournal.specs.declared.journal.Journal.{Journal}
 use Rattle.bytejournal.specs.Meaning.{Contents as Texts, added as added_text, rebased as rebased_text}
-use Rattle.bytejournal.specs.Journal.{IsEither as IsEitherText, AnyMoment, IsSound as AreTextsSound, Appends as AppendsText, Rebases as RebasesText}
+use Rattle.bytejournal.specs.Journal.{HoldsOne, IsEither as IsEitherText, AnyMoment, IsSound as AreTextsSound, Appends as AppendsText, Rebases as RebasesText}
 use Rattle.bytejournal.specs.Journal.{contents_of as texts_of}
+use Rattle.bytejournal.proofs.Recovering.{some_is, some_map}
 use Rattle.botjournal.specs.declared.base.Base.{Base}
 use Rattle.botjournal.specs.declared.entry.Entry.{Entry}
 use Rattle.botjournal.specs.Bases.{base_bytes, base_in, IsGoodBase}
@@ -19,6 +20,7 @@ use Rattle.botjournal.specs.Contents.{Contents, added, rebased, before_others, e
 use Rattle.botjournal.specs.Journal.{IsEither, IsSound, Appends, Rebases, contents_of}
 use Rattle.botjournal.proofs.EntryLaws.{entry_again}
 use Rattle.botjournal.proofs.BaseLaws.{base_again}
+use Rattle.botjournal.proofs.MeaningLaws.{texts_are, typed_moments, still_some}
 
 -- these entries before others
 abbrev pub all_before : List Entry → Option (List Entry) → Option (List Entry)
@@ -69,84 +71,103 @@ typed_rebased base good (Some texts) some =
     ap (λ b. with_base (texts.generation + 1) b (Some [])) (base_again base good)
     ∙ with_rebased texts.generation (base_in texts.base) (entries_in texts.entries) base some
 
--- ---- moments
+-- ---- calls
 
-typed_either : (before after : Option Texts) (wanted : Option Contents) (x y : List ℕ) → typed after ≡ wanted → IsEitherText before after x y
-    → IsEither (typed before) wanted x y
-typed_either before after wanted x y same e = record {
-  means = ⊎_elim (λ m. inl (ap typed m)) (λ m. inr (ap typed m ∙ same)) e.means;
-  first_whole = e.first_whole;
-  second_whole = e.second_whole;
-}
-
-some_map : {A B : Type 0} (f : A → B) (x : Option A) → IsSome x → IsSome (option_map f x)
-some_map f None some = absurd cc
-some_map f (Some x) some = refl
-
-pub some_is : {A : Type 0} (x y : Option A) → x ≡ y → IsSome y → IsSome x
-some_is x y e some = subst IsSome (sym e) some
+pub not_both : (b : Bool) → b ≡ false → b ≡ true → ⊥
+not_both b f t = cc
 
 not_last : (n : ℕ) → n < 2 ^ 32 - 1 → n ≡ 2 ^ 32 - 1 → ⊥
 not_last n lt e = absurd (omega arith)
 
-module _ {D : Type 0} (state : D → State) where
-  pub typed_moments : (old new : Journal D) (before after : Option Texts) (wanted : Option Contents) → typed after ≡ wanted
-      → AnyMoment state old new (IsEitherText before after) → AnyMoment state old new (IsEither (typed before) wanted)
-  typed_moments old new before after wanted same m = record {
-    first_later = m.first_later;
-    second_later = m.second_later;
-    each = λ x y a b. typed_either before after wanted x y same (m.each x y a b);
-  }
+module _ {D : Type 0} (state : D → State) (seen_is_left : (disk : D) → (state disk).may_leave (state disk).seen)
+    (counts_now : (disk : D) (t : ℕ) (image : List ℕ) → t ≤ (state disk).moment → (state disk).may_leave image → (state disk).left_since t image) where
+  -- ---- an entry more
 
-  pub append_row : (old new : Journal D) (entry : Entry) (text : List ℕ) → IsGoodEntry entry → text ≡ entry_bytes entry
-      → (result : Result (Unit {0}) (Failure JournalFault)) → AppendsText state old text result new → Appends state old entry result new
-  append_row old new entry text good is (Ok u) r =
-      (r.0, r.1, ap typed r.2 ∙ ap (λ t. typed (option_map (added_text t) (texts_of state old))) is ∙ typed_added entry good (texts_of state old))
-  append_row old new entry text good is (Err (Refused DiskFault)) r = r
-  append_row old new entry text good is (Err (Refused NotAJournal)) r = r
-  append_row old new entry text good is (Err (Refused Spent)) r = r
-  append_row old new entry text good is (Err (Refused GenerationsSpent)) r = r
-  append_row old new entry text good is (Err NoMemory) r = (r.0, r.1, r.2, ap typed r.3)
+  module _ (old : Journal D) (entry : Entry) (text : List ℕ) (good : IsGoodEntry entry) (is : text ≡ entry_bytes entry) (some : IsSome (contents_of state old)) where
+    pub entry_after : typed (option_map (added_text text) (texts_of state old)) ≡ option_map (added entry) (contents_of state old)
+    entry_after =
+        ap (λ t. typed (option_map (added_text t) (texts_of state old))) is ∙ typed_added entry good (texts_of state old)
+        ∙ ap (option_map (added entry)) (sym (texts_are state old some))
 
-  pub append_sound : (old new : Journal D) (entry : Entry) → IsSound state old → AreTextsSound state new
-      → (result : Result (Unit {0}) (Failure JournalFault)) → Appends state old entry result new → IsSound state new
-  append_sound old new entry sound texts (Ok u) r going =
-      record { texts = texts going; some = some_is (contents_of state new) _ r.2 (some_map (added entry) (contents_of state old) (sound r.0).some) }
-  append_sound old new entry sound texts (Err (Refused DiskFault)) r going = absurd (not_both going r.1)
-    where
-      not_both : new.spent ≡ false → new.spent ≡ true → ⊥
-      not_both a b = cc
-  append_sound old new entry sound texts (Err (Refused NotAJournal)) r going = absurd r
-  append_sound old new entry sound texts (Err (Refused Spent)) r going = subst (IsSound state) (sym r.1) sound going
-  append_sound old new entry sound texts (Err (Refused GenerationsSpent)) r going = absurd r
-  append_sound old new entry sound texts (Err NoMemory) r going =
-      record { texts = texts going; some = some_is (contents_of state new) (contents_of state old) r.3 (sound r.0).some }
+    pub append_moments : (new : Journal D)
+        → AnyMoment state old new (IsEitherText (HoldsOne state old) (texts_of state old) (option_map (added_text text) (texts_of state old)))
+        → AnyMoment state old new (IsEither (contents_of state old) (option_map (added entry) (contents_of state old)))
+    append_moments new m = typed_moments state old new (option_map (added_text text) (texts_of state old))
+        (option_map (added entry) (contents_of state old)) some (some_map (added entry) (contents_of state old) some) entry_after m
 
-  pub rebase_row : (old new : Journal D) (base : Base) (text : List ℕ) → IsGoodBase base → IsSound state old → text ≡ base_bytes base
-      → (result : Result (Unit {0}) (Failure JournalFault)) → RebasesText state old text result new → Rebases state old base result new
-  rebase_row old new base text good sound is (Ok u) r = (
-    r.0,
-    r.1,
-    r.2,
-    ap typed r.3 ∙ ap (λ t. typed (option_map (rebased_text t) (texts_of state old))) is
-        ∙ typed_rebased base good (texts_of state old) (sound r.0).some,
-  )
-  rebase_row old new base text good sound is (Err (Refused DiskFault)) r = r
-  rebase_row old new base text good sound is (Err (Refused NotAJournal)) r = r
-  rebase_row old new base text good sound is (Err (Refused Spent)) r = r
-  rebase_row old new base text good sound is (Err (Refused GenerationsSpent)) r = r
-  rebase_row old new base text good sound is (Err NoMemory) r = (r.0, not_last old.generation r.1, r.2, r.3, ap typed r.4)
+    append_some : (new : Journal D)
+        → AnyMoment state old new (IsEitherText (HoldsOne state old) (texts_of state old) (option_map (added_text text) (texts_of state old)))
+        → IsSome (contents_of state new)
+    append_some new m = still_some state seen_is_left counts_now old new (option_map (added entry) (contents_of state old)) some
+        (some_map (added entry) (contents_of state old) some) (append_moments new m)
 
-  pub rebase_sound : (old new : Journal D) (base : Base) → IsSound state old → AreTextsSound state new
-      → (result : Result (Unit {0}) (Failure JournalFault)) → Rebases state old base result new → IsSound state new
-  rebase_sound old new base sound texts (Ok u) r going =
-      record { texts = texts going; some = some_is (contents_of state new) _ r.3 (some_map (rebased base) (contents_of state old) (sound r.0).some) }
-  rebase_sound old new base sound texts (Err (Refused DiskFault)) r going = absurd (not_both going r.1)
-    where
-      not_both : new.spent ≡ false → new.spent ≡ true → ⊥
-      not_both a b = cc
-  rebase_sound old new base sound texts (Err (Refused NotAJournal)) r going = absurd r
-  rebase_sound old new base sound texts (Err (Refused Spent)) r going = subst (IsSound state) (sym r.1) sound going
-  rebase_sound old new base sound texts (Err (Refused GenerationsSpent)) r going = subst (IsSound state) (sym r.2) sound going
-  rebase_sound old new base sound texts (Err NoMemory) r going =
-      record { texts = texts going; some = some_is (contents_of state new) (contents_of state old) r.4 (sound r.0).some }
+  module _ (old new : Journal D) (entry : Entry) (text : List ℕ) (good : IsGoodEntry entry) (is : text ≡ entry_bytes entry) (sound : IsSound state old)
+      (moments : old.spent ≡ false
+      → AnyMoment state old new (IsEitherText (HoldsOne state old) (texts_of state old) (option_map (added_text text) (texts_of state old)))) where
+    appended_texts : old.spent ≡ false → contents_of state new ≡ typed (texts_of state new)
+    appended_texts going = texts_are state new (append_some old entry text good is (sound going).some new (moments going))
+
+    pub append_row : (result : Result (Unit {0}) (Failure JournalFault)) → AppendsText state old text result new → Appends state old entry result new
+    append_row (Ok u) r = (r.0, r.1, appended_texts r.0 ∙ ap typed r.2 ∙ entry_after old entry text good is (sound r.0).some)
+    append_row (Err (Refused DiskFault)) r = r
+    append_row (Err (Refused NotAJournal)) r = r
+    append_row (Err (Refused Spent)) r = r
+    append_row (Err (Refused GenerationsSpent)) r = r
+    append_row (Err NoMemory) r = (r.0, r.1, r.2, appended_texts r.0 ∙ ap typed r.3 ∙ sym (texts_are state old (sound r.0).some))
+
+    pub append_sound : AreTextsSound state new → (result : Result (Unit {0}) (Failure JournalFault)) → AppendsText state old text result new
+        → IsSound state new
+    append_sound texts (Ok u) r going = record { texts = texts going; some = append_some old entry text good is (sound r.0).some new (moments r.0) }
+    append_sound texts (Err (Refused DiskFault)) r going = absurd (not_both new.spent going r.1)
+    append_sound texts (Err (Refused NotAJournal)) r going = absurd r
+    append_sound texts (Err (Refused Spent)) r going = subst (IsSound state) (sym r.1) sound going
+    append_sound texts (Err (Refused GenerationsSpent)) r going = absurd r
+    append_sound texts (Err NoMemory) r going =
+        record { texts = texts going; some = append_some old entry text good is (sound r.0).some new (moments r.0) }
+
+  -- ---- another base
+
+  module _ (old : Journal D) (base : Base) (text : List ℕ) (good : IsGoodBase base) (is : text ≡ base_bytes base) (some : IsSome (contents_of state old)) where
+    pub base_after : typed (option_map (rebased_text text) (texts_of state old)) ≡ option_map (rebased base) (contents_of state old)
+    base_after =
+        let are = texts_are state old some in
+        ap (λ t. typed (option_map (rebased_text t) (texts_of state old))) is
+        ∙ typed_rebased base good (texts_of state old) (some_is (typed (texts_of state old)) (contents_of state old) (sym are) some)
+        ∙ ap (option_map (rebased base)) (sym are)
+
+    pub rebase_moments : (new : Journal D)
+        → AnyMoment state old new (IsEitherText (HoldsOne state old) (texts_of state old) (option_map (rebased_text text) (texts_of state old)))
+        → AnyMoment state old new (IsEither (contents_of state old) (option_map (rebased base) (contents_of state old)))
+    rebase_moments new m = typed_moments state old new (option_map (rebased_text text) (texts_of state old))
+        (option_map (rebased base) (contents_of state old)) some (some_map (rebased base) (contents_of state old) some) base_after m
+
+    rebase_some : (new : Journal D)
+        → AnyMoment state old new (IsEitherText (HoldsOne state old) (texts_of state old) (option_map (rebased_text text) (texts_of state old)))
+        → IsSome (contents_of state new)
+    rebase_some new m = still_some state seen_is_left counts_now old new (option_map (rebased base) (contents_of state old)) some
+        (some_map (rebased base) (contents_of state old) some) (rebase_moments new m)
+
+  module _ (old new : Journal D) (base : Base) (text : List ℕ) (good : IsGoodBase base) (is : text ≡ base_bytes base) (sound : IsSound state old)
+      (moments : old.spent ≡ false
+      → AnyMoment state old new (IsEitherText (HoldsOne state old) (texts_of state old) (option_map (rebased_text text) (texts_of state old)))) where
+    rebased_texts : old.spent ≡ false → contents_of state new ≡ typed (texts_of state new)
+    rebased_texts going = texts_are state new (rebase_some old base text good is (sound going).some new (moments going))
+
+    pub rebase_row : (result : Result (Unit {0}) (Failure JournalFault)) → RebasesText state old text result new → Rebases state old base result new
+    rebase_row (Ok u) r = (r.0, r.1, r.2, rebased_texts r.0 ∙ ap typed r.3 ∙ base_after old base text good is (sound r.0).some)
+    rebase_row (Err (Refused DiskFault)) r = r
+    rebase_row (Err (Refused NotAJournal)) r = r
+    rebase_row (Err (Refused Spent)) r = r
+    rebase_row (Err (Refused GenerationsSpent)) r = r
+    rebase_row (Err NoMemory) r =
+        (r.0, not_last old.generation r.1, r.2, r.3, rebased_texts r.0 ∙ ap typed r.4 ∙ sym (texts_are state old (sound r.0).some))
+
+    pub rebase_sound : AreTextsSound state new → (result : Result (Unit {0}) (Failure JournalFault)) → RebasesText state old text result new
+        → IsSound state new
+    rebase_sound texts (Ok u) r going = record { texts = texts going; some = rebase_some old base text good is (sound r.0).some new (moments r.0) }
+    rebase_sound texts (Err (Refused DiskFault)) r going = absurd (not_both new.spent going r.1)
+    rebase_sound texts (Err (Refused NotAJournal)) r going = absurd r
+    rebase_sound texts (Err (Refused Spent)) r going = subst (IsSound state) (sym r.1) sound going
+    rebase_sound texts (Err (Refused GenerationsSpent)) r going = subst (IsSound state) (sym r.2) sound going
+    rebase_sound texts (Err NoMemory) r going =
+        record { texts = texts going; some = rebase_some old base text good is (sound r.0).some new (moments r.0) }

@@ -3,5 +3,7 @@ pub mod EntryLaws
 pub mod ItemLaws
 pub mod BaseLaws
 pub mod LengthLaws
+pub mod MeaningLaws
 pub mod JournalLaws
 pub mod OpenLaws
+pub mod RecoveryLaws

@@ -1,5 +1,5 @@
 -- Journals that are made and opened, their contents read.
-use Rattle.std.proofs.Common.{◌≡◌, ℕ, Bool, true, false, Some, Result, Ok, Err, List, [], refl, sym, ap, subst, ◌∙◌}
+use Rattle.std.proofs.Common.{◌≡◌, ℕ, Bool, true, false, Option, None, Some, Result, Ok, Err, List, [], refl, sym, ap, subst, ◌∙◌}
 use Rattle.std.specs.Prelude.{if◌then◌else◌}
 use Rattle.bytetext.specs.declared.failure.Failure.{Failure}
 use Rattle.bytetext.specs.declared.failure.Failure.TheVariants.{Refused, NoMemory}
@@ -9,17 +9,20 @@ use Rattle.bytejournal.specs.declared.fault.JournalFault.TheVariants.{DiskFault,
 use Rattle.bytejournal.specs.declared.journal.Journal.{Journal}
 use Rattle.bytejournal.specs.declared.opening.Opened.{Opened as OpenedTexts}
 use Rattle.bytejournal.specs.declared.opening.Returned.{Returned}
-use Rattle.bytejournal.specs.Meaning.{meaning as meaning_in_texts}
+use Rattle.bytejournal.specs.declared.opening.Older.{Older}
+use Rattle.bytejournal.specs.Meaning.{Contents as Texts, Held, held, chosen, meaning as meaning_in_texts}
+use Rattle.bytejournal.specs.Meaning.Held.{Open}
 use Rattle.bytejournal.specs.Journal.{IsAtRest as AreTextsAtRest, first_disk, second_disk}
-use Rattle.bytejournal.specs.Opening.{new_contents as new_texts, Untouched, Creates as CreatesTexts, Opens as OpensTexts, Restarts as RestartsTexts}
-use Rattle.bytejournal.proofs.Pairs.{meaning_comm}
+use Rattle.bytejournal.specs.Opening.{new_contents as new_texts, Untouched, held_older, Creates as CreatesTexts, Refuses as RefusesTexts, Opens as OpensTexts, Restarts as RestartsTexts}
+use Rattle.bytejournal.proofs.Pairs.{meaning_comm as texts_comm}
+use Rattle.bytejournal.proofs.Recovering.{some_is}
 use Rattle.botjournal.specs.declared.base.Base.{Base}
 use Rattle.botjournal.specs.declared.opening.Opened.{Opened}
 use Rattle.botjournal.specs.Bases.{base_bytes, IsGoodBase}
-use Rattle.botjournal.specs.Contents.{new_contents, with_base, typed, meaning}
-use Rattle.botjournal.specs.Journal.{IsAtRest, contents_of, Creates, Refuses, Opens, Restarts, CannotRead, contents_read, ReadsTexts}
+use Rattle.botjournal.specs.Contents.{new_contents, with_base, spelled, checked, typed, meaning}
+use Rattle.botjournal.specs.Journal.{IsAtRest, contents_of, Creates, Refuses, Opens, Restarts, CannotRead, is_spelled, texts_found, contents_read, ReadsTexts}
 use Rattle.botjournal.proofs.BaseLaws.{base_again}
-use Rattle.botjournal.proofs.JournalLaws.{some_is}
+use Rattle.botjournal.proofs.MeaningLaws.{meaning_comm, alone_means, found_means, means_none, contents_in_order}
 
 module _ {D : Type 0} (state : D → State) where
   -- ---- made
@@ -27,34 +30,51 @@ module _ {D : Type 0} (state : D → State) where
   pub creates : (first second : D) (base : Base) (text : List ℕ) → IsGoodBase base → text ≡ base_bytes base → (journal : Journal D)
       → CreatesTexts state first second text (Ok journal) → Creates state first second base (Ok journal)
   creates first second base text good is journal r =
+      let x = (state journal.active).seen in
       let contents : contents_of state journal ≡ Some (new_contents base) =
-      ap typed r.2 ∙ ap (λ t. typed (Some (new_texts t))) is ∙ ap (λ b. with_base 1 b (Some [])) (base_again base good) in
+      ap (λ (h : Held). typed (chosen (checked (held x)) (checked h))) r.3
+      ∙ alone_means (held x) (new_texts text) (ap (λ (h : Held). chosen (held x) h) (sym r.3) ∙ r.2) ∙ ap (λ t. spelled (new_texts t)) is
+      ∙ ap (λ b. with_base 1 b (Some [])) (base_again base good) in
       (r.0, record { texts = r.1; some = some_is (contents_of state journal) (Some (new_contents base)) contents refl }, contents)
 
   -- ---- opened
 
-  -- the order of the disks makes no difference
-  in_order : (swapped : Bool) (active idle : D)
-      → meaning_in_texts (state active).seen (state idle).seen
-      ≡ meaning_in_texts (state (if swapped then idle else active)).seen (state (if swapped then active else idle)).seen
-  in_order false active idle = refl
-  in_order true active idle = meaning_comm (state active).seen (state idle).seen
-
   untouched_means : (first second first' second' : D) → Untouched (state first) (state first') → Untouched (state second) (state second')
-      → meaning_in_texts (state first').seen (state second').seen ≡ meaning_in_texts (state first).seen (state second).seen
+      → meaning (state first').seen (state second').seen ≡ meaning (state first).seen (state second).seen
   untouched_means first second first' second' a b =
-      ap (λ x. meaning_in_texts x (state second').seen) a.seen ∙ ap (λ y. meaning_in_texts (state first).seen y) b.seen
+      ap (λ x. meaning x (state second').seen) a.seen ∙ ap (λ y. meaning (state first).seen y) b.seen
+
+  -- the texts that were found on the first disk
+  found_first : (x y : List ℕ) (texts : Texts) (older : Option Older) → meaning_in_texts x y ≡ Some texts → held x ≡ Open texts
+      → held y ≡ held_older older → meaning x y ≡ (if is_spelled older then spelled texts else None)
+  found_first x y texts older counts active idle =
+      ap (λ (h : Held). typed (chosen (checked h) (checked (held y)))) active
+      ∙ ap (λ (h : Held). typed (chosen (checked (Open texts)) (checked h))) idle
+      ∙ found_means texts older
+      (ap (chosen (Open texts)) (sym idle) ∙ ap (λ (h : Held). chosen h (held y)) (sym active) ∙ counts)
+
+  -- and whichever disk is active
+  found_in_order : (swapped : Bool) (x y : List ℕ) (texts : Texts) (older : Option Older) → meaning_in_texts x y ≡ Some texts
+      → held (if swapped then y else x) ≡ Open texts → held (if swapped then x else y) ≡ held_older older
+      → meaning x y ≡ (if is_spelled older then spelled texts else None)
+  found_in_order false x y texts older counts active idle = found_first x y texts older counts active idle
+  found_in_order true x y texts older counts active idle =
+      meaning_comm x y ∙ found_first y x texts older (texts_comm y x ∙ counts) active idle
+
+  pub found_are_read : (first second : D) (texts : OpenedTexts D) → OpensTexts state first second (Ok texts)
+      → meaning (state first).seen (state second).seen ≡ contents_read texts
+  found_are_read first second texts o = found_in_order texts.journal.swapped (state first).seen (state second).seen (texts_found texts) texts.older
+      o.0.found o.0.active o.0.idle
 
   opened_as_read : (first second : D) (texts : OpenedTexts D) → OpensTexts state first second (Ok texts) → (opened : Opened D)
       → ReadsTexts texts (Ok opened) → Opens state first second (Ok opened)
   opened_as_read first second texts o opened r =
       let journal : opened.journal ≡ texts.journal = r.0 in
-      let found : meaning (state first).seen (state second).seen ≡ contents_read texts = ap typed o.0.found in
+      let found : meaning (state first).seen (state second).seen ≡ contents_read texts = found_are_read first second texts o in
       let read : meaning (state first).seen (state second).seen
       ≡ Some (record { generation = texts.journal.generation; base = opened.base; entries = opened.entries }) = found ∙ r.2 in
       let here : contents_of state texts.journal ≡ meaning (state first).seen (state second).seen =
-      ap typed (in_order texts.journal.swapped texts.journal.active texts.journal.idle
-      ∙ untouched_means first second (first_disk texts.journal) (second_disk texts.journal) o.1 o.2) in
+      contents_in_order state texts.journal ∙ untouched_means first second (first_disk texts.journal) (second_disk texts.journal) o.1 o.2 in
       let rests : AreTextsAtRest state texts.journal → IsAtRest state texts.journal =
       λ rest. record { texts = rest; some = some_is (contents_of state texts.journal) _ (here ∙ read) refl } in (
         record {
@@ -71,7 +91,7 @@ module _ {D : Type 0} (state : D → State) where
   why_not : (first second : D) (texts : OpenedTexts D) → OpensTexts state first second (Ok texts) → (error : Failure JournalFault)
       → CannotRead (contents_read texts) error → (first' second' : D) → Refuses state first second error first' second'
   why_not first second texts o (Refused DiskFault) r first' second' = absurd r
-  why_not first second texts o (Refused NotAJournal) r first' second' = ap typed o.0.found ∙ r
+  why_not first second texts o (Refused NotAJournal) r first' second' = found_are_read first second texts o ∙ r
   why_not first second texts o (Refused Spent) r first' second' = r
   why_not first second texts o (Refused GenerationsSpent) r first' second' = r
   why_not first second texts o NoMemory r first' second' = tt
@@ -85,7 +105,24 @@ module _ {D : Type 0} (state : D → State) where
     subst (λ d. Untouched (state second) (state d)) (sym r.2) o.2,
   )
 
+  -- the journal of texts was not opened
+  cannot_open : (first second first' second' : D) (error : Failure JournalFault) → RefusesTexts state first second error first' second'
+      → Refuses state first second error first' second'
+  cannot_open first second first' second' (Refused DiskFault) r = r
+  cannot_open first second first' second' (Refused NotAJournal) r = means_none (state first).seen (state second).seen r
+  cannot_open first second first' second' (Refused Spent) r = r
+  cannot_open first second first' second' (Refused GenerationsSpent) r = r
+  cannot_open first second first' second' NoMemory r = tt
+
+  pub opens_nothing : (first second : D) (returned : Returned D) → OpensTexts state first second (Err returned) → Opens state first second (Err returned)
+  opens_nothing first second returned o =
+      (cannot_open first second returned.disks.first returned.disks.second returned.error o.0, o.1, o.2)
+
   -- ---- opened again
+
+  pub restarts_nothing : (journal : Journal D) (returned : Returned D) → RestartsTexts state journal (Err returned)
+      → Restarts state journal (Err returned)
+  restarts_nothing journal returned h = (h.0, h.1, h.2, h.3, opens_nothing h.0 h.1 returned h.4)
 
   pub restarts : (journal : Journal D) (texts : OpenedTexts D) → RestartsTexts state journal (Ok texts) → (result : Result (Opened D) (Returned D))
       → ReadsTexts texts result → Restarts state journal result

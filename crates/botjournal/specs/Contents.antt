@@ -1,6 +1,7 @@
 -- What the bytes of two disks mean as a bot's journal.
 use Rattle.std.specs.Prelude.{ℕ, ◌+◌, Option, Some, None, List, [], ◌∷◌, ◌++◌, option_map}
-use Rattle.bytejournal.specs.Meaning.{Contents as Texts, meaning as meaning_in_texts}
+use Rattle.bytejournal.specs.Meaning.{Contents as Texts, Held, held, chosen}
+use Rattle.bytejournal.specs.Meaning.Held.{Shut, Broken, Open}
 use Rattle.botjournal.specs.declared.base.Base.{Base}
 use Rattle.botjournal.specs.declared.entry.Entry.{Entry}
 use Rattle.botjournal.specs.Entries.{entry_in}
@@ -42,11 +43,26 @@ abbrev pub with_base : ℕ → Option Base → Option (List Entry) → Option Co
 with_base generation None entries = None
 with_base generation (Some base) entries = with_entries generation base entries
 
--- contents of texts, read: none where one of them is the spelling of nothing
+-- the base and entries that these texts spell: none where one of them is the spelling of nothing
+abbrev pub spelled : Texts → Option Contents
+spelled texts = with_base texts.generation (base_in texts.base) (entries_in texts.entries)
+
+abbrev pub where_spelled : Texts → Option Contents → Held
+where_spelled texts None = Broken
+where_spelled texts (Some contents) = Open texts
+
+-- What a disk holds as a bot's journal. Where one of its texts is the spelling of nothing it isn't a journal's, just as
+-- where the texts themselves can't be read.
+abbrev pub checked : Held → Held
+checked Shut = Shut
+checked Broken = Broken
+checked (Open texts) = where_spelled texts (spelled texts)
+
+-- the contents that count, read
 abbrev pub typed : Option Texts → Option Contents
 typed None = None
-typed (Some texts) = with_base texts.generation (base_in texts.base) (entries_in texts.entries)
+typed (Some texts) = spelled texts
 
--- what two disks mean
+-- What two disks mean. Both have to be a journal's as far as their gates are open, though the contents of one alone count.
 abbrev pub meaning : List ℕ → List ℕ → Option Contents
-meaning first second = typed (meaning_in_texts first second)
+meaning first second = typed (chosen (checked (held first)) (checked (held second)))

@@ -1,21 +1,25 @@
 -- What the calls of a bot's journal answer. Contracts see a bot's journal as the journal of texts that it stands on.
-use Rattle.std.specs.Prelude.{◌≡◌, ◌≢◌, ◌⊎◌, ◌+◌, ◌-◌, ◌^◌, true, false, ℕ, Option, Some, None, List, IsSome, option_map, Result, Ok, Err}
+use Rattle.std.specs.Prelude.{◌≡◌, ◌≢◌, ◌⊎◌, ◌+◌, ◌-◌, ◌^◌, Bool, true, false, if◌then◌else◌, ℕ, Option, Some, None, List, IsSome, option_map, Result, Ok, Err}
+use Rattle.std.specs.Option.{is_some}
+use Rattle.std.specs.List.{AllByRecursion}
 use Rattle.bytetext.specs.declared.failure.Failure.{Failure}
 use Rattle.bytetext.specs.declared.failure.Failure.TheVariants.{Refused, NoMemory}
 use Rattle.storage.specs.State.{State, Rose}
 use Rattle.bytejournal.specs.declared.fault.JournalFault.{JournalFault}
 use Rattle.bytejournal.specs.declared.fault.JournalFault.TheVariants.{DiskFault, NotAJournal, Spent, GenerationsSpent}
-use Rattle.bytejournal.specs.declared.journal.Journal.{Journal as Texts}
+use Rattle.bytejournal.specs.declared.journal.Journal.{Journal as OfTexts}
 use Rattle.bytejournal.specs.declared.opening.Returned.{Returned}
+use Rattle.bytejournal.specs.declared.opening.Older.{Older}
 use Rattle.bytejournal.specs.declared.opening.Opened.{Opened as OpenedTexts}
-use Rattle.bytejournal.specs.Meaning.{IsWhole}
-use Rattle.bytejournal.specs.Journal.{IsAtRest as AreTextsAtRest, contents_of as texts_of, DiskFailed, SameDisks, first_disk, second_disk}
+use Rattle.bytejournal.specs.Meaning.{Contents as Texts, IsWhole}
+use Rattle.bytejournal.specs.Journal.{IsAtRest as AreTextsAtRest, DiskFailed, SameDisks, first_disk, second_disk}
 use Rattle.bytejournal.specs.Opening.{CannotCreate, Untouched, Reopened}
 use Rattle.botjournal.specs.declared.base.Base.{Base}
 use Rattle.botjournal.specs.declared.entry.Entry.{Entry}
 use Rattle.botjournal.specs.declared.opening.Opened.{Opened}
-use Rattle.botjournal.specs.Bases.{base_in}
-use Rattle.botjournal.specs.Contents.{Contents, added, rebased, new_contents, entries_in, with_base, typed, meaning}
+use Rattle.botjournal.specs.Bases.{IsGoodBase}
+use Rattle.botjournal.specs.Entries.{IsGoodEntry}
+use Rattle.botjournal.specs.Contents.{Contents, added, rebased, new_contents, spelled, meaning}
 
 -- two images mean the one or the other, and all their gates are there
 pub record IsEither (before after : Option Contents) (first second : List ℕ) : Type 0 where
@@ -25,20 +29,20 @@ pub record IsEither (before after : Option Contents) (first second : List ℕ) :
 
 module _ {D : Type 0} (state : D → State) where
   -- what the journal's disks mean
-  abbrev pub contents_of : Texts D → Option Contents
-  contents_of journal = typed (texts_of state journal)
+  abbrev pub contents_of : OfTexts D → Option Contents
+  contents_of journal = meaning (state journal.active).seen (state journal.idle).seen
 
-  -- between two calls: the journal of texts is at rest, and each of its texts is a spelling
-  pub record IsAtRest (journal : Texts D) : Type 0 where
+  -- between two calls: the journal of texts is at rest, and each text on its disks is a spelling
+  pub record IsAtRest (journal : OfTexts D) : Type 0 where
     pub texts : AreTextsAtRest state journal
     pub some : IsSome (contents_of journal)
 
   -- after a fault nothing is known until the journal is opened again
-  abbrev pub IsSound : Texts D → Type 0
+  abbrev pub IsSound : OfTexts D → Type 0
   IsSound journal = journal.spent ≡ false → IsAtRest journal
 
   -- Appending an entry, by cases on the answer.
-  abbrev pub Appends : Texts D → Entry → Result (Unit {0}) (Failure JournalFault) → Texts D → Type 0
+  abbrev pub Appends : OfTexts D → Entry → Result (Unit {0}) (Failure JournalFault) → OfTexts D → Type 0
   Appends old entry (Ok _) new = (old.spent ≡ false) × (new.spent ≡ false) × (contents_of new ≡ option_map (added entry) (contents_of old))
   Appends old entry (Err (Refused DiskFault)) new = (old.spent ≡ false) × (new.spent ≡ true) × DiskFailed state old new
   Appends old entry (Err (Refused NotAJournal)) new = ⊥
@@ -47,7 +51,7 @@ module _ {D : Type 0} (state : D → State) where
   Appends old entry (Err NoMemory) new = (old.spent ≡ false) × (new.spent ≡ false) × SameDisks state old new × (contents_of new ≡ contents_of old)
 
   -- Putting another base in place, by cases on the answer.
-  abbrev pub Rebases : Texts D → Base → Result (Unit {0}) (Failure JournalFault) → Texts D → Type 0
+  abbrev pub Rebases : OfTexts D → Base → Result (Unit {0}) (Failure JournalFault) → OfTexts D → Type 0
   Rebases old base (Ok _) new = (old.spent ≡ false) × (new.spent ≡ false) × (new.generation ≡ old.generation + 1)
       × (contents_of new ≡ option_map (rebased base) (contents_of old))
   Rebases old base (Err (Refused DiskFault)) new = (old.spent ≡ false) × (new.spent ≡ true) × DiskFailed state old new
@@ -58,7 +62,7 @@ module _ {D : Type 0} (state : D → State) where
       × (contents_of new ≡ contents_of old)
 
   -- Making a journal, by cases on the answer.
-  abbrev pub Creates : D → D → Base → Result (Texts D) (Returned D) → Type 0
+  abbrev pub Creates : D → D → Base → Result (OfTexts D) (Returned D) → Type 0
   Creates first second base (Ok journal) = (journal.spent ≡ false) × IsAtRest journal × (contents_of journal ≡ Some (new_contents base))
   Creates first second base (Err returned) = CannotCreate (state first) (state second) returned.error (state returned.disks.first) (state returned.disks.second)
 
@@ -89,9 +93,14 @@ module _ {D : Type 0} (state : D → State) where
       × Untouched (state first) (state returned.disks.first) × Untouched (state second) (state returned.disks.second)
 
   -- Opening a journal again on what a crash left of its disks.
-  abbrev pub Restarts : Texts D → Result (Opened D) (Returned D) → Type 0
+  abbrev pub Restarts : OfTexts D → Result (Opened D) (Returned D) → Type 0
   Restarts journal result = (first : D) × (second : D) × Reopened (state (first_disk journal)) (state first)
       × Reopened (state (second_disk journal)) (state second) × Opens first second result
+
+-- whether the texts of the disk that doesn't count spell a base and entries, where its gate is open
+abbrev pub is_spelled : Option Older → Bool
+is_spelled None = true
+is_spelled (Some older) = is_some (spelled (record { generation = older.generation; base = older.base; entries = older.entries }))
 
 -- why the texts of an opened journal were not read
 abbrev pub CannotRead : Option Contents → Failure JournalFault → Type 0
@@ -102,14 +111,22 @@ CannotRead contents (Refused GenerationsSpent) = ⊥
 CannotRead contents NoMemory = Unit {0}
 
 module _ {D : Type 0} where
+  -- what an opened journal holds has spellings, and may be written again
+  abbrev pub IsGoodOpened : Opened D → Type 0
+  IsGoodOpened opened = IsGoodBase opened.base × AllByRecursion IsGoodEntry opened.entries
+
   -- the disks are not told to hold no journal
   abbrev pub IsNotRefused : Result (Opened D) (Returned D) → Type 0
   IsNotRefused (Ok opened) = Unit {0}
   IsNotRefused (Err returned) = returned.error ≢ Refused NotAJournal
 
-  -- the contents of the texts that were found
+  -- the texts that count
+  abbrev pub texts_found : OpenedTexts D → Texts
+  texts_found texts = record { generation = texts.journal.generation; base = texts.base; entries = texts.entries }
+
+  -- the contents of the texts that were found: none where a text on the other disk is the spelling of nothing
   abbrev pub contents_read : OpenedTexts D → Option Contents
-  contents_read texts = with_base texts.journal.generation (base_in texts.base) (entries_in texts.entries)
+  contents_read texts = if is_spelled texts.older then spelled (texts_found texts) else None
 
   -- Reading the texts of an opened journal, by cases on the answer: the disks are handed on as they are.
   abbrev pub ReadsTexts : OpenedTexts D → Result (Opened D) (Returned D) → Type 0

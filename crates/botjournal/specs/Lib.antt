@@ -3,3 +3,4 @@ pub mod Entries
 pub mod Bases
 pub mod Contents
 pub mod Journal
+pub mod Recovery

@@ -1,7 +1,7 @@
 // The journal of a bot.
 ghost use Rattle.std.specs.Prelude.{◌≡◌, ◌≢◌, ◌<◌, ◌-◌, ◌^◌, ◌↔◌, IsTrue, false, length, option_map};
 ghost use Rattle.bytejournal.specs.Meaning.{added as added_text, rebased as rebased_text};
-ghost use Rattle.bytejournal.specs.Journal.{AnyMoment, contents_of as texts_of};
+ghost use Rattle.bytejournal.specs.Journal.{AnyMoment, HoldsOne, contents_of as texts_of};
 ghost use Rattle.bytejournal.specs.Journal.{IsSound as AreTextsSound, IsEither as IsEitherText, Appends as AppendsText};
 ghost use Rattle.bytejournal.specs.Journal.{Rebases as RebasesText};
 ghost use Rattle.botjournal.specs.Bases.{IsGoodBase};
@@ -65,7 +65,8 @@ impl<D: Disk> Journal<D> {
         ensures sound { AreTextsSound D.state self.new }
         ensures row { AppendsText D.state self.old text.now result self.new }
         ensures any_moment { self.old.spent ≡ false → AnyMoment D.state self.old self.new
-            (IsEitherText (texts_of D.state self.old) (option_map (added_text text.now) (texts_of D.state self.old))) }
+            (IsEitherText (HoldsOne D.state self.old) (texts_of D.state self.old)
+            (option_map (added_text text.now) (texts_of D.state self.old))) }
     {
         match self.texts.append(alloc, text) {
             Ok(()) => Ok(()),
@@ -108,7 +109,7 @@ impl<D: Disk> Journal<D> {
         ensures sound { AreTextsSound D.state self.new }
         ensures row { RebasesText D.state self.old text.now result self.new }
         ensures any_moment { self.old.spent ≡ false → AnyMoment D.state self.old self.new
-            (IsEitherText (texts_of D.state self.old)
+            (IsEitherText (HoldsOne D.state self.old) (texts_of D.state self.old)
             (option_map (rebased_text text.now) (texts_of D.state self.old))) }
     {
         match self.texts.rebase(alloc, text) {

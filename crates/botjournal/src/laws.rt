@@ -1,9 +1,19 @@
-// What the spellings promise to whoever stores them, proved of the definitions.
-ghost use Rattle.std.specs.Prelude.{◌≡◌, Some};
+// What spellings promise to whoever stores them, and the calls of a journal together, proved of the definitions.
+ghost use Rattle.std.specs.Prelude.{◌≡◌, Some, Result, Ok};
+ghost use Rattle.bytejournal.specs.declared.journal.Journal.{Journal as OfTexts};
+ghost use Rattle.bytejournal.specs.declared.opening.Returned.{Returned};
+ghost use Rattle.bytejournal.specs.Journal.{first_disk, second_disk};
+ghost use Rattle.bytejournal.specs.Recovery.{Stage, Lives, IsIntact, IsRecoverable};
+ghost use Rattle.bytejournal.specs.Recovery.Stage.{InProgram};
 ghost use Rattle.botjournal.specs.declared.base.Base.{Base};
 ghost use Rattle.botjournal.specs.Bases.{base_bytes, base_in, IsGoodBase};
 ghost use Rattle.botjournal.specs.declared.entry.Entry.{Entry};
 ghost use Rattle.botjournal.specs.Entries.{entry_bytes, entry_in, IsGoodEntry};
+ghost use Rattle.botjournal.specs.declared.opening.Opened.{Opened};
+ghost use Rattle.botjournal.specs.Journal.{IsSound, Creates, Opens, Restarts};
+ghost use Rattle.botjournal.specs.Recovery.{Calls, IsJournal, FindsJournal};
+
+use storage::Disk;
 
 /// The law of the spellings of entries. It does nothing: what it ensures holds of any entries.
 pub fn laws_of_entries()
@@ -15,4 +25,19 @@ pub fn laws_of_entries()
 pub fn laws_of_bases()
     // Each base is what its spelling reads as, so no two bases have one spelling.
     ensures again { (base : Base) → IsGoodBase base → base_in (base_bytes base) ≡ Some base }
+{}
+
+/// The laws of a bot's journal that only this library writes. It does nothing: what it ensures holds of any disks.
+pub fn laws_of_journals<D: Disk>()
+    // From a `create` that was `Ok`, through any calls and through crashes at any moment of them: a journal that a
+    // program holds may be called, and what a crash leaves on the disks means a base and entries.
+    ensures kept { (first second : D) (base : Base) (journal : OfTexts D) (last : Stage D)
+        → Creates D.state first second base (Ok journal)
+        → Lives D.state (Calls D.state) (InProgram journal) last → IsIntact D.state (IsSound D.state) IsJournal last }
+    // So opening it never ends with `NotAJournal`, and finds all gates.
+    ensures opened { (first second : D) (result : Result (Opened D) (Returned D))
+        → IsRecoverable D.state IsJournal first second → Opens D.state first second result → FindsJournal result }
+    ensures restarted { (journal : OfTexts D) (result : Result (Opened D) (Returned D))
+        → IsRecoverable D.state IsJournal (first_disk journal) (second_disk journal)
+        → Restarts D.state journal result → FindsJournal result }
 {}

@@ -13,9 +13,10 @@
 //! if opened.whole { /* opened.base, opened.entries, and opened.journal to go on with */ }
 //! ```
 //!
-//! `NotAJournal` comes from disks that hold no journal of texts, or one whose base or an entry is the spelling of none;
-//! it never comes from disks that mean a base and entries. After a disk's fault the journal is spent: what was being
-//! written counts or doesn't, and opening it again tells.
+//! `NotAJournal` comes from disks that hold no journal of texts, and where a base or an entry after an open gate is the
+//! spelling of none, on the disk that counts or on the other one. It never comes from disks that `create` made and only
+//! this journal wrote, whatever crashes came: [`laws_of_journals`] says so of any number of calls. After a disk's fault
+//! the journal is spent: what was being written counts or doesn't, and opening it again tells.
 #![tactic(auto)]
 
 mod base;
@@ -33,6 +34,6 @@ pub use crate::bases::{read_base, write_base};
 pub use crate::entries::{read_entry, write_entry};
 pub use crate::entry::Entry;
 pub use crate::journal::Journal;
-pub use crate::laws::{laws_of_bases, laws_of_entries};
+pub use crate::laws::{laws_of_bases, laws_of_entries, laws_of_journals};
 pub use crate::opening::Opened;
 pub use crate::reply::{Answer, Reply};

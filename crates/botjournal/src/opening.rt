@@ -1,18 +1,20 @@
 // How a journal is made, opened and taken apart.
-ghost use Rattle.std.specs.Prelude.{◌≡◌, IfOk, Some, false};
+ghost use Rattle.std.specs.Prelude.{◌≡◌, IfOk, IfSome, Some, false};
+ghost use Rattle.std.specs.List.{AllByRecursion};
 ghost use Rattle.storage.specs.State.{IsSettled};
 ghost use Rattle.bytetext.specs.declared.failure.Failure.TheVariants.{Refused};
 ghost use Rattle.bytejournal.specs.Journal.{first_disk, second_disk};
 ghost use Rattle.botjournal.specs.Bases.{IsGoodBase};
+ghost use Rattle.botjournal.specs.Entries.{IsGoodEntry};
 ghost use Rattle.botjournal.specs.Contents.{Contents, meaning, entries_in};
-ghost use Rattle.botjournal.specs.Journal.{Creates, Opens, Restarts, IsNotRefused, ReadsTexts};
+ghost use Rattle.botjournal.specs.Journal.{Creates, Opens, Restarts, IsNotRefused, IsGoodOpened, ReadsTexts, is_spelled};
 
 use crate::base::Base;
 use crate::bases::{read_base, write_base};
 use crate::entries::read_entry;
 use crate::entry::Entry;
 use crate::journal::Journal;
-use bytejournal::{Disks, JournalFault, Returned};
+use bytejournal::{Disks, JournalFault, Older, Returned};
 use bytetext::{Failure, NoMemory, Seq, Text};
 use std::alloc::Global;
 use storage::Disk;
@@ -70,7 +72,8 @@ impl<D: Disk> Journal<D> {
     ///
     /// # Errors
     /// With the disks as they were: `DiskFault` where a read failed; `NotAJournal` where the disks don't hold a
-    /// journal, or its base or an entry is none; `NoMemory` where room for what they hold is refused.
+    /// journal, or a base or an entry after an open gate is none, on whichever disk; `NoMemory` where room for what they
+    /// hold is refused.
     pub fn open(alloc: Global, first: D, second: D) -> Result<Opened<D>, Returned<D>>
         requires first_settled { IsSettled (D.state first) }
         requires second_settled { IsSettled (D.state second) }
@@ -78,6 +81,8 @@ impl<D: Disk> Journal<D> {
         // Disks that mean a journal are never told to hold none.
         ensures never_refused { (contents : Contents)
             → meaning (D.state first).seen (D.state second).seen ≡ Some contents → IsNotRefused result }
+        // What it holds may be appended and put in place again.
+        ensures good { IfOk result IsGoodOpened }
     {
         match bytejournal::Journal::open(alloc, first, second) {
             Ok(texts) => read_texts(alloc, texts),
@@ -90,7 +95,8 @@ impl<D: Disk> Journal<D> {
     /// # Errors
     /// As of `open`.
     pub fn restart(self, alloc: Global) -> Result<Opened<D>, Returned<D>>
-        ensures { Restarts D.state self result }
+        ensures row { Restarts D.state self result }
+        ensures good { IfOk result IsGoodOpened }
     {
         match self.texts.restart(alloc) {
             Ok(texts) => read_texts(alloc, texts),
@@ -113,8 +119,14 @@ fn read_texts<D: Disk>(
     texts: bytejournal::Opened<D>,
 ) -> Result<Opened<D>, Returned<D>>
     requires { texts.journal.spent ≡ false }
-    ensures { ReadsTexts texts result }
+    ensures row { ReadsTexts texts result }
+    ensures good { IfOk result IsGoodOpened }
 {
+    match is_spelled(alloc, &texts.older) {
+        Ok(true) => {}
+        Ok(false) => return Err(not_a_journal(texts.journal)),
+        Err(NoMemory) => return Err(no_memory(texts.journal)),
+    }
     let base = match read_base(alloc, texts.base.as_bytes()) {
         Ok(Some(base)) => base,
         Ok(None) => return Err(not_a_journal(texts.journal)),
@@ -136,9 +148,25 @@ fn read_texts<D: Disk>(
     })
 }
 
+// Whether the texts of the disk that doesn't count spell a base and entries, where its gate is open.
+fn is_spelled(alloc: Global, older: &Option<Older>) -> Result<bool, NoMemory>
+    ensures { IfOk result (λ spelled. spelled ≡ is_spelled older.now) }
+{
+    let Some(older) = older else {
+        return Ok(true);
+    };
+    match read_base(alloc, older.base.as_bytes())? {
+        Some(_) => {}
+        None => return Ok(false),
+    }
+    let entries = read_entries(alloc, older.entries.as_slice())?;
+    Ok(entries.is_some())
+}
+
 // The entries whose spellings these texts are.
 fn read_entries(alloc: Global, texts: &[Text]) -> Result<Option<Seq<Entry>>, NoMemory>
-    ensures { IfOk result (λ read. read ≡ entries_in texts.now) }
+    ensures exact { IfOk result (λ read. read ≡ entries_in texts.now) }
+    ensures good { IfOk result (λ read. IfSome read (λ entries. AllByRecursion IsGoodEntry entries)) }
 {
     let mut entries = Vec::new(alloc);
     for text in texts {

@@ -1,5 +1,5 @@
 -- An entry more, whatever crash comes.
-use Rattle.std.proofs.Common.{◌≡◌, ◌≢◌, inl, inr, ⊎_elim, ◌<◌, ◌+◌, ◌^◌, ℕ, Bool, true, false, Option, Some, List, [], ◌∷◌, ◌++◌, length, get_or, take, drop, refl, sym, ◌∙◌, ap, subst, arith, length-append}
+use Rattle.std.proofs.Common.{◌≡◌, ◌≢◌, inl, inr, ⊎_elim, ◌<◌, ◌+◌, ◌^◌, ℕ, Bool, true, false, Option, None, Some, List, [], ◌∷◌, ◌++◌, length, get_or, take, drop, refl, sym, ◌∙◌, ap, subst, arith, length-append}
 use Rattle.std.specs.Prelude.{option_map}
 use Rattle.std.proofs.lemmas.List.{take_at, length-take}
 use Rattle.std.proofs.Math.Seq.{get_or-append_seam}
@@ -7,14 +7,20 @@ use Rattle.storage.specs.State.{State, IsSettled, LeavesOnly}
 use Rattle.bytejournal.specs.declared.journal.Journal.{Journal}
 use Rattle.bytejournal.specs.Gates.{with_gate, IsHalfWritten}
 use Rattle.bytejournal.specs.Meaning.{Contents, Held, added, held, chosen, meaning, IsFront}
-use Rattle.bytejournal.specs.Meaning.Held.{Shut, Open}
-use Rattle.bytejournal.specs.Journal.{IdleIs, IsEither, EachMoment, contents_of, IsAtRest}
+use Rattle.bytejournal.specs.Meaning.Held.{Shut, Broken, Open}
+use Rattle.bytejournal.specs.Journal.{IdleIs, IsEither, HoldsOne, EachMoment, contents_of, IsAtRest}
 use Rattle.bytejournal.proofs.Images.{Means, means_shut, entry_bytes, at_gate, file_after, front_after, after_append, while_appending}
 use Rattle.bytejournal.proofs.Pairs.{newer, HasNoOther, one_written, none_written}
 
 pub first_shut : (bytes : List ℕ) → 0 < length bytes → get_or bytes 0 0 ≢ 1 → Means bytes Shut
 first_shut [] long shut = absurd (omega arith)
 first_shut (gate ∷ rest) long shut = means_shut gate rest (gate ∷ rest) shut refl
+
+-- the contents of a disk that holds some
+abbrev pub open_contents : Held → Option Contents
+open_contents Shut = None
+open_contents Broken = None
+open_contents (Open contents) = Some contents
 
 -- beside the active disk's contents the other disk's don't count
 pub beside : (is_open : Bool) (contents : Contents) (bytes : List ℕ) → IdleIs is_open contents.generation bytes
@@ -33,30 +39,35 @@ module _ {D : Type 0} (state : D → State) (journal : Journal D) (rest : IsAtRe
   pub contents_are : contents_of state journal ≡ Some rest.contents
   contents_are = meaning_is journal.idle_open rest.contents (state journal.active).seen (state journal.idle).seen active_means rest.idle
 
-  pub still_either : (after : Option Contents) → IsEither (contents_of state journal) after (state journal.active).seen (state journal.idle).seen
-  still_either after = record { means = inl refl; first_whole = active_means.whole; second_whole = rest.idle_whole }
+  pub still_either : (after : Option Contents)
+      → IsEither (HoldsOne state journal) (contents_of state journal) after (state journal.active).seen (state journal.idle).seen
+  still_either after =
+      record { means = inl refl; nothing_else = λ contents one. inl one; first_whole = active_means.whole; second_whole = rest.idle_whole }
 
   pub nothing_happens : HasNoOther state journal.active → HasNoOther state journal.idle → (after : Option Contents)
-      → EachMoment state journal.active journal.idle journal.active journal.idle (IsEither (contents_of state journal) after)
+      → EachMoment state journal.active journal.idle journal.active journal.idle (IsEither (HoldsOne state journal) (contents_of state journal) after)
   nothing_happens active_only idle_only after = none_written state journal.active journal.idle
-      (IsEither (contents_of state journal) after) active_only rest.active_settled idle_only rest.idle_settled (still_either after)
+      (IsEither (HoldsOne state journal) (contents_of state journal) after) active_only rest.active_settled idle_only rest.idle_settled (still_either after)
 
   module _ (entry : List ℕ) (small : length entry < 2 ^ 32) where
     pub appended_are : option_map (added entry) (contents_of state journal) ≡ Some (added entry rest.contents)
     appended_are = ap (option_map (added entry)) contents_are
 
     pub either_appended : (image : List ℕ) → IsHalfWritten (state journal.active).seen journal.gate (entry_bytes entry ++ (0 ∷ [])) image
-        → IsEither (contents_of state journal) (option_map (added entry) (contents_of state journal)) image (state journal.idle).seen
+        → IsEither (HoldsOne state journal) (contents_of state journal) (option_map (added entry) (contents_of state journal)) image
+        (state journal.idle).seen
     either_appended image half =
         ⊎_elim
         (λ m. record {
           means = inl (meaning_is journal.idle_open rest.contents image (state journal.idle).seen m rest.idle ∙ sym contents_are);
+          nothing_else = λ c one. inl (⊎_elim (λ h. inl (active_means.held_is ∙ sym m.held_is ∙ h)) (λ h. inr h) one);
           first_whole = m.whole;
           second_whole = rest.idle_whole;
         })
         (λ m. record {
           means = inr (meaning_is journal.idle_open (added entry rest.contents) image (state journal.idle).seen m rest.idle
               ∙ sym appended_are);
+          nothing_else = λ c one. ⊎_elim (λ h. inr (appended_are ∙ ap open_contents (sym m.held_is ∙ h))) (λ h. inl (inr h)) one;
           first_whole = m.whole;
           second_whole = rest.idle_whole;
         })
@@ -67,7 +78,7 @@ module _ {D : Type 0} (state : D → State) (journal : Journal D) (rest : IsAtRe
       pub append_moments : HasNoOther state journal.idle
           → LeavesOnly (state journal.active) (state active) (IsHalfWritten (state journal.active).seen journal.gate (entry_bytes entry ++ (0 ∷ [])))
           → EachMoment state journal.active journal.idle active journal.idle
-          (IsEither (contents_of state journal) (option_map (added entry) (contents_of state journal)))
+          (IsEither (HoldsOne state journal) (contents_of state journal) (option_map (added entry) (contents_of state journal)))
       append_moments idle_only run = one_written state journal.active journal.idle active _ _ idle_only rest.idle_settled run either_appended
 
       module _ (written : (state active).seen ≡ with_gate (state journal.active).seen journal.gate (entry_bytes entry ++ (0 ∷ [])) 1) where

@@ -1,7 +1,9 @@
 -- What a journal is opened as.
-use Rattle.std.proofs.Common.{◌≡◌, IsTrue, ◌↔◌, ◌<◌, ◌≤◌, ℕ, Bool, true, false, None, Some, Ok, List, [], ◌∷◌, ◌++◌, length, get_or, take, drop, refl, sym, ◌∙◌, ap, subst, arith, take-append-drop, length-drop, ltb}
+use Rattle.std.proofs.Common.{◌≡◌, IsTrue, ◌↔◌, ◌<◌, ◌≤◌, ℕ, Bool, true, false, Option, None, Some, Ok, List, [], ◌∷◌, ◌++◌, length, get_or, take, drop, refl, sym, ◌∙◌, ap, subst, arith, take-append-drop, length-drop, ltb}
 use Rattle.std.proofs.lemmas.List.{append-nil, get_or-drop}
 use Rattle.std.proofs.lemmas.Bool.Decides.{nat_tests}
+use Rattle.std.specs.Prelude.{option_map}
+use Rattle.std.specs.Option.{is_some}
 use Rattle.storage.specs.State.{State, IsSettled}
 use Rattle.bytejournal.specs.declared.reading.Found.{Found}
 use Rattle.bytejournal.specs.declared.opening.Opened.{Opened}
@@ -9,7 +11,7 @@ use Rattle.bytejournal.specs.Meaning.{Contents, Held, held, chosen, IsWhole}
 use Rattle.bytejournal.specs.Meaning.Held.{Shut, Broken, Open}
 use Rattle.bytejournal.specs.Reading.{IsFound, EndsAt}
 use Rattle.bytejournal.specs.Journal.{IdleIs, IsAtRest}
-use Rattle.bytejournal.specs.Opening.{Chooses, opened_as}
+use Rattle.bytejournal.specs.Opening.{Chooses, opened_as, older_of, held_older}
 use Rattle.bytejournal.proofs.Fronts.{front_closed, front_alone, shut_gate, whole_shut}
 use Rattle.bytejournal.proofs.Images.{at_gate}
 use Rattle.bytejournal.proofs.Pairs.{chosen_comm}
@@ -86,11 +88,11 @@ found_is_idle generation bytes found is older = record {
 }
 
 module _ {D : Type 0} (state : D → State) where
-  module _ (active idle : D) (swapped idle_open whole : Bool) (found : Found) (gate : ℕ) (is : IsFound (state active).seen found)
-      (beside : IsIdle idle_open found.generation (state idle).seen gate)
+  module _ (active idle : D) (swapped whole : Bool) (found : Found) (older : Option Found) (gate : ℕ) (is : IsFound (state active).seen found)
+      (beside : IsIdle (is_some older) found.generation (state idle).seen gate)
       (test : IsTrue whole ↔ ((found.gate < length (state active).seen) × (gate < length (state idle).seen))) where
     found_at_rest : IsSettled (state active) → IsSettled (state idle) → whole ≡ true
-        → IsAtRest state (opened_as active idle swapped idle_open whole found).journal
+        → IsAtRest state (opened_as active idle swapped whole found older).journal
     found_at_rest settled settled' is_whole =
         let inside = test.0 is_whole in
         record {
@@ -108,36 +110,42 @@ module _ {D : Type 0} (state : D → State) where
     found_whole : IsWhole (state active).seen → IsWhole (state idle).seen → whole ≡ true
     found_whole active_whole idle_whole = test.1 (found_inside (state active).seen found is active_whole, beside.inside idle_whole)
 
-  pub opens_first : (first second : D) (idle_open whole : Bool) (found : Found) (gate : ℕ) (result : Opened D)
-      → result ≡ opened_as first second false idle_open whole found → IsFound (state first).seen found
+  pub opens_first : (first second : D) (whole : Bool) (found : Found) (older : Option Found) (gate : ℕ) (result : Opened D)
+      → result ≡ opened_as first second false whole found older → IsFound (state first).seen found
+      → held (state second).seen ≡ held_older (option_map older_of older)
       → chosen (Open (found_contents found)) (held (state second).seen) ≡ Some (found_contents found)
-      → IsIdle idle_open found.generation (state second).seen gate
+      → IsIdle (is_some older) found.generation (state second).seen gate
       → (IsTrue whole ↔ ((found.gate < length (state first).seen) × (gate < length (state second).seen))) → Chooses state first second (Ok result)
-  opens_first first second idle_open whole found gate result is reads counts beside test =
+  opens_first first second whole found older gate result is reads other counts beside test =
       subst (λ r. Chooses state first second (Ok r)) (sym is) (
         refl,
         refl,
         λ settled settled'. record {
           found = ap (λ (h : Held). chosen h (held (state second).seen)) (found_held (state first).seen found reads) ∙ counts;
+          active = found_held (state first).seen found reads;
+          idle = other;
           going = refl;
-          whole = found_whole first second false idle_open whole found gate reads beside test;
-          at_rest = found_at_rest first second false idle_open whole found gate reads beside test settled settled';
+          whole = found_whole first second false whole found older gate reads beside test;
+          at_rest = found_at_rest first second false whole found older gate reads beside test settled settled';
         },
       )
 
-  pub opens_second : (first second : D) (idle_open whole : Bool) (found : Found) (gate : ℕ) (result : Opened D)
-      → result ≡ opened_as second first true idle_open whole found → IsFound (state second).seen found
-      → chosen (Open (found_contents found)) (held (state first).seen) ≡ Some (found_contents found) → IsIdle idle_open found.generation (state first).seen gate
+  pub opens_second : (first second : D) (whole : Bool) (found : Found) (older : Option Found) (gate : ℕ) (result : Opened D)
+      → result ≡ opened_as second first true whole found older → IsFound (state second).seen found
+      → held (state first).seen ≡ held_older (option_map older_of older)
+      → chosen (Open (found_contents found)) (held (state first).seen) ≡ Some (found_contents found) → IsIdle (is_some older) found.generation (state first).seen gate
       → (IsTrue whole ↔ ((found.gate < length (state second).seen) × (gate < length (state first).seen))) → Chooses state first second (Ok result)
-  opens_second first second idle_open whole found gate result is reads counts beside test =
+  opens_second first second whole found older gate result is reads other counts beside test =
       subst (λ r. Chooses state first second (Ok r)) (sym is) (
         refl,
         refl,
         λ settled settled'. record {
           found = ap (chosen (held (state first).seen)) (found_held (state second).seen found reads)
               ∙ chosen_comm (held (state first).seen) (Open (found_contents found)) ∙ counts;
+          active = found_held (state second).seen found reads;
+          idle = other;
           going = refl;
-          whole = λ first_whole second_whole. found_whole second first true idle_open whole found gate reads beside test second_whole first_whole;
-          at_rest = found_at_rest second first true idle_open whole found gate reads beside test settled' settled;
+          whole = λ first_whole second_whole. found_whole second first true whole found older gate reads beside test second_whole first_whole;
+          at_rest = found_at_rest second first true whole found older gate reads beside test settled' settled;
         },
       )

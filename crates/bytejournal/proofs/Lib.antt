@@ -10,4 +10,5 @@ pub mod Appending
 pub mod Rebasing
 pub mod Choosing
 pub mod Creating
+pub mod Lasting
 pub mod Recovering

@@ -30,9 +30,11 @@ chosen_comm (Open a) (Open b) = either (ltb b.generation a.generation) (ltb a.ge
 pub meaning_comm : (x y : List ℕ) → meaning x y ≡ meaning y x
 meaning_comm x y = chosen_comm (held x) (held y)
 
-pub either_comm : (before after : Option Contents) (x y : List ℕ) → IsEither before after x y → IsEither before after y x
-either_comm before after x y is = record {
+pub either_comm : (Known : Contents → Type 0) (before after : Option Contents) (x y : List ℕ) → IsEither Known before after x y
+    → IsEither Known before after y x
+either_comm Known before after x y is = record {
   means = ⊎_elim (λ b. inl (meaning_comm y x ∙ b)) (λ a. inr (meaning_comm y x ∙ a)) is.means;
+  nothing_else = λ contents one. is.nothing_else contents (⊎_elim (λ h. inr h) (λ h. inl h) one);
   first_whole = is.second_whole;
   second_whole = is.first_whole;
 }

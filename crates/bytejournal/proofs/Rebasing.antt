@@ -11,11 +11,11 @@ use Rattle.bytejournal.specs.declared.journal.Journal.{Journal}
 use Rattle.bytejournal.specs.Gates.{with_gate, with_first, closed_first, IsHalfWritten, IsHalfReplaced}
 use Rattle.bytejournal.specs.Meaning.{Contents, Held, rebased, held, chosen, meaning, IsFront, IsWhole}
 use Rattle.bytejournal.specs.Meaning.Held.{Shut, Open}
-use Rattle.bytejournal.specs.Journal.{IdleIs, IsEither, EachMoment, contents_of, IsAtRest}
+use Rattle.bytejournal.specs.Journal.{IdleIs, IsEither, HoldsOne, EachMoment, contents_of, IsAtRest}
 use Rattle.bytejournal.proofs.Fronts.{front_start}
 use Rattle.bytejournal.proofs.Images.{Means, means_open, means_shut, base_bytes}
 use Rattle.bytejournal.proofs.Pairs.{newer, chosen_comm, meaning_comm, either_comm, flipped, HasNoOther, one_written}
-use Rattle.bytejournal.proofs.Appending.{beside, active_means, contents_are}
+use Rattle.bytejournal.proofs.Appending.{beside, open_contents, active_means, contents_are}
 
 -- a disk that holds a journal begins with an open gate
 first_open : (file : List ℕ) (contents : Contents) → held file ≡ Open contents → file ≡ with_first file 1
@@ -38,6 +38,13 @@ same_first : (file image : List ℕ) → IsClosed file → take 1 image ≡ take
 same_first [] image closed same = absurd (omega (arith, closed.inside))
 same_first (gate ∷ rest) image closed same = means_shut gate (drop 1 image) image closed.shut (sym (take-append-drop 1 image)
     ∙ ap (λ (l : List ℕ). l ++ drop 1 image) same)
+
+-- an image holds nothing, or what the file holds
+abbrev HoldsNoOther : List ℕ → List ℕ → Type 0
+HoldsNoOther file image = (contents : Contents) → held image ≡ Open contents → held file ≡ Open contents
+
+shut_holds_none : (file image : List ℕ) → Means image Shut → HoldsNoOther file image
+shut_holds_none file image m contents h = let both : Shut ≡ Open contents = sym m.held_is ∙ h in absurd (cc both)
 
 module _ (contents : Contents) (base : List ℕ) (small : length base < 2 ^ 32) (left : contents.generation + 1 < 2 ^ 32) where
   text : List ℕ
@@ -76,16 +83,18 @@ module _ (contents : Contents) (base : List ℕ) (small : length base < 2 ^ 32) 
   -- what stands beside the active disk while it is replaced
   pub while_replacing : (is_open : Bool) (file image : List ℕ) → IdleIs is_open contents.generation file → IsWhole file
       → IsHalfReplaced is_open file (base_bytes (contents.generation + 1) base ++ (0 ∷ [])) image
-      → (IsWhole image × (chosen (Open contents) (held image) ≡ Some contents)) ⊎ Means image (Open (rebased base contents))
+      → (IsWhole image × (chosen (Open contents) (held image) ≡ Some contents) × HoldsNoOther file image) ⊎ Means image (Open (rebased base contents))
   while_replacing false file image idle whole (inl torn) = absurd (cc (torn.1))
   while_replacing true file image idle whole (inl torn) = elim (cases_eq torn.0 1) [
     | inl is_one ↦
         let same : image ≡ file = torn.2 ∙ ap (λ (g : ℕ). with_first file g) is_one ∙ sym (first_open file idle.0 idle.1) in
-        inl (subst (λ (l : List ℕ). IsWhole l × (chosen (Open contents) (held l) ≡ Some contents)) (sym same) (whole, beside true contents file idle))
-    | inr shut ↦ let m = means_shut torn.0 (drop 1 file) image shut torn.2 in inl (m.whole, ap (chosen (Open contents)) m.held_is)
+        inl (subst (λ (l : List ℕ). IsWhole l × (chosen (Open contents) (held l) ≡ Some contents) × HoldsNoOther file l) (sym same)
+        (whole, beside true contents file idle, λ c h. h))
+    | inr shut ↦ let m = means_shut torn.0 (drop 1 file) image shut torn.2 in
+        inl (m.whole, ap (chosen (Open contents)) m.held_is, shut_holds_none file image m)
   ]
   while_replacing is_open file image idle whole (inr half) =
-      ⊎_elim (λ m. inl (m.whole, ap (chosen (Open contents)) m.held_is)) (λ m. inr m)
+      ⊎_elim (λ m. inl (m.whole, ap (chosen (Open contents)) m.held_is, shut_holds_none file image m)) (λ m. inr m)
       (torn_start (closed_first is_open file) (is_closed is_open contents.generation file idle) image half)
 
 module _ {D : Type 0} (state : D → State) (journal : Journal D) (rest : IsAtRest state journal) (base : List ℕ) (small : length base < 2 ^ 32)
@@ -104,18 +113,21 @@ module _ {D : Type 0} (state : D → State) (journal : Journal D) (rest : IsAtRe
 
   either_rebased : (image : List ℕ) → IsHalfReplaced journal.idle_open (state journal.idle).seen
       (base_bytes (rest.contents.generation + 1) base ++ (0 ∷ [])) image
-      → IsEither (contents_of state journal) (option_map (rebased base) (contents_of state journal)) image (state journal.active).seen
+      → IsEither (HoldsOne state journal) (contents_of state journal) (option_map (rebased base) (contents_of state journal)) image
+      (state journal.active).seen
   either_rebased image half =
       ⊎_elim
       (λ old. record {
         means = inl (meaning_comm image (state journal.active).seen
             ∙ ap (λ (h : Held). chosen h (held image)) (active_means state journal rest).held_is ∙ old.1
             ∙ sym (contents_are state journal rest));
+        nothing_else = λ c one. inl (⊎_elim (λ h. inr (old.2 c h)) (λ h. inl h) one);
         first_whole = old.0;
         second_whole = (active_means state journal rest).whole;
       })
       (λ m. record {
         means = inr (meaning_comm image (state journal.active).seen ∙ new_counts image m ∙ sym rebased_are);
+        nothing_else = λ c one. ⊎_elim (λ h. inr (rebased_are ∙ ap open_contents (sym m.held_is ∙ h))) (λ h. inl (inl h)) one;
         first_whole =
             m.whole;
         second_whole = (active_means state journal rest).whole;
@@ -128,10 +140,10 @@ module _ {D : Type 0} (state : D → State) (journal : Journal D) (rest : IsAtRe
         → LeavesOnly (state journal.idle) (state idle)
         (IsHalfReplaced journal.idle_open (state journal.idle).seen (base_bytes (journal.generation + 1) base ++ (0 ∷ [])))
         → EachMoment state journal.active journal.idle journal.active idle
-        (IsEither (contents_of state journal) (option_map (rebased base) (contents_of state journal)))
+        (IsEither (HoldsOne state journal) (contents_of state journal) (option_map (rebased base) (contents_of state journal)))
     rebase_moments active_only run =
         flipped state journal.idle journal.active idle journal.active _
-        (either_comm (contents_of state journal) (option_map (rebased base) (contents_of state journal)))
+        (either_comm (HoldsOne state journal) (contents_of state journal) (option_map (rebased base) (contents_of state journal)))
         (one_written state journal.idle journal.active idle _ _ active_only rest.active_settled
         (subst (λ (n : ℕ). LeavesOnly (state journal.idle) (state idle)
         (IsHalfReplaced journal.idle_open (state journal.idle).seen (base_bytes (n + 1) base ++ (0 ∷ [])))) rest.generation run) either_rebased)

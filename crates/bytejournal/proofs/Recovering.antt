@@ -10,34 +10,34 @@ use Rattle.bytejournal.specs.declared.journal.Journal.{Journal}
 use Rattle.bytejournal.specs.declared.opening.Opened.{Opened}
 use Rattle.bytejournal.specs.declared.opening.Returned.{Returned}
 use Rattle.bytejournal.specs.Meaning.{Contents, added, rebased, meaning, IsWhole}
-use Rattle.bytejournal.specs.Journal.{IsEither, EachMoment, IsAtRest, IsSound, Appends, Rebases, contents_of, first_disk, second_disk}
+use Rattle.bytejournal.specs.Journal.{IsEither, HoldsOne, EachMoment, IsAtRest, IsSound, Appends, Rebases, contents_of, first_disk, second_disk}
 use Rattle.bytejournal.specs.Opening.{Untouched, Reopened, Refuses, Creates, Opens, Restarts}
-use Rattle.bytejournal.specs.Recovery.{IsJournal, Stage, first_of, second_of, after_opening, FindsJournal, IsRecoverable, Appended, Rebased, Calls, IsLeft, Happens, Lives, IsIntact}
+use Rattle.bytejournal.specs.Recovery.{IsJournal, Stage, first_of, second_of, after_opening, FindsJournal, IsRecoverable, Appended, Rebased, Calls, Lives, IsIntact}
 use Rattle.bytejournal.specs.Recovery.Stage.{InProgram, OnDisks}
 use Rattle.bytejournal.specs.Recovery.Calls.{append, rebase, restart, into_disks, reopen, opening}
-use Rattle.bytejournal.specs.Recovery.Happens.{returned, crashed}
-use Rattle.bytejournal.specs.Recovery.Lives.{so_far, more}
-use Rattle.bytejournal.proofs.Pairs.{HasNoOther, meaning_comm, pair, either_comm}
+use Rattle.bytejournal.proofs.Pairs.{meaning_comm, pair, either_comm}
 use Rattle.bytejournal.proofs.Appending.{contents_are, nothing_happens}
+use Rattle.bytejournal.proofs.Lasting.{HasLaws, Stays, StageStays, IsStageKept, Callable, seen_journal, after_moments, no_moments, untouched, reopened, opened_again, all_kept}
 
 -- ---- images
 
-some_is : {A : Type 0} (x y : Option A) → x ≡ y → IsSome y → IsSome x
+pub some_is : {A : Type 0} (x y : Option A) → x ≡ y → IsSome y → IsSome x
 some_is x y e some = subst IsSome (sym e) some
 
-some_map : {A B : Type 0} (f : A → B) (x : Option A) → IsSome x → IsSome (option_map f x)
+pub some_map : {A B : Type 0} (f : A → B) (x : Option A) → IsSome x → IsSome (option_map f x)
 some_map f None some = absurd cc
 some_map f (Some x) some = refl
 
 -- two images that mean the one or the other are a journal's
-either_is_journal : (before after : Option Contents) (x y : List ℕ) → IsSome before → IsSome after → IsEither before after x y → IsJournal x y
-either_is_journal before after x y some some' is = record {
+either_is_journal : (Known : Contents → Type 0) (before after : Option Contents) (x y : List ℕ) → IsSome before → IsSome after
+    → IsEither Known before after x y → IsJournal x y
+either_is_journal Known before after x y some some' is = record {
   some = ⊎_elim (λ b. some_is (meaning x y) before b some) (λ a. some_is (meaning x y) after a some') is.means;
   first_whole = is.first_whole;
   second_whole = is.second_whole;
 }
 
-none_is_not_some : {A : Type 0} (x : Option A) → x ≡ None → IsSome x → ⊥
+pub none_is_not_some : {A : Type 0} (x : Option A) → x ≡ None → IsSome x → ⊥
 none_is_not_some None none some = cc
 none_is_not_some (Some x) none some = cc
 
@@ -48,9 +48,7 @@ not_none first second is none = none_is_not_some (meaning first second) none is.
 not_both : (b : Bool) → b ≡ true → b ≡ false → ⊥
 not_both b t f = cc
 
-module _ {D : Type 0} (state : D → State) (seen_is_left : (disk : D) → (state disk).may_leave (state disk).seen)
-    (counts_now : (disk : D) (t : ℕ) (image : List ℕ) → t ≤ (state disk).moment → (state disk).may_leave image → (state disk).left_since t image)
-    (only_now : (disk : D) → HasNoOther state disk) where
+module _ {D : Type 0} (state : D → State) (laws : HasLaws state) where
   -- ---- what the calls do
 
   -- a spent journal stays as it is
@@ -74,25 +72,6 @@ module _ {D : Type 0} (state : D → State) (seen_is_left : (disk : D) → (stat
 
   -- ---- moments
 
-  -- at each moment between two stages a crash leaves a journal
-  abbrev Stays : D → D → D → D → Type 0
-  Stays first second first' second' = EachMoment state first second first' second' IsJournal
-
-  seen_journal : (first second : D) → IsRecoverable state first second → IsJournal (state first).seen (state second).seen
-  seen_journal first second is = is (state first).seen (state second).seen (seen_is_left first) (seen_is_left second)
-
-  -- then it does so afterwards
-  after_moments : (first second first' second' : D) → Stays first second first' second' → IsRecoverable state first' second'
-  after_moments first second first' second' stays x y left right = stays.each x y (counts_now first' (state first).moment x stays.first_later left)
-      (counts_now second' (state second).moment y stays.second_later right)
-
-  no_moments : (first second : D) → IsRecoverable state first second → Stays first second first second
-  no_moments first second is = record {
-    first_later = omega arith;
-    second_later = omega arith;
-    each = λ x y left right. is x y (only_now first x left) (only_now second y right);
-  }
-
   -- what the journal means, whichever of its disks is active
   contents_in_order : (swapped : Bool) (active idle : D)
       → IsSome (meaning (state (if swapped then idle else active)).seen (state (if swapped then active else idle)).seen)
@@ -101,175 +80,110 @@ module _ {D : Type 0} (state : D → State) (seen_is_left : (disk : D) → (stat
   contents_in_order true active idle some =
       some_is (meaning (state active).seen (state idle).seen) _ (meaning_comm (state active).seen (state idle).seen) some
 
-  some_contents : (journal : Journal D) → IsRecoverable state (first_disk journal) (second_disk journal) → IsSome (contents_of state journal)
+  some_contents : (journal : Journal D) → IsRecoverable state IsJournal (first_disk journal) (second_disk journal) → IsSome (contents_of state journal)
   some_contents journal is =
-      contents_in_order journal.swapped journal.active journal.idle (seen_journal (first_disk journal) (second_disk journal) is).some
+      contents_in_order journal.swapped journal.active journal.idle
+      (seen_journal state laws IsJournal (first_disk journal) (second_disk journal) is).some
 
   -- a call of a journal: what a crash leaves means its contents, or others
-  called : (old new : Journal D) (f : Contents → Contents) → IsRecoverable state (first_disk old) (second_disk old)
+  called : (old new : Journal D) (f : Contents → Contents) → IsRecoverable state IsJournal (first_disk old) (second_disk old)
       → (old.spent ≡ true → new ≡ old)
       → (old.spent ≡ false → EachMoment state (first_disk old) (second_disk old) (first_disk new) (second_disk new)
-      (IsEither (contents_of state old) (option_map f (contents_of state old))))
-      → Stays (first_disk old) (second_disk old) (first_disk new) (second_disk new)
+      (IsEither (HoldsOne state old) (contents_of state old) (option_map f (contents_of state old))))
+      → Stays state IsJournal (first_disk old) (second_disk old) (first_disk new) (second_disk new)
   called old new f is stuck moments = by_spent old.spent refl
     where
       some : IsSome (contents_of state old)
       some = some_contents old is
 
-      by_spent : (b : Bool) → old.spent ≡ b → Stays (first_disk old) (second_disk old) (first_disk new) (second_disk new)
-      by_spent true spent = subst (λ (j : Journal D). Stays (first_disk old) (second_disk old) (first_disk j) (second_disk j)) (sym (stuck spent))
-          (no_moments (first_disk old) (second_disk old) is)
+      by_spent : (b : Bool) → old.spent ≡ b → Stays state IsJournal (first_disk old) (second_disk old) (first_disk new) (second_disk new)
+      by_spent true spent = subst (λ (j : Journal D). Stays state IsJournal (first_disk old) (second_disk old) (first_disk j) (second_disk j))
+          (sym (stuck spent)) (no_moments state laws IsJournal (first_disk old) (second_disk old) is)
       by_spent false going =
           let m = moments going in
           record {
             first_later = m.first_later;
             second_later = m.second_later;
-            each = λ x y left right. either_is_journal (contents_of state old) (option_map f (contents_of state old)) x y some
+            each = λ x y left right. either_is_journal (HoldsOne state old) (contents_of state old) (option_map f (contents_of state old)) x y some
                 (some_map f (contents_of state old) some) (m.each x y left right);
           }
 
-  -- disks that were opened: nothing was written
-  untouched : (first second first' second' : D) → IsRecoverable state first second → Untouched (state first) (state first')
-      → Untouched (state second) (state second') → Stays first second first' second'
-  untouched first second first' second' is a b = record {
-    first_later = a.any_moment.later;
-    second_later = b.any_moment.later;
-    each = λ x y left right. subst (λ (l : List ℕ). IsJournal l y) (sym (a.any_moment.each x left))
-        (subst (λ (l : List ℕ). IsJournal (state first).seen l) (sym (b.any_moment.each y right)) (seen_journal first second is));
-  }
-
-  -- a disk that was crashed leaves what it might have left before
-  reopened_leaves : (old new : D) → Reopened (state old) (state new) → (image : List ℕ) → (state new).left_since (state old).moment image
-      → (state old).may_leave image
-  reopened_leaves old new is image left =
-      ⊎_elim (λ before. only_now old image before)
-      (λ now. subst (λ (l : List ℕ). (state old).may_leave l) (sym (is.settled image now)) is.left)
-      (is.time.nothing_else (state old).moment image (omega arith) left)
-
-  reopened : (first second first' second' : D) → IsRecoverable state first second → Reopened (state first) (state first')
-      → Reopened (state second) (state second') → Stays first second first' second'
-  reopened first second first' second' is a b = record {
-    first_later = a.time.later;
-    second_later = b.time.later;
-    each =
-        λ x y left right. is x y (reopened_leaves first first' a x left) (reopened_leaves second second' b y right);
-  }
-
-  -- a disk that was crashed and then opened
-  left_earlier : (old mid new : D) → Reopened (state old) (state mid) → Untouched (state mid) (state new) → (image : List ℕ)
-      → (state new).left_since (state old).moment image → (state old).may_leave image
-  left_earlier old mid new a b image left =
-      ⊎_elim (λ before. reopened_leaves old mid a image before)
-      (λ seen. subst (λ (l : List ℕ). (state old).may_leave l) (sym seen) a.left)
-      (b.any_moment.before (state old).moment image a.time.later left)
-
-  opened_again : (first second mid mid' first' second' : D) → IsRecoverable state first second → Reopened (state first) (state mid)
-      → Reopened (state second) (state mid') → Untouched (state mid) (state first') → Untouched (state mid') (state second')
-      → Stays first second first' second'
-  opened_again first second mid mid' first' second' is a b c d = record {
-    first_later = omega (arith, a.time.later, c.any_moment.later);
-    second_later = omega (arith, b.time.later, d.any_moment.later);
-    each = λ x y left right. is x y (left_earlier first mid first' a c x left) (left_earlier second mid' second' b d y right);
-  }
-
   -- ---- opening
 
-  pub opened_is_found : (first second : D) (result : Result (Opened D) (Returned D)) → IsRecoverable state first second
+  pub opened_is_found : (first second : D) (result : Result (Opened D) (Returned D)) → IsRecoverable state IsJournal first second
       → Opens state first second result → FindsJournal result
-  opened_is_found first second (Ok opened) is o = let here = seen_journal first second is in o.0.whole here.first_whole here.second_whole
-  opened_is_found first second (Err handed) is o = λ e. not_none (state first).seen (state second).seen (seen_journal first second is)
+  opened_is_found first second (Ok opened) is o =
+      let here = seen_journal state laws IsJournal first second is in
+      o.0.whole here.first_whole here.second_whole
+  opened_is_found first second (Err handed) is o = λ e.
+      not_none (state first).seen (state second).seen (seen_journal state laws IsJournal first second is)
       (subst (λ (f : Failure JournalFault). Refuses state first second f handed.disks.first handed.disks.second) e o.0)
 
   pub restarted_is_found : (journal : Journal D) (result : Result (Opened D) (Returned D))
-      → IsRecoverable state (first_disk journal) (second_disk journal) → Restarts state journal result → FindsJournal result
+      → IsRecoverable state IsJournal (first_disk journal) (second_disk journal) → Restarts state journal result → FindsJournal result
   restarted_is_found journal result is r = opened_is_found r.0 r.1 result
-      (after_moments (first_disk journal) (second_disk journal) r.0 r.1 (reopened (first_disk journal) (second_disk journal) r.0 r.1 is r.2 r.3)) r.4
+      (after_moments state laws IsJournal (first_disk journal) (second_disk journal) r.0 r.1
+      (reopened state laws IsJournal (first_disk journal) (second_disk journal) r.0 r.1 is r.2 r.3)) r.4
 
   -- ---- stages
-
-  abbrev recoverable : Stage D → Type 0
-  recoverable stage = IsRecoverable state (first_of stage) (second_of stage)
-
-  -- a journal that a program holds may be called
-  abbrev Callable : Stage D → Type 0
-  Callable (InProgram journal) = IsSound state journal
-  Callable (OnDisks first second) = Unit {0}
-
-  kept_is : (stage : Stage D) → IsIntact state stage → recoverable stage
-  kept_is (InProgram journal) is = is.1
-  kept_is (OnDisks first second) is = is
-
-  is_kept : (stage : Stage D) → Callable stage → recoverable stage → IsIntact state stage
-  is_kept (InProgram journal) sound is = (sound, is)
-  is_kept (OnDisks first second) sound is = is
 
   after_open : (first second : D) (result : Result (Opened D) (Returned D)) → Opens state first second result
       → Untouched (state first) (state (first_of (after_opening result))) × Untouched (state second) (state (second_of (after_opening result)))
   after_open first second (Ok opened) o = (o.1, o.2)
   after_open first second (Err handed) o = (o.1, o.2)
 
-  opened_callable : (first second : D) (result : Result (Opened D) (Returned D)) → IsRecoverable state first second
-      → Opens state first second result → Callable (after_opening result)
+  opened_callable : (first second : D) (result : Result (Opened D) (Returned D)) → IsRecoverable state IsJournal first second
+      → Opens state first second result → Callable (IsSound state) (after_opening result)
   opened_callable first second (Ok opened) is o = λ going. o.0.at_rest (opened_is_found first second (Ok opened) is o)
   opened_callable first second (Err handed) is o = tt
 
   -- at each moment of a call
-  call_stays : {old new : Stage D} → Calls state old new → recoverable old → Stays (first_of old) (second_of old) (first_of new) (second_of new)
+  call_stays : {old new : Stage D} → Calls state old new → IsStageKept state IsJournal old → StageStays state IsJournal old new
   call_stays (append {old} {new} entry result is) kept =
       called old new (added entry) kept (spent_append old entry result new is.row) is.any_moment
   call_stays (rebase {old} {new} base result is) kept =
       called old new (rebased base) kept (spent_rebase old base result new is.row) is.any_moment
   call_stays (restart {journal} result r) kept =
       let u = after_open r.0 r.1 result r.4 in
-      opened_again (first_disk journal) (second_disk journal) r.0 r.1 (first_of (after_opening result)) (second_of (after_opening result)) kept r.2 r.3 u.0 u.1
-  call_stays (into_disks {journal}) kept = no_moments (first_disk journal) (second_disk journal) kept
-  call_stays (reopen {first} {second} {first'} {second'} a b) kept = reopened first second first' second' kept a b
+      opened_again state laws IsJournal (first_disk journal) (second_disk journal) r.0 r.1 (first_of (after_opening result))
+      (second_of (after_opening result)) kept r.2 r.3 u.0 u.1
+  call_stays (into_disks {journal}) kept = no_moments state laws IsJournal (first_disk journal) (second_disk journal) kept
+  call_stays (reopen {first} {second} {first'} {second'} a b) kept = reopened state laws IsJournal first second first' second' kept a b
   call_stays (opening {first} {second} result settled settled' o) kept =
       let u = after_open first second result o in
-      untouched first second (first_of (after_opening result)) (second_of (after_opening result)) kept u.0 u.1
+      untouched state laws IsJournal first second (first_of (after_opening result)) (second_of (after_opening result)) kept u.0 u.1
 
-  call_callable : {old new : Stage D} → Calls state old new → recoverable old → Callable new
+  call_callable : {old new : Stage D} → Calls state old new → IsStageKept state IsJournal old → Callable (IsSound state) new
   call_callable (append entry result is) kept = is.sound
   call_callable (rebase base result is) kept = is.sound
   call_callable (restart {journal} result r) kept = opened_callable r.0 r.1 result
-      (after_moments (first_disk journal) (second_disk journal) r.0 r.1 (reopened (first_disk journal) (second_disk journal) r.0 r.1 kept r.2 r.3)) r.4
+      (after_moments state laws IsJournal (first_disk journal) (second_disk journal) r.0 r.1
+      (reopened state laws IsJournal (first_disk journal) (second_disk journal) r.0 r.1 kept r.2 r.3)) r.4
   call_callable into_disks kept = tt
   call_callable (reopen a b) kept = tt
   call_callable (opening {first} {second} result settled settled' o) kept = opened_callable first second result kept o
 
-  crash_keeps : (old new : Stage D) (first second : D) → Stays (first_of old) (second_of old) (first_of new) (second_of new)
-      → IsLeft state (first_of old) (first_of new) first → IsLeft state (second_of old) (second_of new) second → IsRecoverable state first second
-  crash_keeps old new first second stays a b x y left right =
-      subst (λ (l : List ℕ). IsJournal l y) (sym (a.settled x left))
-      (subst (λ (l : List ℕ). IsJournal (state first).seen l) (sym (b.settled y right))
-      (stays.each (state first).seen (state second).seen a.image b.image))
-
-  one_more : {old new : Stage D} → Happens state old new → IsIntact state old → IsIntact state new
-  one_more (returned {old} {new} call) kept = is_kept new (call_callable call (kept_is old kept))
-      (after_moments (first_of old) (second_of old) (first_of new) (second_of new) (call_stays call (kept_is old kept)))
-  one_more (crashed {old} {new} {first} {second} call a b) kept = crash_keeps old new first second (call_stays call (kept_is old kept)) a b
-
-  all_kept : {first last : Stage D} → Lives state first last → IsIntact state first → IsIntact state last
-  all_kept so_far kept = kept
-  all_kept (more step rest) kept = all_kept rest (one_more step kept)
-
   -- a new journal
-  created_is_kept : (first second : D) (base : List ℕ) (journal : Journal D) → Creates state first second base (Ok journal) → IsIntact state (InProgram journal)
+  created_is_kept : (first second : D) (base : List ℕ) (journal : Journal D) → Creates state first second base (Ok journal)
+      → IsIntact state (IsSound state) IsJournal (InProgram journal)
   created_is_kept first second base journal c =
       let rest = c.1 in
       let after = contents_of state journal in
       let some = some_is (contents_of state journal) (Some rest.contents) (contents_are state journal rest) refl in
-      let moments = pair state journal.swapped journal.active journal.idle journal.active journal.idle (IsEither after after)
-      (either_comm after after) (nothing_happens state journal rest (only_now journal.active) (only_now journal.idle) after) in (
+      let moments = pair state journal.swapped journal.active journal.idle journal.active journal.idle (IsEither (HoldsOne state journal) after after)
+      (either_comm (HoldsOne state journal) after after) (nothing_happens state journal rest (laws.only_now journal.active) (laws.only_now journal.idle) after) in (
         λ going. rest,
-        after_moments (first_disk journal) (second_disk journal) (first_disk journal) (second_disk journal)
+        after_moments state laws IsJournal (first_disk journal) (second_disk journal) (first_disk journal) (second_disk journal)
             (record {
               first_later = moments.first_later;
               second_later = moments.second_later;
-              each = λ x y left right. either_is_journal after after x y some some (moments.each x y left right);
+              each = λ x y left right. either_is_journal (HoldsOne state journal) after after x y some some (moments.each x y left right);
             }),
       )
 
   pub lives_kept : (first second : D) (base : List ℕ) (journal : Journal D) (last : Stage D) → Creates state first second base (Ok journal)
-      → Lives state (InProgram journal) last → IsIntact state last
-  lives_kept first second base journal last created lives = all_kept lives (created_is_kept first second base journal created)
+      → Lives state (Calls state) (InProgram journal) last → IsIntact state (IsSound state) IsJournal last
+  lives_kept first second base journal last created lives =
+      all_kept state laws IsJournal (IsSound state) (Calls state) (λ old new call kept. call_stays call kept)
+      (λ old new call kept. call_callable call kept) lives
+      (created_is_kept first second base journal created)

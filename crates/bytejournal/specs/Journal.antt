@@ -1,5 +1,5 @@
 -- What a journal stands for.
-use Rattle.std.specs.Prelude.{◌≡◌, ◌≢◌, ◌⊎◌, ◌<◌, ◌≤◌, ◌+◌, ◌-◌, ◌^◌, Bool, true, false, if◌then◌else◌, ℕ, Option, List, length, take, slice_index, option_map, Result, Ok, Err}
+use Rattle.std.specs.Prelude.{◌≡◌, ◌≢◌, ◌⊎◌, ◌<◌, ◌≤◌, ◌+◌, ◌-◌, ◌^◌, Bool, true, false, if◌then◌else◌, ℕ, Option, Some, List, length, take, slice_index, option_map, Result, Ok, Err}
 use Rattle.bytetext.specs.declared.failure.Failure.{Failure}
 use Rattle.bytetext.specs.declared.failure.Failure.TheVariants.{Refused, NoMemory}
 use Rattle.storage.specs.State.{State, IsSettled, Rose}
@@ -15,9 +15,15 @@ abbrev pub IdleIs : Bool → ℕ → List ℕ → Type 0
 IdleIs false generation bytes = (0 < length bytes) × (slice_index bytes 0 ≢ 1)
 IdleIs true generation bytes = (older : Contents) × (held bytes ≡ Open older) × (older.generation < generation)
 
--- two images mean the one or the other, and all their gates are there
-pub record IsEither (before after : Option Contents) (first second : List ℕ) : Type 0 where
+-- one of two disks holds these contents, whether they count or not
+abbrev pub Holds : List ℕ → List ℕ → Contents → Type 0
+Holds first second contents = (held first ≡ Open contents) ⊎ (held second ≡ Open contents)
+
+-- Two images mean the one or the other, and all their gates are there. What they hold, whether it counts or not, is what
+-- some disk held before, or is what is meant after.
+pub record IsEither (Held : Contents → Type 0) (before after : Option Contents) (first second : List ℕ) : Type 0 where
   pub means : (meaning first second ≡ before) ⊎ (meaning first second ≡ after)
+  pub nothing_else : (contents : Contents) → Holds first second contents → Held contents ⊎ (after ≡ Some contents)
   pub first_whole : IsWhole first
   pub second_whole : IsWhole second
 
@@ -43,6 +49,10 @@ module _ {D : Type 0} (state : D → State) where
   -- what the journal's disks mean
   abbrev pub contents_of : Journal D → Option Contents
   contents_of journal = meaning (state journal.active).seen (state journal.idle).seen
+
+  -- one of the journal's disks holds these contents
+  abbrev pub HoldsOne : Journal D → Contents → Type 0
+  HoldsOne journal contents = Holds (state journal.active).seen (state journal.idle).seen contents
 
   -- Between two calls: a closed gate ends the active disk's entries, the other disk doesn't count, all gates are there
   -- and nothing is pending.

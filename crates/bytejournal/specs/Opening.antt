@@ -1,5 +1,6 @@
 -- How a journal is made and opened.
-use Rattle.std.specs.Prelude.{◌≡◌, ◌⊎◌, Bool, true, false, ℕ, None, Some, List, [], ◌∷◌, ◌++◌, length, Result, Ok, Err}
+use Rattle.std.specs.Prelude.{◌≡◌, ◌⊎◌, Bool, true, false, if◌then◌else◌, ℕ, Option, None, Some, List, [], ◌∷◌, ◌++◌, length, option_map, Result, Ok, Err}
+use Rattle.std.specs.Option.{is_some}
 use Rattle.bytetext.specs.declared.failure.Failure.{Failure}
 use Rattle.bytetext.specs.declared.failure.Failure.TheVariants.{Refused, NoMemory}
 use Rattle.storage.specs.State.{State, IsSettled, Rose, LeavesOnly}
@@ -7,13 +8,15 @@ use Rattle.storage.specs.Calls.{Elapses}
 use Rattle.bytejournal.specs.declared.fault.JournalFault.{JournalFault}
 use Rattle.bytejournal.specs.declared.fault.JournalFault.TheVariants.{DiskFault, NotAJournal, Spent, GenerationsSpent}
 use Rattle.bytejournal.specs.declared.journal.Journal.{Journal}
+use Rattle.bytejournal.specs.declared.opening.Older.{Older}
 use Rattle.bytejournal.specs.declared.opening.Opened.{Opened}
 use Rattle.bytejournal.specs.declared.opening.Returned.{Returned}
 use Rattle.bytejournal.specs.declared.reading.Found.{Found}
 use Rattle.bytejournal.specs.declared.reading.Reading.{Reading}
 use Rattle.std.specs.Int.{w32, to_be_bytes}
 use Rattle.bytejournal.specs.Gates.{with_gate, with_first}
-use Rattle.bytejournal.specs.Meaning.{Contents, layout, meaning, IsWhole}
+use Rattle.bytejournal.specs.Meaning.{Contents, Held, held, layout, meaning, IsWhole}
+use Rattle.bytejournal.specs.Meaning.Held.{Shut, Open}
 use Rattle.bytejournal.specs.Reading.{Reads}
 use Rattle.bytejournal.specs.Writing.{IsSame}
 use Rattle.bytejournal.specs.Journal.{IsAtRest, contents_of, first_disk, second_disk}
@@ -62,15 +65,24 @@ WritesNew first second base (Ok _) first' second' = (first'.seen ≡ with_gate (
     × (second'.seen ≡ with_first second.seen 0) × IsSettled first' × IsSettled second'
 WritesNew first second base (Err error) first' second' = CannotCreate first second error first' second'
 
+-- what was found on the disk that doesn't count
+abbrev pub older_of : Found → Older
+older_of found = record { generation = found.generation; base = found.base; entries = found.entries }
+
+-- what the disk holds that doesn't count
+abbrev pub held_older : Option Older → Held
+held_older None = Shut
+held_older (Some older) = Open (record { generation = older.generation; base = older.base; entries = older.entries })
+
 module _ {D : Type 0} where
-  -- the journal that was found on the active disk
-  abbrev pub opened_as : D → D → Bool → Bool → Bool → Found → Opened D
-  opened_as active idle swapped idle_open whole found = record {
+  -- the journal that was found on the active disk, and what was found on the other one
+  abbrev pub opened_as : D → D → Bool → Bool → Found → Option Found → Opened D
+  opened_as active idle swapped whole found older = record {
     journal = record {
       active = active;
       idle = idle;
       swapped = swapped;
-      idle_open = idle_open;
+      idle_open = is_some older;
       generation = found.generation;
       gate =
           found.gate;
@@ -78,6 +90,7 @@ module _ {D : Type 0} where
     };
     base = found.base;
     entries = found.entries;
+    older = option_map older_of older;
     whole = whole;
   }
 
@@ -92,6 +105,8 @@ module _ {D : Type 0} (state : D → State) where
   -- The journal was opened on disks with these bytes. Where it is whole it is at rest.
   pub record IsOpened (first second : List ℕ) (opened : Opened D) : Type 0 where
     pub found : meaning first second ≡ Some (contents_found opened)
+    pub active : held (if opened.journal.swapped then second else first) ≡ Open (contents_found opened)
+    pub idle : held (if opened.journal.swapped then first else second) ≡ held_older opened.older
     pub going : opened.journal.spent ≡ false
     pub whole : IsWhole first → IsWhole second → opened.whole ≡ true
     pub at_rest : opened.whole ≡ true → IsAtRest state opened.journal
@@ -121,6 +136,7 @@ module _ {D : Type 0} (state : D → State) where
   -- Making a journal, by cases on the answer.
   abbrev pub Creates : D → D → List ℕ → Result (Journal D) (Returned D) → Type 0
   Creates first second base (Ok journal) = (journal.spent ≡ false) × IsAtRest state journal × (contents_of state journal ≡ Some (new_contents base))
+      × (held (state journal.idle).seen ≡ Shut)
   Creates first second base (Err returned) = CannotCreate (state first) (state second) returned.error (state returned.disks.first) (state returned.disks.second)
 
   -- Opening a journal again on what a crash left of its disks.

@@ -1,4 +1,5 @@
--- A journal over many calls and crashes. Each call is what the clauses of `Journal` say of it.
+-- A journal over many calls and crashes. What two images have to be, and what the calls are, are left open: a journal of
+-- values on these texts fills them in with its own.
 use Rattle.std.specs.Prelude.{◌≡◌, ◌≢◌, false, true, ℕ, Option, List, IsSome, option_map, Result, Ok, Err}
 use Rattle.bytetext.specs.declared.failure.Failure.{Failure}
 use Rattle.bytetext.specs.declared.failure.Failure.TheVariants.{Refused}
@@ -9,14 +10,8 @@ use Rattle.bytejournal.specs.declared.journal.Journal.{Journal}
 use Rattle.bytejournal.specs.declared.opening.Opened.{Opened}
 use Rattle.bytejournal.specs.declared.opening.Returned.{Returned}
 use Rattle.bytejournal.specs.Meaning.{meaning, added, rebased, IsWhole}
-use Rattle.bytejournal.specs.Journal.{IsEither, AnyMoment, IsSound, Appends, Rebases, contents_of, first_disk, second_disk}
+use Rattle.bytejournal.specs.Journal.{IsEither, HoldsOne, AnyMoment, IsSound, Appends, Rebases, contents_of, first_disk, second_disk}
 use Rattle.bytejournal.specs.Opening.{Reopened, Opens, Restarts}
-
--- two images are a journal's: they mean its contents, and all their gates are there
-pub record IsJournal (first second : List ℕ) : Type 0 where
-  pub some : IsSome (meaning first second)
-  pub first_whole : IsWhole first
-  pub second_whole : IsWhole second
 
 -- where a journal is: in a program, or on two disks that no program uses
 pub data Stage (D : Type 0) : Type 0 where
@@ -32,33 +27,64 @@ module _ {D : Type 0} where
   second_of (InProgram journal) = second_disk journal
   second_of (OnDisks first second) = second
 
+module _ {D : Type 0} (state : D → State) where
+  -- of the disk between these two moments a crash left this one, and nothing is pending
+  pub record IsLeft (from until left : D) : Type 0 where
+    pub image : (state until).left_since (state from).moment (state left).seen
+    pub settled : IsSettled (state left)
+
+  -- a call that returned, or one that a crash ended at any moment
+  pub data Happens (Calls : Stage D → Stage D → Type 0) : Stage D → Stage D → Type 0 where
+    returned : {old new : Stage D} → Calls old new → Happens Calls old new
+    crashed : {old new : Stage D} {first second : D} → Calls old new → IsLeft (first_of old) (first_of new) first
+        → IsLeft (second_of old) (second_of new) second → Happens Calls old (OnDisks first second)
+
+  -- any number of calls and crashes, one after another
+  pub data Lives (Calls : Stage D → Stage D → Type 0) : Stage D → Stage D → Type 0 where
+    so_far : {stage : Stage D} → Lives Calls stage stage
+    more : {first next last : Stage D} → Happens Calls first next → Lives Calls next last → Lives Calls first last
+
+  -- whatever a crash leaves on these disks now is a journal
+  abbrev pub IsRecoverable : (List ℕ → List ℕ → Type 0) → D → D → Type 0
+  IsRecoverable IsJournal first second = (x y : List ℕ) → (state first).may_leave x → (state second).may_leave y → IsJournal x y
+
+  -- a journal that a program holds may be called, and whatever a crash leaves is a journal
+  abbrev pub IsIntact : (Journal D → Type 0) → (List ℕ → List ℕ → Type 0) → Stage D → Type 0
+  IsIntact MayCall IsJournal (InProgram journal) = MayCall journal × IsRecoverable IsJournal (first_disk journal) (second_disk journal)
+  IsIntact MayCall IsJournal (OnDisks first second) = IsRecoverable IsJournal first second
+
+-- ---- a journal of texts
+
+-- two images are a journal's: they mean its contents, and all their gates are there
+pub record IsJournal (first second : List ℕ) : Type 0 where
+  pub some : IsSome (meaning first second)
+  pub first_whole : IsWhole first
+  pub second_whole : IsWhole second
+
+module _ {D : Type 0} where
   -- the journal that was opened, or the disks that were handed back
   abbrev pub after_opening : Result (Opened D) (Returned D) → Stage D
   after_opening (Ok opened) = InProgram opened.journal
-  after_opening (Err returned) = OnDisks returned.disks.first returned.disks.second
+  after_opening (Err handed) = OnDisks handed.disks.first handed.disks.second
 
   -- the disks were not refused for holding no journal, and all gates were there
   abbrev pub FindsJournal : Result (Opened D) (Returned D) → Type 0
   FindsJournal (Ok opened) = opened.whole ≡ true
-  FindsJournal (Err returned) = returned.error ≢ Refused NotAJournal
+  FindsJournal (Err handed) = handed.error ≢ Refused NotAJournal
 
 module _ {D : Type 0} (state : D → State) where
-  -- whatever a crash leaves on these disks now is a journal
-  abbrev pub IsRecoverable : D → D → Type 0
-  IsRecoverable first second = (x y : List ℕ) → (state first).may_leave x → (state second).may_leave y → IsJournal x y
-
   -- The clauses of `append`, and those of `rebase`.
   pub record Appended (old : Journal D) (entry : List ℕ) (result : Result (Unit {0}) (Failure JournalFault)) (new : Journal D) : Type 0 where
     pub sound : IsSound state new
     pub row : Appends state old entry result new
     pub any_moment : old.spent ≡ false
-        → AnyMoment state old new (IsEither (contents_of state old) (option_map (added entry) (contents_of state old)))
+        → AnyMoment state old new (IsEither (HoldsOne state old) (contents_of state old) (option_map (added entry) (contents_of state old)))
 
   pub record Rebased (old : Journal D) (base : List ℕ) (result : Result (Unit {0}) (Failure JournalFault)) (new : Journal D) : Type 0 where
     pub sound : IsSound state new
     pub row : Rebases state old base result new
     pub any_moment : old.spent ≡ false
-        → AnyMoment state old new (IsEither (contents_of state old) (option_map (rebased base) (contents_of state old)))
+        → AnyMoment state old new (IsEither (HoldsOne state old) (contents_of state old) (option_map (rebased base) (contents_of state old)))
 
   -- a call that returned
   pub data Calls : Stage D → Stage D → Type 0 where
@@ -73,24 +99,3 @@ module _ {D : Type 0} (state : D → State) where
         → Calls (OnDisks first second) (OnDisks first' second')
     opening : {first second : D} (result : Result (Opened D) (Returned D)) → IsSettled (state first) → IsSettled (state second)
         → Opens state first second result → Calls (OnDisks first second) (after_opening result)
-
-  -- of the disk between these two moments a crash left this one, and nothing is pending
-  pub record IsLeft (from until left : D) : Type 0 where
-    pub image : (state until).left_since (state from).moment (state left).seen
-    pub settled : IsSettled (state left)
-
-  -- a call that returned, or one that a crash ended at any moment
-  pub data Happens : Stage D → Stage D → Type 0 where
-    returned : {old new : Stage D} → Calls old new → Happens old new
-    crashed : {old new : Stage D} {first second : D} → Calls old new → IsLeft (first_of old) (first_of new) first
-        → IsLeft (second_of old) (second_of new) second → Happens old (OnDisks first second)
-
-  -- any number of calls and crashes, one after another
-  pub data Lives : Stage D → Stage D → Type 0 where
-    so_far : {stage : Stage D} → Lives stage stage
-    more : {first next last : Stage D} → Happens first next → Lives next last → Lives first last
-
-  -- a journal that a program holds may be called, and whatever a crash leaves is a journal
-  abbrev pub IsIntact : Stage D → Type 0
-  IsIntact (InProgram journal) = IsSound state journal × IsRecoverable (first_disk journal) (second_disk journal)
-  IsIntact (OnDisks first second) = IsRecoverable first second

@@ -1,7 +1,7 @@
 // A journal on two disks.
 ghost use Rattle.std.specs.Prelude.{◌≡◌, ◌<◌, ◌^◌, ◌-◌, ◌↔◌, IsTrue, false, length, option_map};
 ghost use Rattle.bytejournal.specs.Meaning.{added, rebased};
-ghost use Rattle.bytejournal.specs.Journal.{IsSound, AnyMoment, IsEither, Appends, Rebases, contents_of};
+ghost use Rattle.bytejournal.specs.Journal.{IsSound, AnyMoment, IsEither, HoldsOne, Appends, Rebases, contents_of};
 
 use crate::fault::{JournalError, JournalFault};
 use crate::spelling::{base_text, entry_text};
@@ -40,7 +40,8 @@ impl<D: Disk> Journal<D> {
         ensures sound { IsSound D.state self.new }
         ensures row { Appends D.state self.old entry.now result self.new }
         ensures any_moment { self.old.spent ≡ false → AnyMoment D.state self.old self.new
-            (IsEither (contents_of D.state self.old) (option_map (added entry.now) (contents_of D.state self.old))) }
+            (IsEither (HoldsOne D.state self.old) (contents_of D.state self.old)
+            (option_map (added entry.now) (contents_of D.state self.old))) }
     {
         if self.spent {
             return Err(Failure::Refused(JournalFault::Spent));
@@ -71,7 +72,8 @@ impl<D: Disk> Journal<D> {
         ensures sound { IsSound D.state self.new }
         ensures row { Rebases D.state self.old base.now result self.new }
         ensures any_moment { self.old.spent ≡ false → AnyMoment D.state self.old self.new
-            (IsEither (contents_of D.state self.old) (option_map (rebased base.now) (contents_of D.state self.old))) }
+            (IsEither (HoldsOne D.state self.old) (contents_of D.state self.old)
+            (option_map (rebased base.now) (contents_of D.state self.old))) }
     {
         if self.spent {
             return Err(Failure::Refused(JournalFault::Spent));

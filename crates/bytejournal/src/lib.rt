@@ -31,5 +31,5 @@ mod writing;
 
 pub use crate::fault::{JournalError, JournalFault};
 pub use crate::journal::Journal;
-pub use crate::opening::{Disks, Opened, Returned};
+pub use crate::opening::{Disks, Older, Opened, Returned};
 pub use crate::recovery::laws_of_journals;

@@ -1,12 +1,13 @@
 // How a journal is made, opened and taken apart.
-ghost use Rattle.std.specs.Prelude.{◌≡◌, ◌≤◌, ◌<◌, ◌+◌, ◌^◌, ◌⊎◌, ◌↔◌, IsTrue, OnOk, OnErr, Bool, true, false, length};
+ghost use Rattle.std.specs.Prelude.{◌≡◌, ◌≤◌, ◌<◌, ◌+◌, ◌^◌, ◌⊎◌, ◌↔◌, IsTrue, OnOk, OnErr};
+ghost use Rattle.std.specs.Prelude.{Bool, true, false, length, option_map};
 ghost use Rattle.storage.specs.State.{IsSettled, Rose};
 ghost use Rattle.bytejournal.specs.Gates.{with_gate, with_first};
 ghost use Rattle.bytejournal.specs.Reading.{Reads};
 ghost use Rattle.bytetext.specs.declared.failure.Failure.TheVariants.{Refused};
 ghost use Rattle.bytejournal.specs.declared.fault.JournalFault.TheVariants.{NotAJournal as not_a_journal};
 ghost use Rattle.bytejournal.specs.Journal.{first_disk, second_disk};
-ghost use Rattle.bytejournal.specs.Opening.{Untouched, ReadsDisk, WritesNew, Creates, Chooses, Opens, Restarts, opened_as, returned_as};
+ghost use Rattle.bytejournal.specs.Opening.{Untouched, ReadsDisk, WritesNew, Creates, Chooses, Opens, Restarts, opened_as, older_of, returned_as};
 
 use crate::fault::{JournalError, JournalFault};
 use crate::gate::{write_after_gate, write_and_sync};
@@ -25,12 +26,22 @@ pub struct Disks<D: Disk> {
     pub second: D,
 }
 
+/// What the disk that doesn't count holds where its gate stands open too: a base and entries of an earlier generation.
+#[derive(Drop)]
+pub struct Older {
+    pub generation: u32,
+    pub base: Text,
+    pub entries: Texts,
+}
+
 /// A journal that was opened, and what it holds.
 #[derive(Drop)]
 pub struct Opened<D: Disk> {
     pub journal: Journal<D>,
     pub base: Text,
     pub entries: Texts,
+    /// What the other disk holds. It doesn't count; who gives the texts a meaning can tell whether it has one too.
+    pub older: Option<Older>,
     /// Whether all gates are there, as on disks that `create` made and only this journal wrote. Where one is missing
     /// the journal can be read; nothing can be appended safely, since a byte past a disk's end may come back as 1.
     pub whole: bool,
@@ -67,19 +78,19 @@ fn choose<D: Disk>(first: D, second: D, a: Reading, b: Reading) -> Result<Opened
     match (a, b) {
         (Reading::Open(a), Reading::Shut) => {
             let whole = are_inside(&first, a.gate, &second, 0);
-            Ok(open_found(first, second, false, false, whole, a))
+            Ok(open_found(first, second, false, whole, a, None))
         }
         (Reading::Shut, Reading::Open(b)) => {
             let whole = are_inside(&second, b.gate, &first, 0);
-            Ok(open_found(second, first, true, false, whole, b))
+            Ok(open_found(second, first, true, whole, b, None))
         }
         (Reading::Open(a), Reading::Open(b)) => {
             if b.generation < a.generation {
                 let whole = are_inside(&first, a.gate, &second, b.gate);
-                Ok(open_found(first, second, false, true, whole, a))
+                Ok(open_found(first, second, false, whole, a, Some(b)))
             } else if a.generation < b.generation {
                 let whole = are_inside(&second, b.gate, &first, a.gate);
-                Ok(open_found(second, first, true, true, whole, b))
+                Ok(open_found(second, first, true, whole, b, Some(a)))
             } else {
                 Err(no_journal(first, second))
             }
@@ -97,17 +108,18 @@ fn are_inside<D: Disk>(active: &D, active_gate: usize, idle: &D, idle_gate: usiz
     active_gate < active.len() && idle_gate < idle.len()
 }
 
-/// The journal that was found on the active disk.
+/// The journal that was found on the active disk, and what was found on the other one.
 fn open_found<D: Disk>(
     active: D,
     idle: D,
     swapped: bool,
-    idle_open: bool,
     whole: bool,
     found: Found,
+    older: Option<Found>,
 ) -> Opened<D>
-    ensures { result ≡ opened_as active idle swapped idle_open whole found }
+    ensures { result ≡ opened_as active idle swapped whole found older }
 {
+    let idle_open = older.is_some();
     Opened {
         journal: Journal {
             active,
@@ -120,7 +132,22 @@ fn open_found<D: Disk>(
         },
         base: found.base,
         entries: found.entries,
+        older: older_of(older),
         whole,
+    }
+}
+
+/// What was found on the disk that doesn't count.
+fn older_of(found: Option<Found>) -> Option<Older>
+    ensures { result ≡ option_map older_of found }
+{
+    match found {
+        Some(found) => Some(Older {
+            generation: found.generation,
+            base: found.base,
+            entries: found.entries,
+        }),
+        None => None,
     }
 }
 

@@ -4,9 +4,9 @@ ghost use Rattle.bytejournal.specs.declared.journal.Journal.{Journal};
 ghost use Rattle.bytejournal.specs.declared.opening.Opened.{Opened};
 ghost use Rattle.bytejournal.specs.declared.opening.Returned.{Returned};
 ghost use Rattle.bytejournal.specs.Opening.{Creates, Opens, Restarts};
-ghost use Rattle.bytejournal.specs.Recovery.{Stage, Lives, IsIntact, IsRecoverable, FindsJournal};
+ghost use Rattle.bytejournal.specs.Recovery.{Stage, Calls, Lives, IsJournal, IsIntact, IsRecoverable, FindsJournal};
 ghost use Rattle.bytejournal.specs.Recovery.Stage.{InProgram};
-ghost use Rattle.bytejournal.specs.Journal.{first_disk, second_disk};
+ghost use Rattle.bytejournal.specs.Journal.{IsSound, first_disk, second_disk};
 
 use storage::Disk;
 
@@ -15,10 +15,11 @@ pub fn laws_of_journals<D: Disk>()
     // From a `create` that was `Ok`, through any calls and through crashes at any moment of them: a journal that a
     // program holds may be called, and what a crash leaves on the disks is a journal.
     ensures kept { (first second : D) (base : List ℕ) (journal : Journal D) (last : Stage D)
-        → Creates D.state first second base (Ok journal) → Lives D.state (InProgram journal) last → IsIntact D.state last }
+        → Creates D.state first second base (Ok journal)
+        → Lives D.state (Calls D.state) (InProgram journal) last → IsIntact D.state (IsSound D.state) IsJournal last }
     // So opening it never ends with `NotAJournal`, and finds all gates.
     ensures opened { (first second : D) (result : Result (Opened D) (Returned D))
-        → IsRecoverable D.state first second → Opens D.state first second result → FindsJournal result }
+        → IsRecoverable D.state IsJournal first second → Opens D.state first second result → FindsJournal result }
     ensures restarted { (journal : Journal D) (result : Result (Opened D) (Returned D))
-        → IsRecoverable D.state (first_disk journal) (second_disk journal) → Restarts D.state journal result → FindsJournal result }
+        → IsRecoverable D.state IsJournal (first_disk journal) (second_disk journal) → Restarts D.state journal result → FindsJournal result }
 {}

@@ -1,14 +1,12 @@
-use Rattle.std.proofs.Common.{◌≡◌, ◌<◌, ◌^◌, List, ℕ, length, sym, ◌∙◌, ap, subst}
+use Rattle.std.proofs.Common.{◌≡◌, ◌<◌, ◌^◌, List, ℕ, length, refl, sym, ◌∙◌, subst}
 use Rattle.std.specs.Prelude.{option_map}
 use Rattle.bytejournal.specs.Meaning.{added as added_text}
-use Rattle.bytejournal.specs.Journal.{contents_of as texts_of}
+use Rattle.bytejournal.specs.Journal.{HoldsOne, contents_of as texts_of}
 use Rattle.bytejournal.proofs.Pairs.{either_comm, pair}
 use Rattle.bytejournal.proofs.Appending.{nothing_happens}
 use Rattle.botjournal.specs.Entries.{entry_bytes}
-use Rattle.botjournal.specs.Contents.{added, typed}
-use Rattle.botjournal.specs.Journal.{contents_of}
 use Rattle.botjournal.proofs.LengthLaws.{entry_is_short}
-use Rattle.botjournal.proofs.JournalLaws.{typed_added, typed_moments, append_row, append_sound}
+use Rattle.botjournal.proofs.JournalLaws.{append_moments, append_row, append_sound}
 use Rattle.botjournal.proofs.journal.Journal.append.Goals as goal
 
 pub returns-in_err-text-clause-any_moment : goal.returns-in_err-text-clause-any_moment
@@ -17,9 +15,10 @@ returns-in_err-text-clause-any_moment g c going =
     let state = g.D.Disk.state in
     let entry = c.args.entry.now in
     let after = option_map (added_text (entry_bytes entry)) (texts_of state j) in
-    typed_moments state j j (texts_of state j) after (option_map (added entry) (contents_of state j)) (typed_added entry c.requires.good (texts_of state j))
-    (pair state j.swapped _ _ _ _ _ (either_comm (texts_of state j) after)
-    (nothing_happens state j (c.requires.sound going).texts (g.met.D.Disk.only_now j.active) (g.met.D.Disk.only_now j.idle) after))
+    let rest = c.requires.sound going in
+    append_moments state g.met.D.Disk.seen_is_left g.met.D.Disk.counts_now j entry (entry_bytes entry) c.requires.good refl rest.some j
+    (pair state j.swapped _ _ _ _ _ (either_comm (HoldsOne state j) (texts_of state j) after)
+    (nothing_happens state j rest.texts (g.met.D.Disk.only_now j.active) (g.met.D.Disk.only_now j.idle) after))
 
 pub append_text-requires-clause-small : goal.append_text-requires-clause-small
 append_text-requires-clause-small g c =
@@ -27,25 +26,17 @@ append_text-requires-clause-small g c =
 
 pub returns-clause-sound : goal.returns-clause-sound
 returns-clause-sound g c =
-    let j = c.args.self.now in
-    let new = c.append_text.new.self in
-    append_sound g.D.Disk.state j new c.args.entry.now c.requires.sound c.append_text.ensures.sound c.append_text.result
-    (append_row g.D.Disk.state j new c.args.entry.now c.deref.result.now c.requires.good (c.deref.ensures.value ∙ c.in_ok-text.ensures) c.append_text.result
-    c.append_text.ensures.row)
+    append_sound g.D.Disk.state g.met.D.Disk.seen_is_left g.met.D.Disk.counts_now c.args.self.now c.append_text.new.self c.args.entry.now c.deref.result.now
+    c.requires.good (c.deref.ensures.value ∙ c.in_ok-text.ensures) c.requires.sound c.append_text.ensures.any_moment c.append_text.ensures.sound
+    c.append_text.result c.append_text.ensures.row
 
 pub returns-clause-row : goal.returns-clause-row
 returns-clause-row g c =
-    append_row g.D.Disk.state c.args.self.now c.append_text.new.self c.args.entry.now c.deref.result.now c.requires.good
-    (c.deref.ensures.value ∙ c.in_ok-text.ensures) c.append_text.result c.append_text.ensures.row
+    append_row g.D.Disk.state g.met.D.Disk.seen_is_left g.met.D.Disk.counts_now c.args.self.now c.append_text.new.self c.args.entry.now c.deref.result.now
+    c.requires.good (c.deref.ensures.value ∙ c.in_ok-text.ensures) c.requires.sound c.append_text.ensures.any_moment c.append_text.result
+    c.append_text.ensures.row
 
 pub returns-clause-any_moment : goal.returns-clause-any_moment
 returns-clause-any_moment g c going =
-    let j = c.args.self.now in
-    let state = g.D.Disk.state in
-    let entry = c.args.entry.now in
-    let text = c.deref.result.now in
-    let is : text ≡ entry_bytes entry = c.deref.ensures.value ∙ c.in_ok-text.ensures in
-    typed_moments state j c.append_text.new.self (texts_of state j) (option_map (added_text text) (texts_of state j))
-    (option_map (added entry) (contents_of state j))
-    (ap (λ t. typed (option_map (added_text t) (texts_of state j))) is ∙ typed_added entry c.requires.good (texts_of state j))
-    (c.append_text.ensures.any_moment going)
+    append_moments g.D.Disk.state g.met.D.Disk.seen_is_left g.met.D.Disk.counts_now c.args.self.now c.args.entry.now c.deref.result.now c.requires.good
+    (c.deref.ensures.value ∙ c.in_ok-text.ensures) (c.requires.sound going).some c.append_text.new.self (c.append_text.ensures.any_moment going)

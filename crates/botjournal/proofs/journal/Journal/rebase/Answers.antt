@@ -1,14 +1,12 @@
-use Rattle.std.proofs.Common.{◌≡◌, ◌<◌, ◌^◌, List, ℕ, length, sym, ◌∙◌, ap, subst}
+use Rattle.std.proofs.Common.{◌≡◌, ◌<◌, ◌^◌, List, ℕ, length, refl, sym, ◌∙◌, subst}
 use Rattle.std.specs.Prelude.{option_map}
 use Rattle.bytejournal.specs.Meaning.{rebased as rebased_text}
-use Rattle.bytejournal.specs.Journal.{contents_of as texts_of}
+use Rattle.bytejournal.specs.Journal.{HoldsOne, contents_of as texts_of}
 use Rattle.bytejournal.proofs.Pairs.{either_comm, pair}
 use Rattle.bytejournal.proofs.Appending.{nothing_happens}
 use Rattle.botjournal.specs.Bases.{base_bytes}
-use Rattle.botjournal.specs.Contents.{rebased, typed}
-use Rattle.botjournal.specs.Journal.{contents_of}
 use Rattle.botjournal.proofs.LengthLaws.{base_is_short, shapes_are}
-use Rattle.botjournal.proofs.JournalLaws.{typed_rebased, typed_moments, rebase_row, rebase_sound}
+use Rattle.botjournal.proofs.JournalLaws.{rebase_moments, rebase_row, rebase_sound}
 use Rattle.botjournal.proofs.journal.Journal.rebase.Goals as goal
 
 pub returns-then-generations_spent-clause-any_moment : goal.returns-then-generations_spent-clause-any_moment
@@ -17,10 +15,10 @@ returns-then-generations_spent-clause-any_moment g c going =
     let state = g.D.Disk.state in
     let base = c.args.base.now in
     let after = option_map (rebased_text (base_bytes base)) (texts_of state j) in
-    typed_moments state j j (texts_of state j) after (option_map (rebased base) (contents_of state j))
-    (typed_rebased base c.requires.good (texts_of state j) (c.requires.sound going).some)
-    (pair state j.swapped _ _ _ _ _ (either_comm (texts_of state j) after)
-    (nothing_happens state j (c.requires.sound going).texts (g.met.D.Disk.only_now j.active) (g.met.D.Disk.only_now j.idle) after))
+    let rest = c.requires.sound going in
+    rebase_moments state g.met.D.Disk.seen_is_left g.met.D.Disk.counts_now j base (base_bytes base) c.requires.good refl rest.some j
+    (pair state j.swapped _ _ _ _ _ (either_comm (HoldsOne state j) (texts_of state j) after)
+    (nothing_happens state j rest.texts (g.met.D.Disk.only_now j.active) (g.met.D.Disk.only_now j.idle) after))
 
 pub write_base-requires : goal.write_base-requires
 write_base-requires g c = shapes_are c.args.base.now c.requires.good
@@ -31,10 +29,10 @@ returns-in_err-text-clause-any_moment g c going =
     let state = g.D.Disk.state in
     let base = c.args.base.now in
     let after = option_map (rebased_text (base_bytes base)) (texts_of state j) in
-    typed_moments state j j (texts_of state j) after (option_map (rebased base) (contents_of state j))
-    (typed_rebased base c.requires.good (texts_of state j) (c.requires.sound going).some)
-    (pair state j.swapped _ _ _ _ _ (either_comm (texts_of state j) after)
-    (nothing_happens state j (c.requires.sound going).texts (g.met.D.Disk.only_now j.active) (g.met.D.Disk.only_now j.idle) after))
+    let rest = c.requires.sound going in
+    rebase_moments state g.met.D.Disk.seen_is_left g.met.D.Disk.counts_now j base (base_bytes base) c.requires.good refl rest.some j
+    (pair state j.swapped _ _ _ _ _ (either_comm (HoldsOne state j) (texts_of state j) after)
+    (nothing_happens state j rest.texts (g.met.D.Disk.only_now j.active) (g.met.D.Disk.only_now j.idle) after))
 
 pub rebase_text-requires-clause-small : goal.rebase_text-requires-clause-small
 rebase_text-requires-clause-small g c =
@@ -42,25 +40,17 @@ rebase_text-requires-clause-small g c =
 
 pub returns-clause-sound : goal.returns-clause-sound
 returns-clause-sound g c =
-    let j = c.args.self.now in
-    let new = c.rebase_text.new.self in
-    rebase_sound g.D.Disk.state j new c.args.base.now c.requires.sound c.rebase_text.ensures.sound c.rebase_text.result
-    (rebase_row g.D.Disk.state j new c.args.base.now c.deref.result.now c.requires.good c.requires.sound (c.deref.ensures.value ∙ c.in_ok-text.ensures)
-    c.rebase_text.result c.rebase_text.ensures.row)
+    rebase_sound g.D.Disk.state g.met.D.Disk.seen_is_left g.met.D.Disk.counts_now c.args.self.now c.rebase_text.new.self c.args.base.now c.deref.result.now
+    c.requires.good (c.deref.ensures.value ∙ c.in_ok-text.ensures) c.requires.sound c.rebase_text.ensures.any_moment c.rebase_text.ensures.sound
+    c.rebase_text.result c.rebase_text.ensures.row
 
 pub returns-clause-row : goal.returns-clause-row
 returns-clause-row g c =
-    rebase_row g.D.Disk.state c.args.self.now c.rebase_text.new.self c.args.base.now c.deref.result.now c.requires.good c.requires.sound
-    (c.deref.ensures.value ∙ c.in_ok-text.ensures) c.rebase_text.result c.rebase_text.ensures.row
+    rebase_row g.D.Disk.state g.met.D.Disk.seen_is_left g.met.D.Disk.counts_now c.args.self.now c.rebase_text.new.self c.args.base.now c.deref.result.now
+    c.requires.good (c.deref.ensures.value ∙ c.in_ok-text.ensures) c.requires.sound c.rebase_text.ensures.any_moment c.rebase_text.result
+    c.rebase_text.ensures.row
 
 pub returns-clause-any_moment : goal.returns-clause-any_moment
 returns-clause-any_moment g c going =
-    let j = c.args.self.now in
-    let state = g.D.Disk.state in
-    let base = c.args.base.now in
-    let text = c.deref.result.now in
-    let is : text ≡ base_bytes base = c.deref.ensures.value ∙ c.in_ok-text.ensures in
-    typed_moments state j c.rebase_text.new.self (texts_of state j) (option_map (rebased_text text) (texts_of state j))
-    (option_map (rebased base) (contents_of state j))
-    (ap (λ t. typed (option_map (rebased_text t) (texts_of state j))) is ∙ typed_rebased base c.requires.good (texts_of state j) (c.requires.sound going).some)
-    (c.rebase_text.ensures.any_moment going)
+    rebase_moments g.D.Disk.state g.met.D.Disk.seen_is_left g.met.D.Disk.counts_now c.args.self.now c.args.base.now c.deref.result.now c.requires.good
+    (c.deref.ensures.value ∙ c.in_ok-text.ensures) (c.requires.sound going).some c.rebase_text.new.self (c.rebase_text.ensures.any_moment going)

@@ -3,7 +3,7 @@ use Rattle.std.specs.Prelude.{option_map}
 use Rattle.storage.specs.State.{LeavesOnly}
 use Rattle.bytejournal.specs.Gates.{with_gate, IsHalfWritten}
 use Rattle.bytejournal.specs.Meaning.{added}
-use Rattle.bytejournal.specs.Journal.{contents_of}
+use Rattle.bytejournal.specs.Journal.{HoldsOne, contents_of}
 use Rattle.bytejournal.proofs.Pairs.{either_comm, pair}
 use Rattle.bytejournal.proofs.Appending.{nothing_happens, append_moments, appended_counts, rests_after}
 use Rattle.bytejournal.proofs.journal.Journal.append.Goals as goal
@@ -12,14 +12,14 @@ pub returns-in_err-text-clause-any_moment : goal.returns-in_err-text-clause-any_
 returns-in_err-text-clause-any_moment g c going =
     let j = c.args.self.now in
     let after = option_map (added c.args.entry.now) (contents_of g.D.Disk.state j) in
-    pair g.D.Disk.state j.swapped _ _ _ _ _ (either_comm (contents_of g.D.Disk.state j) after)
+    pair g.D.Disk.state j.swapped _ _ _ _ _ (either_comm (HoldsOne g.D.Disk.state j) (contents_of g.D.Disk.state j) after)
     (nothing_happens g.D.Disk.state j (c.requires.sound going) (g.met.D.Disk.only_now j.active) (g.met.D.Disk.only_now j.idle) after)
 
 pub returns-in-Ok-clause-any_moment : goal.returns-in-Ok-clause-any_moment
 returns-in-Ok-clause-any_moment g c going =
     let j = c.args.self.now in
     let after = option_map (added c.args.entry.now) (contents_of g.D.Disk.state j) in
-    pair g.D.Disk.state j.swapped _ _ _ _ _ (either_comm (contents_of g.D.Disk.state j) after)
+    pair g.D.Disk.state j.swapped _ _ _ _ _ (either_comm (HoldsOne g.D.Disk.state j) (contents_of g.D.Disk.state j) after)
     (append_moments g.D.Disk.state j (c.requires.sound going) c.args.entry.now c.requires.small c.put_after_gate.new.disk (g.met.D.Disk.only_now j.idle)
     (subst (λ (t : List ℕ). LeavesOnly (g.D.Disk.state j.active) (g.D.Disk.state c.put_after_gate.new.disk)
     (IsHalfWritten (g.D.Disk.state j.active).seen j.gate t)) (c.deref.ensures.value ∙ c.in_ok-text.ensures) c.put_after_gate.ensures.any_moment))
@@ -28,7 +28,7 @@ pub returns-in-Err-NoMemory-clause-any_moment : goal.returns-in-Err-NoMemory-cla
 returns-in-Err-NoMemory-clause-any_moment g c going =
     let j = c.args.self.now in
     let after = option_map (added c.args.entry.now) (contents_of g.D.Disk.state j) in
-    pair g.D.Disk.state j.swapped _ _ _ _ _ (either_comm (contents_of g.D.Disk.state j) after)
+    pair g.D.Disk.state j.swapped _ _ _ _ _ (either_comm (HoldsOne g.D.Disk.state j) (contents_of g.D.Disk.state j) after)
     (append_moments g.D.Disk.state j (c.requires.sound going) c.args.entry.now c.requires.small c.put_after_gate.new.disk (g.met.D.Disk.only_now j.idle)
     (subst (λ (t : List ℕ). LeavesOnly (g.D.Disk.state j.active) (g.D.Disk.state c.put_after_gate.new.disk)
     (IsHalfWritten (g.D.Disk.state j.active).seen j.gate t)) (c.deref.ensures.value ∙ c.in_ok-text.ensures) c.put_after_gate.ensures.any_moment))
@@ -37,7 +37,7 @@ pub returns-clause-any_moment : goal.returns-clause-any_moment
 returns-clause-any_moment g c going =
     let j = c.args.self.now in
     let after = option_map (added c.args.entry.now) (contents_of g.D.Disk.state j) in
-    pair g.D.Disk.state j.swapped _ _ _ _ _ (either_comm (contents_of g.D.Disk.state j) after)
+    pair g.D.Disk.state j.swapped _ _ _ _ _ (either_comm (HoldsOne g.D.Disk.state j) (contents_of g.D.Disk.state j) after)
     (append_moments g.D.Disk.state j (c.requires.sound going) c.args.entry.now c.requires.small c.put_after_gate.new.disk (g.met.D.Disk.only_now j.idle)
     (subst (λ (t : List ℕ). LeavesOnly (g.D.Disk.state j.active) (g.D.Disk.state c.put_after_gate.new.disk)
     (IsHalfWritten (g.D.Disk.state j.active).seen j.gate t)) (c.deref.ensures.value ∙ c.in_ok-text.ensures) c.put_after_gate.ensures.any_moment))

@@ -3,7 +3,7 @@ use Rattle.std.specs.Prelude.{option_map}
 use Rattle.storage.specs.State.{LeavesOnly}
 use Rattle.bytejournal.specs.Gates.{with_gate, closed_first, IsHalfReplaced}
 use Rattle.bytejournal.specs.Meaning.{rebased, meaning}
-use Rattle.bytejournal.specs.Journal.{IsEither, EachMoment, contents_of, IsAtRest}
+use Rattle.bytejournal.specs.Journal.{IsEither, HoldsOne, EachMoment, contents_of, IsAtRest}
 use Rattle.bytejournal.proofs.Pairs.{either_comm, pair, pair_swapped}
 use Rattle.bytejournal.proofs.Appending.{nothing_happens}
 use Rattle.bytejournal.proofs.Rebasing.{rebase_moments, rebased_counts, rests_rebased}
@@ -13,14 +13,14 @@ pub returns-then-generations_spent-clause-any_moment : goal.returns-then-generat
 returns-then-generations_spent-clause-any_moment g c going =
     let j = c.args.self.now in
     let after = option_map (rebased c.args.base.now) (contents_of g.D.Disk.state j) in
-    pair g.D.Disk.state j.swapped _ _ _ _ _ (either_comm (contents_of g.D.Disk.state j) after)
+    pair g.D.Disk.state j.swapped _ _ _ _ _ (either_comm (HoldsOne g.D.Disk.state j) (contents_of g.D.Disk.state j) after)
     (nothing_happens g.D.Disk.state j (c.requires.sound going) (g.met.D.Disk.only_now j.active) (g.met.D.Disk.only_now j.idle) after)
 
 pub returns-in_err-text-clause-any_moment : goal.returns-in_err-text-clause-any_moment
 returns-in_err-text-clause-any_moment g c going =
     let j = c.args.self.now in
     let after = option_map (rebased c.args.base.now) (contents_of g.D.Disk.state j) in
-    pair g.D.Disk.state j.swapped _ _ _ _ _ (either_comm (contents_of g.D.Disk.state j) after)
+    pair g.D.Disk.state j.swapped _ _ _ _ _ (either_comm (HoldsOne g.D.Disk.state j) (contents_of g.D.Disk.state j) after)
     (nothing_happens g.D.Disk.state j (c.requires.sound going) (g.met.D.Disk.only_now j.active) (g.met.D.Disk.only_now j.idle) after)
 
 pub returns-in-Err-NoMemory-clause-any_moment : goal.returns-in-Err-NoMemory-clause-any_moment
@@ -29,7 +29,7 @@ returns-in-Err-NoMemory-clause-any_moment g c going =
     let state = g.D.Disk.state in
     let left : j.generation + 1 < 2 ^ 32 = search rules in
     let after = option_map (rebased c.args.base.now) (contents_of state j) in
-    pair g.D.Disk.state j.swapped _ _ _ _ _ (either_comm (contents_of g.D.Disk.state j) after)
+    pair g.D.Disk.state j.swapped _ _ _ _ _ (either_comm (HoldsOne g.D.Disk.state j) (contents_of g.D.Disk.state j) after)
     (rebase_moments g.D.Disk.state j (c.requires.sound going) c.args.base.now c.requires.small left c.replace.new.disk (g.met.D.Disk.only_now j.active)
     (subst (λ (t : List ℕ). LeavesOnly (g.D.Disk.state j.idle) (g.D.Disk.state c.replace.new.disk)
     (IsHalfReplaced j.idle_open (g.D.Disk.state j.idle).seen t)) (c.deref.ensures.value ∙ c.in_ok-text.ensures) c.replace.ensures.any_moment))
@@ -40,7 +40,7 @@ returns-clause-any_moment g c going =
     let state = g.D.Disk.state in
     let left : j.generation + 1 < 2 ^ 32 = search rules in
     let after = option_map (rebased c.args.base.now) (contents_of state j) in
-    pair g.D.Disk.state j.swapped _ _ _ _ _ (either_comm (contents_of g.D.Disk.state j) after)
+    pair g.D.Disk.state j.swapped _ _ _ _ _ (either_comm (HoldsOne g.D.Disk.state j) (contents_of g.D.Disk.state j) after)
     (rebase_moments g.D.Disk.state j (c.requires.sound going) c.args.base.now c.requires.small left c.replace.new.disk (g.met.D.Disk.only_now j.active)
     (subst (λ (t : List ℕ). LeavesOnly (g.D.Disk.state j.idle) (g.D.Disk.state c.replace.new.disk)
     (IsHalfReplaced j.idle_open (g.D.Disk.state j.idle).seen t)) (c.deref.ensures.value ∙ c.in_ok-text.ensures) c.replace.ensures.any_moment))
@@ -55,10 +55,10 @@ returns-in-Ok-clause-any_moment g c going =
     (g.met.D.Disk.only_now j.active)
     (subst (λ (t : List ℕ). LeavesOnly (g.D.Disk.state j.idle) (g.D.Disk.state c.replace.new.disk)
     (IsHalfReplaced j.idle_open (g.D.Disk.state j.idle).seen t)) (c.deref.ensures.value ∙ c.in_ok-text.ensures) c.replace.ensures.any_moment) in
-    pair_swapped g.D.Disk.state j.swapped j.active j.idle c.swap.new.y c.swap.new.x (IsEither (contents_of g.D.Disk.state j) after)
-    (either_comm (contents_of g.D.Disk.state j) after)
-    (subst (λ y. EachMoment g.D.Disk.state j.active j.idle y c.swap.new.x (IsEither (contents_of g.D.Disk.state j) after)) (sym c.swap.ensures.y_after)
-    (subst (λ x. EachMoment g.D.Disk.state j.active j.idle j.active x (IsEither (contents_of g.D.Disk.state j) after)) (sym c.swap.ensures.x_after) moments))
+    pair_swapped g.D.Disk.state j.swapped j.active j.idle c.swap.new.y c.swap.new.x (IsEither (HoldsOne g.D.Disk.state j) (contents_of g.D.Disk.state j) after)
+    (either_comm (HoldsOne g.D.Disk.state j) (contents_of g.D.Disk.state j) after)
+    (subst (λ y. EachMoment g.D.Disk.state j.active j.idle y c.swap.new.x (IsEither (HoldsOne g.D.Disk.state j) (contents_of g.D.Disk.state j) after)) (sym c.swap.ensures.y_after)
+    (subst (λ x. EachMoment g.D.Disk.state j.active j.idle j.active x (IsEither (HoldsOne g.D.Disk.state j) (contents_of g.D.Disk.state j) after)) (sym c.swap.ensures.x_after) moments))
 
 pub returns-in-Ok-clause-row : goal.returns-in-Ok-clause-row
 returns-in-Ok-clause-row g c =

@@ -1,0 +1,56 @@
+// Where a journal is.
+ghost use Rattle.std.specs.Prelude.{IfOk};
+ghost use Rattle.storage.specs.State.{IsSettled};
+ghost use Rattle.disks.specs.Memory.{state_of};
+ghost use Rattle.botjournal.specs.Journal.{IsSound};
+ghost use Rattle.journalcases.specs.Place.{IsReady};
+
+use crate::stop::{CaseError, CaseFault};
+use botjournal::Journal;
+use bytejournal::Disks;
+use bytetext::Failure;
+use disks::MemDisk;
+use storage::Disk;
+
+/// Where the journal of a case is.
+#[derive(Drop)]
+pub enum Place {
+    /// On two disks that no journal uses.
+    OnDisks(Disks<MemDisk>),
+    /// In use.
+    InUse(Journal<MemDisk>),
+}
+
+/// The disks, as they are or, where a journal has them, as a crash leaves them.
+pub fn disks_of(place: Place) -> Disks<MemDisk>
+    requires { IsReady place }
+    ensures first { IsSettled (state_of result.first) }
+    ensures second { IsSettled (state_of result.second) }
+{
+    match place {
+        Place::OnDisks(disks) => disks,
+        Place::InUse(journal) => crashed(journal.into_disks()),
+    }
+}
+
+/// What a crash leaves of the disks.
+pub fn crashed(disks: Disks<MemDisk>) -> Disks<MemDisk>
+    ensures first { IsSettled (state_of result.first) }
+    ensures second { IsSettled (state_of result.second) }
+{
+    let mut disks = disks;
+    disks.first.reopen();
+    disks.second.reopen();
+    disks
+}
+
+/// The journal that is open.
+pub fn journal_of(place: Place) -> Result<Journal<MemDisk>, CaseError>
+    requires { IsReady place }
+    ensures { IfOk result (λ journal. IsSound state_of journal) }
+{
+    match place {
+        Place::InUse(journal) => Ok(journal),
+        Place::OnDisks(_) => Err(Failure::Refused(CaseFault::NoJournal)),
+    }
+}

@@ -1,0 +1,170 @@
+// Steps of a journal.
+ghost use Rattle.std.specs.Prelude.{◌≡◌, IfOk, true};
+ghost use Rattle.std.specs.List.{AllByRecursion};
+ghost use Rattle.storage.specs.State.{IsSettled};
+ghost use Rattle.disks.specs.Memory.{state_of};
+ghost use Rattle.bytejournal.specs.Journal.{first_disk, second_disk};
+ghost use Rattle.botjournal.specs.Bases.{IsGoodBase};
+ghost use Rattle.botjournal.specs.Entries.{IsGoodEntry};
+ghost use Rattle.botjournal.specs.Journal.{IsSound, IsGoodOpened};
+ghost use Rattle.journalcases.specs.Place.{IsReady};
+
+use crate::devices::put_hex;
+use crate::place::{Place, crashed};
+use crate::stop::CaseError;
+use crate::words::{base_of, entry_of};
+use botjournal::{Base, Entry, Journal, Opened, write_base, write_entry};
+use bytejournal::{Disks, JournalError, Returned};
+use bytetext::NoMemory;
+use disks::MemDisk;
+use std::alloc::Global;
+
+/// `create BASE`
+pub fn create(
+    alloc: Global,
+    disks: Disks<MemDisk>,
+    base: &[u8],
+    out: &mut Vec<u8>,
+) -> Result<Place, CaseError>
+    requires first { IsSettled (state_of disks.first) }
+    requires second { IsSettled (state_of disks.second) }
+    ensures { IfOk result IsReady }
+{
+    let base = base_of(alloc, base)?;
+    match Journal::create(alloc, disks.first, disks.second, &base) {
+        Ok(journal) => {
+            tell(Ok(()), out)?;
+            Ok(Place::InUse(journal))
+        }
+        Err(returned) => handed_back(returned, out),
+    }
+}
+
+/// `open`
+pub fn open(alloc: Global, disks: Disks<MemDisk>, out: &mut Vec<u8>) -> Result<Place, CaseError>
+    requires first { IsSettled (state_of disks.first) }
+    requires second { IsSettled (state_of disks.second) }
+    ensures { IfOk result IsReady }
+{
+    match Journal::open(alloc, disks.first, disks.second) {
+        Ok(opened) => found(alloc, opened, out),
+        Err(returned) => handed_back(returned, out),
+    }
+}
+
+/// `restart`
+pub fn restart(
+    alloc: Global,
+    journal: Journal<MemDisk>,
+    out: &mut Vec<u8>,
+) -> Result<Place, CaseError>
+    ensures { IfOk result IsReady }
+{
+    match journal.restart(alloc) {
+        Ok(opened) => found(alloc, opened, out),
+        Err(returned) => handed_back(returned, out),
+    }
+}
+
+/// `append ENTRY`
+pub fn append(
+    alloc: Global,
+    journal: Journal<MemDisk>,
+    entry: &[u8],
+    out: &mut Vec<u8>,
+) -> Result<Place, CaseError>
+    requires { IsSound state_of journal }
+    ensures { IfOk result IsReady }
+{
+    let mut journal = journal;
+    let entry = entry_of(alloc, entry)?;
+    let answer = journal.append(alloc, &entry);
+    tell(answer, out)?;
+    Ok(Place::InUse(journal))
+}
+
+/// `rebase BASE`
+pub fn rebase(
+    alloc: Global,
+    journal: Journal<MemDisk>,
+    base: &[u8],
+    out: &mut Vec<u8>,
+) -> Result<Place, CaseError>
+    requires { IsSound state_of journal }
+    ensures { IfOk result IsReady }
+{
+    let mut journal = journal;
+    let base = base_of(alloc, base)?;
+    let answer = journal.rebase(alloc, &base);
+    tell(answer, out)?;
+    Ok(Place::InUse(journal))
+}
+
+/// `spent`
+pub fn spent(journal: Journal<MemDisk>, out: &mut Vec<u8>) -> Result<Place, CaseError>
+    requires { IsSound state_of journal }
+    ensures { IfOk result IsReady }
+{
+    let answer: &[u8] = if journal.generations_spent() {
+        b"spent\n"
+    } else {
+        b"left\n"
+    };
+    out.extend_from_slice(answer)?;
+    Ok(Place::InUse(journal))
+}
+
+// How a call ended.
+fn tell(answer: Result<(), JournalError>, out: &mut Vec<u8>) -> Result<(), CaseError> {
+    match answer {
+        Ok(()) => out.extend_from_slice(b"ok\n")?,
+        Err(JournalError::Refused(fault)) => {
+            out.extend_from_slice(fault.code().as_bytes())?;
+            out.push(b'\n')?;
+        }
+        Err(JournalError::NoMemory) => return Err(CaseError::NoMemory),
+    }
+    Ok(())
+}
+
+// Tells why there is no journal, and crashes the disks: after a fault something may be pending.
+fn handed_back(returned: Returned<MemDisk>, out: &mut Vec<u8>) -> Result<Place, CaseError>
+    ensures { IfOk result IsReady }
+{
+    tell(Err(returned.error), out)?;
+    Ok(Place::OnDisks(crashed(returned.disks)))
+}
+
+// Tells what an opened journal holds.
+fn found(alloc: Global, opened: Opened<MemDisk>, out: &mut Vec<u8>) -> Result<Place, CaseError>
+    requires good { IsGoodOpened opened }
+    requires sound { opened.whole ≡ true → IsSound state_of opened.journal }
+    ensures { IfOk result IsReady }
+{
+    put_base(alloc, &opened.base, out)?;
+    put_entries(alloc, opened.entries.as_slice(), out)?;
+    if opened.whole {
+        out.push(b'\n')?;
+        return Ok(Place::InUse(opened.journal));
+    }
+    out.extend_from_slice(b" a gate is missing\n")?;
+    Ok(Place::OnDisks(crashed(opened.journal.into_disks())))
+}
+
+fn put_base(alloc: Global, base: &Base, out: &mut Vec<u8>) -> Result<(), NoMemory>
+    requires { IsGoodBase base.now }
+{
+    let bytes = write_base(alloc, base)?;
+    put_hex(alloc, &bytes, out)
+}
+
+fn put_entries(alloc: Global, entries: &[Entry], out: &mut Vec<u8>) -> Result<(), NoMemory>
+    requires { AllByRecursion IsGoodEntry entries.now }
+{
+    for entry in entries {
+        out.push(b' ')?;
+        let bytes = write_entry(alloc, entry)?;
+        put_hex(alloc, &bytes, out)?;
+    }
+    Ok(())
+}
