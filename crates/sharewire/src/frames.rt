@@ -1,5 +1,5 @@
 // The packets of bytes that begin with a frame.
-ghost use Rattle.std.specs.Prelude.{IfOk};
+ghost use Rattle.std.specs.Prelude.{◌≤◌, IfOk, length};
 ghost use Rattle.sharewire.specs.Steps.{IsNext, IsRead};
 
 use crate::body::read_body;
@@ -27,7 +27,7 @@ pub(crate) struct Frames<'a> {
 pub(crate) fn read_frames(alloc: Global, bytes: &[u8]) -> Result<Frames<'_>, NoMemory>
     ensures { IfOk result (λ frames. IsRead bytes.now frames) }
 {
-    let mut packets = Vec::new(alloc);
+    let mut packets = Vec::with_capacity(alloc, whole_frames(bytes))?;
     let mut rest = bytes;
     loop {
         match read_frame(alloc, rest)? {
@@ -47,6 +47,19 @@ pub(crate) fn read_frames(alloc: Global, bytes: &[u8]) -> Result<Frames<'_>, NoM
             }
         }
     }
+}
+
+// How many whole frames stand at the front, as far as their lengths and kinds tell.
+fn whole_frames(bytes: &[u8]) -> usize
+    ensures { result ≤ length bytes.now }
+{
+    let mut count = 0;
+    let mut rest = bytes;
+    while let Ok(Some(inside)) = front(rest) {
+        count += 1;
+        rest = inside.rest;
+    }
+    count
 }
 
 fn read_frame(alloc: Global, bytes: &[u8]) -> Result<Next<'_>, NoMemory>

@@ -1,8 +1,8 @@
 // Which texts one bot may tell another.
 ghost use Rattle.std.specs.Prelude.{◌≡◌};
-ghost use Rattle.std.specs.List.{list_all};
-ghost use Rattle.userfile.specs.Shapes.{is_line_byte};
 ghost use Rattle.sharewire.specs.Texts.{is_bot_text};
+
+use userfile::is_one_line;
 
 /// The most bytes of a text that one bot tells another (our own choice: it fits a line of IRC).
 pub const MAX_BOT_TEXT: usize = 400;
@@ -12,12 +12,5 @@ pub const MAX_BOT_TEXT: usize = 400;
 pub fn is_bot_text(text: &[u8]) -> bool
     ensures { result ≡ is_bot_text text.now }
 {
-    !text.is_empty() && text.len() <= MAX_BOT_TEXT && are_line_bytes(text)
-}
-
-fn are_line_bytes(text: &[u8]) -> bool
-    ensures { result ≡ list_all is_line_byte text.now }
-{
-    text.iter()
-        .all(|byte| *byte != 0 && *byte != b'\r' && *byte != b'\n')
+    !text.is_empty() && text.len() <= MAX_BOT_TEXT && is_one_line(text)
 }

@@ -97,32 +97,13 @@ impl TryCopy for Change {
                 Ok((handle, mask)) => Ok(Change::DelHost { handle, mask }),
                 Err(NoMemory) => Err(NoMemory),
             },
-            Change::SetGlobal { handle, flags } => match handle.copy(alloc) {
-                Ok(handle) => Ok(Change::SetGlobal {
-                    handle,
-                    flags: *flags,
-                }),
-                Err(NoMemory) => Err(NoMemory),
-            },
+            Change::SetGlobal { handle, flags } => set_global_copy(alloc, handle, *flags),
             Change::SetChan {
                 handle,
                 channel,
                 flags,
-            } => match pair_of(alloc, handle, channel) {
-                Ok((handle, channel)) => Ok(Change::SetChan {
-                    handle,
-                    channel,
-                    flags: *flags,
-                }),
-                Err(NoMemory) => Err(NoMemory),
-            },
-            Change::SetBot { handle, flags } => match handle.copy(alloc) {
-                Ok(handle) => Ok(Change::SetBot {
-                    handle,
-                    flags: *flags,
-                }),
-                Err(NoMemory) => Err(NoMemory),
-            },
+            } => set_chan_copy(alloc, handle, channel, *flags),
+            Change::SetBot { handle, flags } => set_bot_copy(alloc, handle, *flags),
             Change::AddBan {
                 channel,
                 mask,
@@ -145,6 +126,39 @@ fn pair_of(alloc: Global, a: &Text, b: &Text) -> Result<(Text, Text), NoMemory>
     let first = a.copy(alloc)?;
     let second = b.copy(alloc)?;
     Ok((first, second))
+}
+
+// Flags to be set everywhere, of a user whose handle is copied.
+fn set_global_copy(alloc: Global, handle: &Text, flags: Flags) -> Result<Change, NoMemory>
+    ensures { IfOk result (λ c. c ≡ Change.SetGlobal handle.now flags) }
+{
+    let handle = handle.copy(alloc)?;
+    Ok(Change::SetGlobal { handle, flags })
+}
+
+// Flags to be set on a channel, of copies of these texts.
+fn set_chan_copy(
+    alloc: Global,
+    handle: &Text,
+    channel: &Text,
+    flags: Flags,
+) -> Result<Change, NoMemory>
+    ensures { IfOk result (λ c. c ≡ Change.SetChan handle.now channel.now flags) }
+{
+    let (handle, channel) = pair_of(alloc, handle, channel)?;
+    Ok(Change::SetChan {
+        handle,
+        channel,
+        flags,
+    })
+}
+
+// Flags to be set of a bot, whose handle is copied.
+fn set_bot_copy(alloc: Global, handle: &Text, flags: Flags) -> Result<Change, NoMemory>
+    ensures { IfOk result (λ c. c ≡ Change.SetBot handle.now flags) }
+{
+    let handle = handle.copy(alloc)?;
+    Ok(Change::SetBot { handle, flags })
 }
 
 // A ban to be added, of copies of these texts.

@@ -48,7 +48,7 @@ pub use crate::flags::PersonFlags;
 pub use crate::hostmask::{Hostmask, Hostmasks};
 pub use crate::limits::{MAX_BANS, MAX_CHANNELS, MAX_COMMENT, MAX_HANDLE, MAX_MASKS, MAX_USERS};
 pub use crate::refusals::shape;
-pub use crate::shapes::{is_ban_channel, is_comment, is_handle, is_hostmask};
+pub use crate::shapes::{is_ban_channel, is_comment, is_handle, is_hostmask, is_one_line};
 pub use crate::together::{are_bans, are_users, is_ban, is_user};
 pub use crate::user::User;
 pub use crate::userfile::Userfile;

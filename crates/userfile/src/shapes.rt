@@ -51,7 +51,8 @@ pub fn is_comment(bytes: &[u8]) -> bool
     bytes.len() <= MAX_COMMENT && is_one_line(bytes)
 }
 
-fn is_one_line(bytes: &[u8]) -> bool
+/// Whether none of these bytes is NUL, CR or LF.
+pub fn is_one_line(bytes: &[u8]) -> bool
     ensures { result ≡ list_all is_line_byte bytes.now }
 {
     bytes

@@ -52,7 +52,12 @@ fn is_hostmask(text: &[u8]) -> bool
 fn is_printable(text: &[u8]) -> bool
     ensures { result ≡ list_all (λ b. nat_lt 32 b) text.now }
 {
-    text.iter().all(|byte| *byte > b' ')
+    // No early end, so that a compiler may look at many bytes at once.
+    let mut good = true;
+    for byte in text {
+        good &= *byte > b' ';
+    }
+    good
 }
 
 fn first_bang(text: &[u8]) -> Option<usize>
