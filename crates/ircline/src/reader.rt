@@ -1,6 +1,7 @@
 // A stream of bytes to lines, in whatever pieces it comes.
-ghost use Rattle.std.specs.Prelude.{◌≡◌, ℕ, List, [], ◌++◌, map, take, drop, length, ◌≤◌, IfOk, OnErr};
-ghost use Rattle.ircline.specs.Reading.{line_of};
+ghost use Rattle.std.specs.Prelude.{◌≡◌, ℕ, List, [], ◌++◌, map, take, drop, length, ◌≤◌, IfOk, IsTrue, OnErr};
+ghost use Rattle.ircline.specs.Classes.{filled};
+ghost use Rattle.ircline.specs.Reading.{line_of, TakesMemory};
 ghost use Rattle.ircline.specs.Stream.{with_run, runs_from, rest_from, lines_of, begun, held_of, last_line};
 
 use crate::line::Line;
@@ -77,6 +78,8 @@ impl LineReader {
     pub fn finish(&mut self, alloc: Global) -> Result<Option<Line>, NoMemory>
         ensures line { (stream : List ℕ) → self.old ≡ held_of stream
             → IfOk result (λ line. line ≡ last_line (begun stream)) }
+        // Where no run is begun, or what is begun reads as a fault, no memory is taken.
+        ensures memory { OnErr result (IsTrue (filled self.old) × TakesMemory (line_of self.old)) }
         ensures empty { IfOk result (λ _. self.new ≡ []) }
         ensures err { OnErr result (self.new ≡ self.old) }
     {
@@ -118,7 +121,8 @@ fn first_bytes(bytes: &[u8], most: usize) -> &[u8]
 
 // What the last run reads as, if it isn't empty.
 fn last_line(alloc: Global, run: &[u8]) -> Result<Option<Line>, NoMemory>
-    ensures { IfOk result (λ line. line ≡ last_line run.now) }
+    ensures line { IfOk result (λ line. line ≡ last_line run.now) }
+    ensures memory { OnErr result (IsTrue (filled run.now) × TakesMemory (line_of run.now)) }
 {
     if run.is_empty() {
         return Ok(None);
