@@ -14,3 +14,4 @@ pub mod SeatLemmas
 pub mod TakeLemmas
 pub mod ComeLemmas
 pub mod OrderLemmas
+pub mod ToldLemmas

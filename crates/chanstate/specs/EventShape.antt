@@ -1,7 +1,13 @@
 -- An event by its parts.
-use Rattle.std.specs.Prelude.{ℕ, List, Option}
+use Rattle.std.specs.Prelude.{ℕ, List, ◌∷◌, ◌++◌, Option, Some}
 use Rattle.chanstate.specs.declared.event.Event.{Event}
 use Rattle.chanstate.specs.declared.event.Kind.{Kind}
 
 abbrev pub event_with : Kind → List ℕ → Option (List ℕ) → List (List ℕ) → Event
 event_with kind subject channel arguments = record { kind = kind; subject = subject; channel = channel; arguments = arguments }
+
+-- an event on a channel: its subject is the channel, a space and one thing more, which masks tell apart; its arguments
+-- are who did it, the channel, and what else is told
+abbrev pub event_on : Kind → List ℕ → List ℕ → List ℕ → List (List ℕ) → List ℕ → Event
+event_on kind nick address about more channel =
+    event_with kind (channel ++ 32 ∷ about) (Some channel) (nick ∷ address ∷ channel ∷ more)

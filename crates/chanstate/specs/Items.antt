@@ -2,10 +2,10 @@
 -- a list of channels, of modes or of names gives an item for each, in its order.
 -- A line that lacks a needed parameter says nothing.
 use Rattle.std.specs.Option.{option_to_list}
-use Rattle.std.specs.Prelude.{ℕ, ◌-◌, unwrap_or, Bool, true, false, ◌||◌, ◌&&◌, not, ◌==◌, nat_eq, List, [], ◌∷◌, ◌++◌, map, filter, drop, take}
-use Rattle.std.specs.Prelude.{length, if◌then◌else◌, codes, Option, Some, None, slice_get}
+use Rattle.std.specs.Prelude.{ℕ, ◌-◌, unwrap_or, Bool, true, false, ◌||◌, ◌&&◌, not, ◌==◌, List, [], ◌∷◌, ◌++◌, map, filter, drop, take}
+use Rattle.std.specs.Prelude.{length, if◌then◌else◌, codes, find, Option, Some, None, slice_get}
 use Rattle.std.specs.List.{list_any, filter_map, slice_split, position_or_len}
-use Rattle.std.specs.Cmp.Lexicographic.{pointwise}
+use Rattle.std.specs.Str.{bytes_eq}
 use Rattle.ircline.specs.declared.message.Message.{Message}
 use Rattle.rfccase.specs.Channels.{is_channel_name}
 use Rattle.ircline.specs.Sources.{Source, Person, source_of}
@@ -116,25 +116,44 @@ abbrev pub markings : List ℕ → List Single → List Item
 markings channel [] = []
 markings channel (one ∷ more) = marking channel one.on one.argument (mark_of one.letter) ++ markings channel more
 
--- the command of a message, as far as channels are concerned
-abbrev pub is_command : List ℕ → List ℕ → Bool
-is_command command name = pointwise nat_eq command name
+-- the command of a message, as far as channels and events are concerned
+abbrev pub word_of : Verb → List ℕ
+word_of verb.RplWelcome = codes "001"
+word_of verb.Join = codes "JOIN"
+word_of verb.Part = codes "PART"
+word_of verb.Kick = codes "KICK"
+word_of verb.Quit = codes "QUIT"
+word_of verb.Nick = codes "NICK"
+word_of verb.Mode = codes "MODE"
+word_of verb.Topic = codes "TOPIC"
+word_of verb.RplTopic = codes "332"
+word_of verb.RplNoTopic = codes "331"
+word_of verb.RplNamReply = codes "353"
+word_of verb.RplWhoReply = codes "352"
+word_of verb.Privmsg = codes "PRIVMSG"
+word_of verb.Notice = codes "NOTICE"
+word_of verb.Other = []
+
+abbrev pub all_verbs : List Verb
+all_verbs =
+    verb.RplWelcome ∷
+    verb.Join ∷
+    verb.Part ∷
+    verb.Kick ∷
+    verb.Quit ∷
+    verb.Nick ∷
+    verb.Mode ∷
+    verb.Topic ∷
+    verb.RplTopic ∷
+    verb.RplNoTopic ∷
+    verb.RplNamReply ∷
+    verb.RplWhoReply ∷
+    verb.Privmsg ∷
+    verb.Notice ∷
+    []
 
 abbrev pub verb_of : List ℕ → Verb
-verb_of c =
-    if is_command c (codes "001") then verb.RplWelcome
-    else (if is_command c (codes "JOIN") then verb.Join
-    else (if is_command c (codes "PART") then verb.Part
-    else (if is_command c (codes "KICK") then verb.Kick
-    else (if is_command c (codes "QUIT") then verb.Quit
-    else (if is_command c (codes "NICK") then verb.Nick
-    else (if is_command c (codes "MODE") then verb.Mode
-    else (if is_command c (codes "TOPIC") then verb.Topic
-    else (if is_command c (codes "332") then verb.RplTopic
-    else (if is_command c (codes "331") then verb.RplNoTopic
-    else (if is_command c (codes "353") then verb.RplNamReply
-    else (if is_command c (codes "352") then verb.RplWhoReply
-    else verb.Other)))))))))))
+verb_of command = unwrap_or (find (λ verb. bytes_eq (word_of verb) command) all_verbs) verb.Other
 
 -- 001: the first parameter is the bot's nick
 abbrev pub rpl_welcome_items : List (List ℕ) → List Item
@@ -203,6 +222,8 @@ items_by verb.RplTopic who ps = rpl_topic_items ps
 items_by verb.RplNoTopic who ps = rpl_no_topic_items ps
 items_by verb.RplNamReply who ps = rpl_nam_reply_items ps
 items_by verb.RplWhoReply who ps = rpl_who_reply_items ps
+items_by verb.Privmsg who ps = []
+items_by verb.Notice who ps = []
 items_by verb.Other who ps = []
 
 abbrev pub items_of : Message → List Item

@@ -6,6 +6,11 @@ pub mod Steps
 pub mod Seen
 pub mod Views
 pub mod EventShape
+pub mod Given
+pub mod Speech
+pub mod Comings
+pub mod Operations
+pub mod Deeds
 pub mod Events
 pub mod History
 pub mod Seats

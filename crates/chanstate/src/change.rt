@@ -1,14 +1,13 @@
 // What a message says of the bot's channels.
 ghost use Rattle.std.specs.Prelude.{◌≡◌};
 ghost use Rattle.chanstate.specs.Items.{items_of, items_by, rpl_welcome_items, join_items, part_items, kick_items, quit_items};
-ghost use Rattle.chanstate.specs.Items.{nick_items, mode_items, topic_items, rpl_topic_items, rpl_no_topic_items, rpl_nam_reply_items, rpl_who_reply_items, last_of};
-ghost use Rattle.std.specs.Option.{option_copied};
+ghost use Rattle.chanstate.specs.Items.{nick_items, mode_items, topic_items, rpl_topic_items, rpl_no_topic_items, rpl_nam_reply_items, rpl_who_reply_items};
 ghost use Rattle.chanstate.specs.Seen.{items_seen};
 ghost use Rattle.ircline.specs.Sources.{source_of};
 ghost use Rattle.ircline.specs.View.{seen};
 
 use crate::verb::{Verb, read_verb};
-use crate::words::{param, params_from};
+use crate::words::{last, param, params_from};
 use bytetext::Text;
 use ircline::{Message, Person, Source, source};
 
@@ -138,16 +137,6 @@ fn mode(params: &[Text]) -> Change<'_>
     }
 }
 
-// The last parameter.
-fn last(params: &[Text]) -> Option<&[u8]>
-    ensures { option_copied result ≡ last_of params.now }
-{
-    match params.last() {
-        Some(text) => Some(text.as_bytes()),
-        None => None,
-    }
-}
-
 fn topic(params: &[Text]) -> Change<'_>
     ensures { items_seen result ≡ topic_items params.now }
 {
@@ -244,6 +233,6 @@ pub fn change_of(message: &Message) -> Change<'_>
         Verb::RplNoTopic => rpl_no_topic(params),
         Verb::RplNamReply => rpl_nam_reply(params),
         Verb::RplWhoReply => rpl_who_reply(params),
-        Verb::Other => Change::Nothing,
+        Verb::Privmsg | Verb::Notice | Verb::Other => Change::Nothing,
     }
 }

@@ -1,5 +1,5 @@
 // What a message means to those who bind procs to it.
-ghost use Rattle.std.specs.Prelude.{◌≡◌, IfOk, map};
+ghost use Rattle.std.specs.Prelude.{◌≡◌, ◌++◌, IfOk, OnOk, map};
 ghost use Rattle.std.specs.Option.{option_copied};
 ghost use Rattle.chanstate.specs.EventShape.{event_with};
 
@@ -21,6 +21,20 @@ pub enum Kind {
     Pub,
     /// A message to a channel, by the channel and the whole text.
     Pubm,
+    /// Someone joins a channel.
+    Join,
+    /// Someone leaves a channel.
+    Part,
+    /// Someone who is on a channel leaves the network.
+    Sign,
+    /// Someone takes another off a channel.
+    Kick,
+    /// Someone who is on a channel takes another nick.
+    Nick,
+    /// A single mode of a channel is set or cleared.
+    Mode,
+    /// A channel gets another topic.
+    Topc,
 }
 
 /// An event of a message.
@@ -32,7 +46,8 @@ pub struct Event {
     pub subject: Text,
     /// The channel that it happens on, as the bot spells it; none for an event that is on no channel.
     pub channel: Option<Text>,
-    /// What a proc is given, but for the person's handle, which would follow `user@host`.
+    /// What a proc is given. In all kinds but `Raw` these begin with nick and `user@host`, and the person's handle, which
+    /// isn't among them, would follow. Where a server acts, the nick is empty, and its name stands for `user@host`.
     pub arguments: Texts,
 }
 
@@ -82,8 +97,20 @@ fn texts_of(alloc: Global, texts: &[&[u8]]) -> Result<Vec<Text>, NoMemory>
     ensures { IfOk result (λ copies. copies.items ≡ map (λ x. x.now) texts.now) }
 {
     let mut copies = Vec::with_capacity(alloc, texts.len())?;
+    push_texts(&mut copies, alloc, texts)?;
+    Ok(copies)
+}
+
+// A copy of each of these after the others, in order.
+pub(crate) fn push_texts(
+    copies: &mut Vec<Text>,
+    alloc: Global,
+    texts: &[&[u8]],
+) -> Result<(), NoMemory>
+    ensures { OnOk result (copies.new.items ≡ copies.old.items ++ map (λ x. x.now) texts.now) }
+{
     for text in texts {
         copies.push(Text::from_slice(alloc, text)?)?;
     }
-    Ok(copies)
+    Ok(())
 }

@@ -14,7 +14,8 @@
 //! takes it in without memory, or [`Update::cancel`] gives it up where another growth was refused.
 //!
 //! [`events`] says what a message means to those who bind procs: a raw event for every message, and those of what a
-//! person says to the bot or on a channel that it is on. They are told against the state before the message.
+//! person says to the bot or on a channel that it is on, of who comes, goes or takes another nick there, and of who is
+//! kicked and what modes and topics are set there. They are told against the state before the message.
 //!
 //! What the state is after some messages is stated twice. `apply` is one step of the table in `specs/Steps.antt`. The
 //! law [`history_says`] is that these steps leave just what one learns by looking back over the history, from its
@@ -38,7 +39,9 @@
 mod change;
 mod channel;
 mod channels;
+mod comings;
 mod copies;
+mod deed;
 mod edit;
 mod event;
 mod history;
@@ -46,11 +49,13 @@ mod joins;
 mod leavings;
 mod listings;
 mod marks;
+mod meaning;
 mod member;
 mod members;
 mod modes;
 mod names;
 mod newcomers;
+mod operations;
 mod plan;
 mod renames;
 mod roster;
@@ -67,8 +72,8 @@ mod words;
 
 pub use crate::event::{Event, Kind};
 pub use crate::history::history_says;
+pub use crate::meaning::events;
 pub use crate::member::{Mark, Member};
 pub use crate::members::Members;
-pub use crate::speech::events;
 pub use crate::state::ChanState;
 pub use crate::update::{Made, Update};

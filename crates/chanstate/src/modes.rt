@@ -28,7 +28,8 @@ fn takes_argument(on: bool, letter: u8) -> bool
     }
 }
 
-fn is_mode(byte: u8) -> bool
+/// Whether the byte is a single mode, and no sign.
+pub fn is_mode(byte: u8) -> bool
     ensures { result ≡ is_letter byte }
 {
     byte != b'+' && byte != b'-'

@@ -1,17 +1,16 @@
 // What people say, as events.
-ghost use Rattle.std.specs.Prelude.{◌≡◌, ◌≤◌, ◌∷◌, ◌++◌, ◌==◌, not, length, take, if◌then◌else◌, [], IfOk};
+ghost use Rattle.std.specs.Prelude.{◌≡◌, ◌≤◌, ◌∷◌, ◌==◌, not, length, take, if◌then◌else◌, [], IfOk};
 ghost use Rattle.std.specs.List.{position_or_len};
 ghost use Rattle.std.specs.Option.{option_copied};
-ghost use Rattle.chanstate.specs.Events.{spaces_len, word_len, first_word, after_word, to_bot, to_channel, noticed, is_hidden};
-ghost use Rattle.chanstate.specs.Events.{said, noted, said_by, noted_by, address_of, typed, raw, events_of};
+ghost use Rattle.chanstate.specs.Speech.{spaces_len, word_len, first_word, after_word, to_bot, to_channel, noticed, is_hidden};
+ghost use Rattle.chanstate.specs.Speech.{said, noted, says, notes};
 
+use crate::deed::{Author, joined};
 use crate::event::{Event, Kind};
 use crate::names::is_same;
 use crate::state::ChanState;
-use crate::verb::is;
 use crate::words::param;
 use bytetext::{NoMemory, Text};
-use ircline::{Message, Person, Source, source};
 use std::alloc::Global;
 
 // How long the first word is.
@@ -44,17 +43,6 @@ fn after_word(text: &[u8]) -> &[u8]
 {
     let rest = &text[count_word(text)..];
     &rest[count_spaces(rest)..]
-}
-
-// Two texts with a byte between them.
-fn joined(alloc: Global, front: &[u8], between: u8, back: &[u8]) -> Result<Text, NoMemory>
-    ensures { IfOk result (λ t. t ≡ front.now ++ between ∷ back.now) }
-{
-    let mut bytes = Vec::new(alloc);
-    bytes.extend_from_slice(front)?;
-    bytes.push(between)?;
-    bytes.extend_from_slice(back)?;
-    Ok(Text::new(bytes))
 }
 
 fn is_for_programs(text: &[u8]) -> bool
@@ -148,7 +136,7 @@ fn note(
 }
 
 // What a PRIVMSG to this target gives.
-fn say(
+fn say_to(
     alloc: Global,
     nick: &[u8],
     address: &[u8],
@@ -171,7 +159,7 @@ fn say(
 }
 
 // What a NOTICE to this target gives.
-fn notice(
+fn note_to(
     alloc: Global,
     nick: &[u8],
     address: &[u8],
@@ -193,46 +181,38 @@ fn notice(
     }
 }
 
-// The events that depend on the command, for a message with a target and a text.
-fn spoken(alloc: Global, message: &Message, state: &ChanState) -> Result<Vec<Event>, NoMemory>
-    ensures { IfOk result (λ v. v.items ≡ typed message.now state.now) }
+// What a PRIVMSG gives.
+pub(crate) fn say(
+    alloc: Global,
+    by: Author<'_>,
+    params: &[Text],
+    state: &ChanState,
+) -> Result<Vec<Event>, NoMemory>
+    ensures { IfOk result (λ v. v.items ≡ says by.entry.nick.now by.entry.address.now params.now state.now) }
 {
-    let is_said = is(message.command.as_bytes(), b"PRIVMSG");
-    if !is_said && !is(message.command.as_bytes(), b"NOTICE") {
-        return Ok(Vec::new(alloc));
-    }
-    let Source::Person(Person { nick, user, host }) = source(message.prefix.as_bytes()) else {
-        return Ok(Vec::new(alloc));
-    };
-    let params = message.params.as_slice();
     let Some(target) = param(params, 0) else {
         return Ok(Vec::new(alloc));
     };
     let Some(text) = param(params, 1) else {
         return Ok(Vec::new(alloc));
     };
-    let address = joined(alloc, user, b'@', host)?;
-    if is_said {
-        say(alloc, nick, address.as_bytes(), target, text, state)
-    } else {
-        notice(alloc, nick, address.as_bytes(), target, text, state)
-    }
+    say_to(alloc, by.nick, by.address, target, text, state)
 }
 
-/// The events of a message, against the state of the channels before it: the raw event, and then those of its command.
-///
-/// # Errors
-/// `NoMemory` where room for them is refused.
-pub fn events(alloc: Global, message: &Message, state: &ChanState) -> Result<Vec<Event>, NoMemory>
-    ensures { IfOk result (λ v. v.items ≡ events_of message.now state.now) }
+// What a NOTICE gives.
+pub(crate) fn notice(
+    alloc: Global,
+    by: Author<'_>,
+    params: &[Text],
+    state: &ChanState,
+) -> Result<Vec<Event>, NoMemory>
+    ensures { IfOk result (λ v. v.items ≡ notes by.entry.nick.now by.entry.address.now params.now state.now) }
 {
-    let parts = [
-        message.prefix.as_bytes(),
-        message.command.as_bytes(),
-        message.rest.as_bytes(),
-    ];
-    let raw = Event::new(alloc, Kind::Raw, message.command.as_bytes(), None, &parts)?;
-    let mut events = spoken(alloc, message, state)?;
-    events.insert(0, raw)?;
-    Ok(events)
+    let Some(target) = param(params, 0) else {
+        return Ok(Vec::new(alloc));
+    };
+    let Some(text) = param(params, 1) else {
+        return Ok(Vec::new(alloc));
+    };
+    note_to(alloc, by.nick, by.address, target, text, state)
 }

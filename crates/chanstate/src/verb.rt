@@ -1,9 +1,9 @@
-// The command of a message, as far as channels are concerned.
-ghost use Rattle.std.specs.Prelude.{◌≡◌, nat_eq};
-ghost use Rattle.std.specs.Cmp.Lexicographic.{pointwise};
-ghost use Rattle.chanstate.specs.Items.{verb_of, is_command};
+// The command of a message, as far as channels and events are concerned.
+ghost use Rattle.std.specs.Prelude.{◌≡◌, find};
+ghost use Rattle.std.specs.Str.{bytes_eq};
+ghost use Rattle.chanstate.specs.Items.{word_of, all_verbs, verb_of};
 
-/// A command that may change the state of channels, and any other.
+/// A command that may change the state of channels or has events of its own, and any other.
 #[derive(Clone, Copy)]
 pub enum Verb {
     RplWelcome,
@@ -18,33 +18,63 @@ pub enum Verb {
     RplNoTopic,
     RplNamReply,
     RplWhoReply,
+    Privmsg,
+    Notice,
     Other,
 }
 
-/// Whether a command is this one.
-pub fn is(command: &[u8], name: &[u8]) -> bool
-    ensures { result ≡ is_command command.now name.now }
-{
-    command == name
+// Every command that has a word.
+const ALL: [Verb; 14] = [
+    Verb::RplWelcome,
+    Verb::Join,
+    Verb::Part,
+    Verb::Kick,
+    Verb::Quit,
+    Verb::Nick,
+    Verb::Mode,
+    Verb::Topic,
+    Verb::RplTopic,
+    Verb::RplNoTopic,
+    Verb::RplNamReply,
+    Verb::RplWhoReply,
+    Verb::Privmsg,
+    Verb::Notice,
+];
+
+impl Verb {
+    // What stands in a message; any other command has no word.
+    fn word(self) -> &'static [u8]
+        ensures { result.now ≡ word_of self }
+    {
+        match self {
+            Verb::RplWelcome => b"001",
+            Verb::Join => b"JOIN",
+            Verb::Part => b"PART",
+            Verb::Kick => b"KICK",
+            Verb::Quit => b"QUIT",
+            Verb::Nick => b"NICK",
+            Verb::Mode => b"MODE",
+            Verb::Topic => b"TOPIC",
+            Verb::RplTopic => b"332",
+            Verb::RplNoTopic => b"331",
+            Verb::RplNamReply => b"353",
+            Verb::RplWhoReply => b"352",
+            Verb::Privmsg => b"PRIVMSG",
+            Verb::Notice => b"NOTICE",
+            Verb::Other => b"",
+        }
+    }
 }
 
-/// The command by its name (RFC 2812 sections 3.1, 3.2 and 5.1).
+/// The command by its name (RFC 2812 sections 3.1, 3.2, 3.3 and 5.1).
 pub fn read_verb(command: &[u8]) -> Verb
     ensures { result ≡ verb_of command.now }
 {
-    match command {
-        b"001" => Verb::RplWelcome,
-        b"JOIN" => Verb::Join,
-        b"PART" => Verb::Part,
-        b"KICK" => Verb::Kick,
-        b"QUIT" => Verb::Quit,
-        b"NICK" => Verb::Nick,
-        b"MODE" => Verb::Mode,
-        b"TOPIC" => Verb::Topic,
-        b"332" => Verb::RplTopic,
-        b"331" => Verb::RplNoTopic,
-        b"353" => Verb::RplNamReply,
-        b"352" => Verb::RplWhoReply,
-        _ => Verb::Other,
-    }
+    find_verb(command).unwrap_or(Verb::Other)
+}
+
+fn find_verb(command: &[u8]) -> Option<Verb>
+    ensures { result ≡ find (λ verb. bytes_eq (word_of verb) command.now) all_verbs }
+{
+    ALL.iter().copied().find(|verb| verb.word() == command)
 }

@@ -2,7 +2,8 @@
 ghost use Rattle.std.specs.Prelude.{◌≡◌, ◌≤◌, length, IfOk, take, drop};
 ghost use Rattle.std.specs.List.{slice_get};
 ghost use Rattle.std.specs.Option.{option_copied};
-ghost use Rattle.chanstate.specs.Items.{is_sign, signs_len, shown_by, named};
+ghost use Rattle.chanstate.specs.Items.{is_sign, signs_len, shown_by, named, last_of};
+ghost use Rattle.chanstate.specs.Given.{text_at};
 
 use crate::member::Member;
 use bytetext::{NoMemory, Text};
@@ -13,6 +14,26 @@ pub fn param(params: &[Text], index: usize) -> Option<&[u8]>
     ensures { option_copied result ≡ slice_get params.now index }
 {
     match params.get(index) {
+        Some(text) => Some(text.as_bytes()),
+        None => None,
+    }
+}
+
+/// The parameter at this place, and the empty text where it is missing.
+pub fn text_at(params: &[Text], index: usize) -> &[u8]
+    ensures { result.now ≡ text_at params.now index }
+{
+    match params.get(index) {
+        Some(text) => text.as_bytes(),
+        None => b"",
+    }
+}
+
+/// The last parameter.
+pub fn last(params: &[Text]) -> Option<&[u8]>
+    ensures { option_copied result ≡ last_of params.now }
+{
+    match params.last() {
         Some(text) => Some(text.as_bytes()),
         None => None,
     }

@@ -1,0 +1,44 @@
+-- People come, go and take other nicks: JOIN, PART, QUIT and NICK (RFC 2812 sections 3.2.1, 3.2.2, 3.1.7 and 3.1.2).
+use Rattle.std.specs.Prelude.{ℕ, Bool, true, false, List, [], ◌∷◌, ◌++◌, map, Option, Some, slice_get}
+use Rattle.std.specs.List.{filter_map}
+use Rattle.std.specs.Option.{option_map}
+use Rattle.chanstate.specs.declared.event.Event.{Event}
+use Rattle.chanstate.specs.declared.event.Kind.TheVariants.{Join, Part, Sign, Nick}
+use Rattle.chanstate.specs.declared.state.ChanState.{ChanState}
+use Rattle.rfccase.specs.Casemapping.{is_same}
+use Rattle.chanstate.specs.Items.{channels_in}
+use Rattle.chanstate.specs.Views.{channel_in, channels_with}
+use Rattle.chanstate.specs.EventShape.{event_on}
+use Rattle.chanstate.specs.Given.{when_given, text_at}
+
+-- nick!user@host
+abbrev pub hostmask : List ℕ → List ℕ → List ℕ
+hostmask nick address = nick ++ 33 ∷ address
+
+-- a listed channel as events spell it: as the line does where the bot itself joins, and else as the bot holds it, which
+-- is not at all where the bot is not on it
+abbrev pub spelled : Bool → ChanState → List ℕ → Option (List ℕ)
+spelled true s name = Some name
+spelled false s name = option_map (λ channel. channel.name) (channel_in name s)
+
+-- the channels of a list with commas between, in its order
+abbrev pub listed_in : Bool → ChanState → List ℕ → List (List ℕ)
+listed_in own s list = filter_map (spelled own s) (channels_in list)
+
+-- JOIN: on each listed channel that the bot is on, and on every one where the bot itself joins
+abbrev pub joins : List ℕ → List ℕ → List (List ℕ) → ChanState → List Event
+joins nick address ps s = when_given (slice_get ps 0)
+    (λ list. map (event_on Join nick address (hostmask nick address) []) (listed_in (is_same nick s.nick) s list))
+
+-- PART: on each listed channel that the bot is on, with the message
+abbrev pub parts : List ℕ → List ℕ → List (List ℕ) → ChanState → List Event
+parts nick address ps s = when_given (slice_get ps 0)
+    (λ list. map (event_on Part nick address (hostmask nick address) (text_at ps 1 ∷ [])) (listed_in false s list))
+
+-- QUIT: on each channel that has the nick, in the order in which the bot joined them, with the reason
+abbrev pub signs_off : List ℕ → List ℕ → List (List ℕ) → ChanState → List Event
+signs_off nick address ps s = map (event_on Sign nick address (hostmask nick address) (text_at ps 0 ∷ [])) (channels_with nick s)
+
+-- NICK: on each channel that has the old nick, in the order in which the bot joined them, with the new one
+abbrev pub renames : List ℕ → List ℕ → List (List ℕ) → ChanState → List Event
+renames nick address ps s = when_given (slice_get ps 0) (λ new. map (event_on Nick nick address new (new ∷ [])) (channels_with nick s))

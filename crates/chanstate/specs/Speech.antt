@@ -1,0 +1,82 @@
+-- What people say and note: PRIVMSG and NOTICE (RFC 2812 section 3.3).
+use Rattle.std.specs.Prelude.{ℕ, Bool, not, ◌==◌, List, [], ◌∷◌, ◌++◌, take, drop, length, if◌then◌else◌, Option, Some, None, slice_get, slice_index}
+use Rattle.std.specs.List.{position_or_len}
+use Rattle.chanstate.specs.declared.event.Event.{Event}
+use Rattle.chanstate.specs.declared.event.Kind.TheVariants.{Msg, Msgm, Notc, Pub, Pubm}
+use Rattle.chanstate.specs.declared.channel.Channel.{Channel}
+use Rattle.chanstate.specs.declared.state.ChanState.{ChanState}
+use Rattle.rfccase.specs.Casemapping.{is_same}
+use Rattle.chanstate.specs.Views.{channel_in}
+use Rattle.chanstate.specs.EventShape.{event_with}
+use Rattle.chanstate.specs.Given.{when_given}
+
+-- a text without its spaces in front
+abbrev pub spaces_len : List ℕ → ℕ
+spaces_len text = position_or_len (λ b. not (b == 32)) text
+
+abbrev pub trimmed : List ℕ → List ℕ
+trimmed text = drop (spaces_len text) text
+
+-- the first word of a text ends before its first space
+abbrev pub word_len : List ℕ → ℕ
+word_len text = position_or_len (λ b. b == 32) text
+
+abbrev pub first_word : List ℕ → List ℕ
+first_word text = take (word_len text) text
+
+-- what follows it and the spaces after it
+abbrev pub after_word : List ℕ → List ℕ
+after_word text = trimmed (drop (word_len text) text)
+
+-- one event by the whole text, and one by its first word, if the text begins with a word
+abbrev pub by_text_and_word : Event → Event → List ℕ → List Event
+by_text_and_word whole word text = if length (first_word text) == 0 then whole ∷ [] else whole ∷ word ∷ []
+
+abbrev pub to_bot : List ℕ → List ℕ → List ℕ → List Event
+to_bot nick address text =
+    by_text_and_word
+    (event_with Msgm text None (nick ∷ address ∷ text ∷ []))
+    (event_with Msg (first_word text) None (nick ∷ address ∷ after_word text ∷ []))
+    text
+
+abbrev pub to_channel : List ℕ → List ℕ → List ℕ → List ℕ → List Event
+to_channel nick address channel text =
+    by_text_and_word
+    (event_with Pubm (channel ++ 32 ∷ text) (Some channel) (nick ∷ address ∷ channel ∷ text ∷ []))
+    (event_with Pub (first_word text) (Some channel) (nick ∷ address ∷ channel ∷ after_word text ∷ []))
+    text
+
+-- a notice has one event, which names where it went
+abbrev pub noticed : List ℕ → List ℕ → Option (List ℕ) → List ℕ → List ℕ → List Event
+noticed nick address channel text dest = event_with Notc text channel (nick ∷ address ∷ text ∷ dest ∷ []) ∷ []
+
+-- a text that begins with byte 1 is for programs alone
+abbrev pub is_hidden : List ℕ → Bool
+is_hidden text = slice_index text 0 == 1
+
+abbrev pub said_on : List ℕ → List ℕ → List ℕ → Option Channel → List Event
+said_on nick address text None = []
+said_on nick address text (Some channel) = to_channel nick address channel.name text
+
+abbrev pub noticed_on : List ℕ → List ℕ → List ℕ → Option Channel → List Event
+noticed_on nick address text None = []
+noticed_on nick address text (Some channel) = noticed nick address (Some channel.name) text channel.name
+
+-- what a person says or notes to the bot, or to a channel that it is on
+abbrev pub said : List ℕ → List ℕ → List ℕ → List ℕ → ChanState → List Event
+said nick address target text s =
+    if is_hidden text then []
+    else (if is_same target s.nick then to_bot nick address text else said_on nick address text (channel_in target s))
+
+abbrev pub noted : List ℕ → List ℕ → List ℕ → List ℕ → ChanState → List Event
+noted nick address target text s =
+    if is_hidden text then []
+    else (if is_same target s.nick then noticed nick address None text target else noticed_on nick address text (channel_in target s))
+
+-- PRIVMSG
+abbrev pub says : List ℕ → List ℕ → List (List ℕ) → ChanState → List Event
+says nick address ps s = when_given (slice_get ps 0) (λ target. when_given (slice_get ps 1) (λ text. said nick address target text s))
+
+-- NOTICE
+abbrev pub notes : List ℕ → List ℕ → List (List ℕ) → ChanState → List Event
+notes nick address ps s = when_given (slice_get ps 0) (λ target. when_given (slice_get ps 1) (λ text. noted nick address target text s))

@@ -1,0 +1,153 @@
+// People come, go and take other nicks, as events.
+ghost use Rattle.std.specs.Prelude.{◌≡◌, [], ◌∷◌, IfOk, filter, map};
+ghost use Rattle.std.specs.List.{filter_map};
+ghost use Rattle.std.specs.Option.{option_copied, option_to_list};
+ghost use Rattle.rfccase.specs.Channels.{is_channel_name};
+ghost use Rattle.chanstate.specs.Comings.{spelled, listed_in, joins, parts, signs_off, renames};
+ghost use Rattle.chanstate.specs.Deeds.{told};
+ghost use Rattle.chanstate.specs.Members.{has_member};
+ghost use Rattle.chanstate.specs.Views.{channels_with};
+
+use crate::channel::Channel;
+use crate::deed::{Author, Deed, joined};
+use crate::event::{Event, Kind};
+use crate::names::is_same;
+use crate::state::ChanState;
+use crate::words::{param, text_at};
+use bytetext::{NoMemory, Text};
+use rfccase::is_channel_name;
+use std::alloc::Global;
+
+// What a JOIN gives.
+pub(crate) fn join(
+    alloc: Global,
+    by: Author<'_>,
+    params: &[Text],
+    state: &ChanState,
+) -> Result<Vec<Event>, NoMemory>
+    ensures { IfOk result (λ v. v.items ≡ joins by.entry.nick.now by.entry.address.now params.now state.now) }
+{
+    let Some(list) = param(params, 0) else {
+        return Ok(Vec::new(alloc));
+    };
+    let mask = joined(alloc, by.nick, b'!', by.address)?;
+    let deed = Deed {
+        kind: Kind::Join,
+        by,
+        about: mask.as_bytes(),
+        more: &[],
+    };
+    let own = is_same(by.nick, state.own_nick());
+    on_listed(alloc, &deed, own, list, state)
+}
+
+// What a PART gives.
+pub(crate) fn part(
+    alloc: Global,
+    by: Author<'_>,
+    params: &[Text],
+    state: &ChanState,
+) -> Result<Vec<Event>, NoMemory>
+    ensures { IfOk result (λ v. v.items ≡ parts by.entry.nick.now by.entry.address.now params.now state.now) }
+{
+    let Some(list) = param(params, 0) else {
+        return Ok(Vec::new(alloc));
+    };
+    let mask = joined(alloc, by.nick, b'!', by.address)?;
+    let deed = Deed {
+        kind: Kind::Part,
+        by,
+        about: mask.as_bytes(),
+        more: &[text_at(params, 1)],
+    };
+    on_listed(alloc, &deed, false, list, state)
+}
+
+// What a QUIT gives.
+pub(crate) fn quit(
+    alloc: Global,
+    by: Author<'_>,
+    params: &[Text],
+    state: &ChanState,
+) -> Result<Vec<Event>, NoMemory>
+    ensures { IfOk result (λ v. v.items ≡ signs_off by.entry.nick.now by.entry.address.now params.now state.now) }
+{
+    let mask = joined(alloc, by.nick, b'!', by.address)?;
+    let deed = Deed {
+        kind: Kind::Sign,
+        by,
+        about: mask.as_bytes(),
+        more: &[text_at(params, 0)],
+    };
+    on_shared(alloc, &deed, state)
+}
+
+// What a NICK gives.
+pub(crate) fn rename(
+    alloc: Global,
+    by: Author<'_>,
+    params: &[Text],
+    state: &ChanState,
+) -> Result<Vec<Event>, NoMemory>
+    ensures { IfOk result (λ v. v.items ≡ renames by.entry.nick.now by.entry.address.now params.now state.now) }
+{
+    let Some(new) = param(params, 0) else {
+        return Ok(Vec::new(alloc));
+    };
+    let deed = Deed {
+        kind: Kind::Nick,
+        by,
+        about: new,
+        more: &[new],
+    };
+    on_shared(alloc, &deed, state)
+}
+
+// A piece of a list as events spell it, if it names a channel of which they tell: with `own` any, and else one that the
+// bot is on.
+fn spelled_piece<'a>(own: bool, piece: &'a [u8], state: &'a ChanState) -> Option<&'a [u8]>
+    ensures { option_to_list (option_copied result) ≡ filter_map (spelled own state.now) (filter is_channel_name (piece.now ∷ [])) }
+{
+    if !is_channel_name(piece) {
+        return None;
+    }
+    if own { Some(piece) } else { state.held(piece) }
+}
+
+// A deed on the channels of a list, in its order.
+fn on_listed(
+    alloc: Global,
+    deed: &Deed<'_>,
+    own: bool,
+    list: &[u8],
+    state: &ChanState,
+) -> Result<Vec<Event>, NoMemory>
+    ensures { IfOk result (λ v. v.items ≡ map (told deed.now) (listed_in own state.now list.now)) }
+{
+    let mut events = Vec::new(alloc);
+    for piece in list.split(|byte| *byte == b',') {
+        deed.push_on(&mut events, alloc, spelled_piece(own, piece, state))?;
+    }
+    Ok(events)
+}
+
+// A deed on the channels that have its author, in the order in which the bot joined them.
+fn on_shared(alloc: Global, deed: &Deed<'_>, state: &ChanState) -> Result<Vec<Event>, NoMemory>
+    ensures { IfOk result (λ v. v.items ≡ map (told deed.now) (channels_with deed.now.by.nick.now state.now)) }
+{
+    on_each(alloc, deed, state.channels.as_slice())
+}
+
+// A deed on those of some channels that have its author.
+fn on_each(alloc: Global, deed: &Deed<'_>, channels: &[Channel]) -> Result<Vec<Event>, NoMemory>
+    ensures { IfOk result (λ v. v.items
+        ≡ map (λ channel. told deed.now channel.name) (filter (λ channel. has_member deed.now.by.nick.now channel.members) channels.now)) }
+{
+    let mut events = Vec::new(alloc);
+    for channel in channels {
+        if channel.members.holds(deed.by.nick) {
+            events.push(deed.on(alloc, channel.name.as_bytes())?)?;
+        }
+    }
+    Ok(events)
+}

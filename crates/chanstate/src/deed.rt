@@ -1,0 +1,89 @@
+// What someone does on a channel, as an event tells it.
+ghost use Rattle.std.specs.Prelude.{◌≡◌, ◌++◌, ◌∷◌, [], IfOk, OnOk, map};
+ghost use Rattle.std.specs.Option.{option_copied, option_to_list};
+ghost use Rattle.chanstate.specs.Deeds.{told};
+
+use crate::event::{Event, Kind, push_texts};
+use bytetext::{NoMemory, Text, Texts};
+use std::alloc::Global;
+
+/// Who does something.
+#[derive(Clone, Copy)]
+pub struct Author<'a> {
+    // Empty for a server.
+    pub(crate) nick: &'a [u8],
+    // user@host, or the server's name.
+    pub(crate) address: &'a [u8],
+}
+
+/// What someone does on one channel or on several.
+#[derive(Clone, Copy)]
+pub struct Deed<'a> {
+    pub(crate) kind: Kind,
+    pub(crate) by: Author<'a>,
+    // What masks are matched against after the channel and a space.
+    pub(crate) about: &'a [u8],
+    // What procs are given after the channel.
+    pub(crate) more: &'a [&'a [u8]],
+}
+
+impl Deed<'_> {
+    // Its event on a channel.
+    pub(crate) fn on(&self, alloc: Global, channel: &[u8]) -> Result<Event, NoMemory>
+        ensures { IfOk result (λ e. e ≡ told self.now channel.now) }
+    {
+        let subject = joined(alloc, channel, b' ', self.about)?;
+        let name = Text::from_slice(alloc, channel)?;
+        let mut arguments = Vec::with_capacity(alloc, ARGUMENTS)?;
+        push_texts(
+            &mut arguments,
+            alloc,
+            &[self.by.nick, self.by.address, channel],
+        )?;
+        push_texts(&mut arguments, alloc, self.more)?;
+        Ok(Event {
+            kind: self.kind,
+            subject,
+            channel: Some(name),
+            arguments: Texts::new(arguments),
+        })
+    }
+
+    // Its event on this channel alone.
+    pub(crate) fn on_one(&self, alloc: Global, channel: &[u8]) -> Result<Vec<Event>, NoMemory>
+        ensures { IfOk result (λ v. v.items ≡ told self.now channel.now ∷ []) }
+    {
+        let mut events = Vec::with_capacity(alloc, 1)?;
+        events.push(self.on(alloc, channel)?)?;
+        Ok(events)
+    }
+
+    // Its event on a channel after others, where there is a channel.
+    pub(crate) fn push_on(
+        &self,
+        events: &mut Vec<Event>,
+        alloc: Global,
+        channel: Option<&[u8]>,
+    ) -> Result<(), NoMemory>
+        ensures { OnOk result (events.new.items ≡ events.old.items ++ map (told self.now) (option_to_list (option_copied channel.entry))) }
+    {
+        if let Some(channel) = channel {
+            events.push(self.on(alloc, channel)?)?;
+        }
+        Ok(())
+    }
+}
+
+// No event has more arguments.
+const ARGUMENTS: usize = 5;
+
+/// Two texts with a byte between them.
+pub fn joined(alloc: Global, front: &[u8], between: u8, back: &[u8]) -> Result<Text, NoMemory>
+    ensures { IfOk result (λ t. t ≡ front.now ++ between ∷ back.now) }
+{
+    let mut bytes = Vec::new(alloc);
+    bytes.extend_from_slice(front)?;
+    bytes.push(between)?;
+    bytes.extend_from_slice(back)?;
+    Ok(Text::new(bytes))
+}

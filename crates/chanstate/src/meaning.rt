@@ -1,0 +1,111 @@
+// What a message means to those who bind procs.
+ghost use Rattle.std.specs.Prelude.{◌≡◌, ◌++◌, ◌∷◌, IfOk};
+ghost use Rattle.ircline.specs.Sources.{Server, Person as SomePerson};
+ghost use Rattle.chanstate.specs.Events.{typed_by, typed, events_of};
+
+use crate::comings::{join, part, quit, rename};
+use crate::deed::{Author, joined};
+use crate::event::{Event, Kind};
+use crate::operations::{kick, mode, title};
+use crate::speech::{notice, say};
+use crate::state::ChanState;
+use crate::verb::{Verb, read_verb};
+use bytetext::{NoMemory, Text};
+use ircline::{Message, Person, Source, source};
+use std::alloc::Global;
+
+/// The events of a message, against the state of the channels before it: the raw event, and then those of its command.
+///
+/// # Errors
+/// `NoMemory` where room for them is refused.
+pub fn events(alloc: Global, message: &Message, state: &ChanState) -> Result<Vec<Event>, NoMemory>
+    ensures { IfOk result (λ v. v.items ≡ events_of message.now state.now) }
+{
+    let parts = [
+        message.prefix.as_bytes(),
+        message.command.as_bytes(),
+        message.rest.as_bytes(),
+    ];
+    let raw = Event::new(alloc, Kind::Raw, message.command.as_bytes(), None, &parts)?;
+    let mut events = typed(alloc, message, state)?;
+    events.insert(0, raw)?;
+    Ok(events)
+}
+
+// Those that depend on the command.
+fn typed(alloc: Global, message: &Message, state: &ChanState) -> Result<Vec<Event>, NoMemory>
+    ensures { IfOk result (λ v. v.items ≡ typed message.now state.now) }
+{
+    let verb = read_verb(message.command.as_bytes());
+    let params = message.params.as_slice();
+    match source(message.prefix.as_bytes()) {
+        Source::None => Ok(Vec::new(alloc)),
+        Source::Server(name) => by_server(alloc, verb, name, params, state),
+        Source::Person(person) => by_person(alloc, verb, person, params, state),
+    }
+}
+
+// Those of a server.
+fn by_server(
+    alloc: Global,
+    verb: Verb,
+    name: &[u8],
+    params: &[Text],
+    state: &ChanState,
+) -> Result<Vec<Event>, NoMemory>
+    ensures { IfOk result (λ v. v.items ≡ typed_by verb (Server name.now) params.now state.now) }
+{
+    let by = Author {
+        nick: b"",
+        address: name,
+    };
+    match verb {
+        Verb::Kick => kick(alloc, by, params, state),
+        Verb::Mode => mode(alloc, by, params, state),
+        Verb::Topic => title(alloc, by, params, state),
+        Verb::Privmsg | Verb::Notice | Verb::Join | Verb::Part | Verb::Quit | Verb::Nick => {
+            Ok(Vec::new(alloc))
+        }
+        Verb::RplWelcome
+        | Verb::RplTopic
+        | Verb::RplNoTopic
+        | Verb::RplNamReply
+        | Verb::RplWhoReply
+        | Verb::Other => Ok(Vec::new(alloc)),
+    }
+}
+
+// Those of a person.
+fn by_person(
+    alloc: Global,
+    verb: Verb,
+    person: Person<'_>,
+    params: &[Text],
+    state: &ChanState,
+) -> Result<Vec<Event>, NoMemory>
+    ensures { IfOk result (λ v. v.items
+        ≡ typed_by verb (SomePerson person.entry.nick.now person.entry.user.now person.entry.host.now) params.now state.now) }
+{
+    let address = joined(alloc, person.user, b'@', person.host)?;
+    let by = Author {
+        nick: person.nick,
+        address: address.as_bytes(),
+    };
+    match verb {
+        Verb::Privmsg => say(alloc, by, params, state),
+        Verb::Notice => notice(alloc, by, params, state),
+        Verb::Join => join(alloc, by, params, state),
+        Verb::Part => part(alloc, by, params, state),
+        Verb::Quit => quit(alloc, by, params, state),
+        Verb::Nick => rename(alloc, by, params, state),
+        Verb::Kick => kick(alloc, by, params, state),
+        Verb::Mode => mode(alloc, by, params, state),
+        Verb::Topic => title(alloc, by, params, state),
+        Verb::RplWelcome
+        | Verb::RplTopic
+        | Verb::RplNoTopic
+        | Verb::RplNamReply
+        | Verb::RplWhoReply
+        | Verb::Other => Ok(Vec::new(alloc)),
+    }
+}

@@ -1,0 +1,140 @@
+// What is done on a channel, as events.
+ghost use Rattle.std.specs.Prelude.{◌≡◌, ◌++◌, ◌∷◌, [], true, IfOk, OnOk, map};
+ghost use Rattle.std.specs.Option.{option_to_list};
+ghost use Rattle.chanstate.specs.Items.{single_at, singles};
+ghost use Rattle.chanstate.specs.Operations.{kicks, modes, topics, mode_on};
+
+use crate::deed::{Author, Deed};
+use crate::event::{Event, Kind};
+use crate::modes::{argument, is_mode, next_arguments, next_sign};
+use crate::state::ChanState;
+use crate::words::{last, param, params_from, text_at};
+use bytetext::{NoMemory, Text};
+use std::alloc::Global;
+
+// What a KICK gives.
+pub(crate) fn kick(
+    alloc: Global,
+    by: Author<'_>,
+    params: &[Text],
+    state: &ChanState,
+) -> Result<Vec<Event>, NoMemory>
+    ensures { IfOk result (λ v. v.items ≡ kicks by.entry.nick.now by.entry.address.now params.now state.now) }
+{
+    let Some(name) = param(params, 0) else {
+        return Ok(Vec::new(alloc));
+    };
+    let Some(target) = param(params, 1) else {
+        return Ok(Vec::new(alloc));
+    };
+    let Some(channel) = state.held(name) else {
+        return Ok(Vec::new(alloc));
+    };
+    let deed = Deed {
+        kind: Kind::Kick,
+        by,
+        about: target,
+        more: &[target, text_at(params, 2)],
+    };
+    deed.on_one(alloc, channel)
+}
+
+// What a TOPIC gives.
+pub(crate) fn title(
+    alloc: Global,
+    by: Author<'_>,
+    params: &[Text],
+    state: &ChanState,
+) -> Result<Vec<Event>, NoMemory>
+    ensures { IfOk result (λ v. v.items ≡ topics by.entry.nick.now by.entry.address.now params.now state.now) }
+{
+    let Some(name) = param(params, 0) else {
+        return Ok(Vec::new(alloc));
+    };
+    let Some(_) = param(params, 1) else {
+        return Ok(Vec::new(alloc));
+    };
+    let Some(topic) = last(params) else {
+        return Ok(Vec::new(alloc));
+    };
+    let Some(channel) = state.held(name) else {
+        return Ok(Vec::new(alloc));
+    };
+    let deed = Deed {
+        kind: Kind::Topc,
+        by,
+        about: topic,
+        more: &[topic],
+    };
+    deed.on_one(alloc, channel)
+}
+
+// What a MODE gives.
+pub(crate) fn mode(
+    alloc: Global,
+    by: Author<'_>,
+    params: &[Text],
+    state: &ChanState,
+) -> Result<Vec<Event>, NoMemory>
+    ensures { IfOk result (λ v. v.items ≡ modes by.entry.nick.now by.entry.address.now params.now state.now) }
+{
+    let Some(name) = param(params, 0) else {
+        return Ok(Vec::new(alloc));
+    };
+    let Some(letters) = param(params, 1) else {
+        return Ok(Vec::new(alloc));
+    };
+    let Some(channel) = state.held(name) else {
+        return Ok(Vec::new(alloc));
+    };
+    each_mode(alloc, by, channel, letters, params_from(params, 2))
+}
+
+// Each single mode of a mode string.
+fn each_mode(
+    alloc: Global,
+    by: Author<'_>,
+    channel: &[u8],
+    letters: &[u8],
+    arguments: &[Text],
+) -> Result<Vec<Event>, NoMemory>
+    ensures { IfOk result (λ v. v.items
+        ≡ map (mode_on by.entry.nick.now by.entry.address.now channel.now) (singles true letters.now arguments.now)) }
+{
+    let mut events = Vec::new(alloc);
+    let mut on = true;
+    let mut rest = arguments;
+    for byte in letters {
+        push_mode(&mut events, alloc, by, channel, on, *byte, rest)?;
+        rest = next_arguments(on, *byte, rest);
+        on = next_sign(on, *byte);
+    }
+    Ok(events)
+}
+
+// One more, if a byte of the mode string is a single mode.
+fn push_mode(
+    events: &mut Vec<Event>,
+    alloc: Global,
+    by: Author<'_>,
+    channel: &[u8],
+    on: bool,
+    byte: u8,
+    arguments: &[Text],
+) -> Result<(), NoMemory>
+    ensures { OnOk result (events.new.items ≡ events.old.items
+        ++ map (mode_on by.entry.nick.now by.entry.address.now channel.now) (option_to_list (single_at on byte arguments.now))) }
+{
+    if !is_mode(byte) {
+        return Ok(());
+    }
+    let signed = [if on { b'+' } else { b'-' }, byte];
+    let deed = Deed {
+        kind: Kind::Mode,
+        by,
+        about: &signed,
+        more: &[&signed, argument(on, byte, arguments)],
+    };
+    events.push(deed.on(alloc, channel)?)?;
+    Ok(())
+}
