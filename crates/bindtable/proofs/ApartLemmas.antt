@@ -5,8 +5,9 @@ use Rattle.std.specs.List.{list_any}
 use Rattle.std.specs.Str.{bytes_eq}
 use Rattle.std.specs.Cmp.Lexicographic.{bytes_decides}
 use Rattle.rfccase.specs.Casemapping.{folded, is_same}
-use Rattle.procstore.specs.declared.kind.Kind.{Kind}
-use Rattle.procstore.specs.declared.kind.Kind.TheVariants.{Raw, Msg, Msgm, Notc, Pub, Pubm}
+use Rattle.bindtable.specs.declared.bind_kind.BindKind.{BindKind}
+use Rattle.bindtable.specs.declared.bind_kind.BindKind.TheVariants.{Raw, Msg, Msgm, Notc, Pub, Pubm, Join, Part, Sign, Kick, Nick, Mode, Topc}
+use Rattle.bindtable.specs.declared.bind_kind.BindKind.TheVariants.{Bot, Time, Cron}
 use Rattle.bindtable.specs.declared.bind.Bind.{Bind}
 use Rattle.bindtable.specs.Kinds.{is_kind, is_single, place_of}
 use Rattle.bindtable.specs.Tables.{is_such, is_replaced, without_replaced}
@@ -33,12 +34,12 @@ once-apart t rivals (b ∷ binds) apart = ((λ passes. none_rivals t rivals b pa
 
 -- ---- kinds
 
--- the kind of a number; another number has pubm's
-kind_at : ℕ → Kind
+-- the kind of a number; another number has cron's
+kind_at : ℕ → BindKind
 kind_at n =
-    cond (n == 0) Raw (cond (n == 1) Msg (cond (n == 2) Msgm (cond (n == 3) Notc (cond (n == 4) Pub Pubm))))
+    cond (n == 0) Raw (cond (n == 1) Msg (cond (n == 2) Msgm (cond (n == 3) Notc (cond (n == 4) Pub (cond (n == 5) Pubm (cond (n == 6) Join (cond (n == 7) Part (cond (n == 8) Sign (cond (n == 9) Kick (cond (n == 10) Nick (cond (n == 11) Mode (cond (n == 12) Topc (cond (n == 13) Bot (cond (n == 14) Time Cron))))))))))))))
 
-kind_at-place_of : (kind : Kind) → kind_at (place_of kind) ≡ kind
+kind_at-place_of : (kind : BindKind) → kind_at (place_of kind) ≡ kind
 unfolding kind_at
 kind_at-place_of Raw = refl
 kind_at-place_of Msg = refl
@@ -46,15 +47,25 @@ kind_at-place_of Msgm = refl
 kind_at-place_of Notc = refl
 kind_at-place_of Pub = refl
 kind_at-place_of Pubm = refl
+kind_at-place_of Join = refl
+kind_at-place_of Part = refl
+kind_at-place_of Sign = refl
+kind_at-place_of Kick = refl
+kind_at-place_of Nick = refl
+kind_at-place_of Mode = refl
+kind_at-place_of Topc = refl
+kind_at-place_of Bot = refl
+kind_at-place_of Time = refl
+kind_at-place_of Cron = refl
 
 -- kinds of one number are one
-pub same_place : (a b : Kind) → place_of a ≡ place_of b → a ≡ b
+pub same_place : (a b : BindKind) → place_of a ≡ place_of b → a ≡ b
 same_place a b e = sym (kind_at-place_of a) ∙ ap kind_at e ∙ kind_at-place_of b
 
-pub same_kind : (a b : Kind) → is_kind a b ≡ true → a ≡ b
+pub same_kind : (a b : BindKind) → is_kind a b ≡ true → a ≡ b
 same_kind a b e = same_place a b (eqb-true (place_of a) (place_of b) e)
 
-pub is_kind-refl : (a : Kind) → is_kind a a ≡ true
+pub is_kind-refl : (a : BindKind) → is_kind a a ≡ true
 is_kind-refl a = eq-eqb (place_of a) (place_of a) refl
 
 -- ---- texts
@@ -81,7 +92,7 @@ right_or true d e = refl
 right_or false d e = e
 
 -- no two are of one kind, mask and proc
-pub once-such : (kind : Kind) (mask proc : List ℕ) (binds : List Bind) → AreApart binds → AtMostOnce (is_such kind mask proc) binds
+pub once-such : (kind : BindKind) (mask proc : List ℕ) (binds : List Bind) → AreApart binds → AtMostOnce (is_such kind mask proc) binds
 once-such kind mask proc = once-apart (is_such kind mask proc) rivals
   where
     rivals : (a b : Bind) → is_such kind mask proc a ≡ true → is_such kind mask proc b ≡ true → is_rival a b ≡ true
@@ -96,7 +107,7 @@ once-such kind mask proc = once-apart (is_such kind mask proc) rivals
         (right_or (is_single a.kind) (bytes_eq a.proc b.proc) (equal_texts a.proc b.proc proc a2.1 b2.1))
 
 -- no two of a single kind have one keyword
-pub once-replaced : (kind : Kind) (mask : List ℕ) (binds : List Bind) → AreApart binds → AtMostOnce (is_replaced kind mask) binds
+pub once-replaced : (kind : BindKind) (mask : List ℕ) (binds : List Bind) → AreApart binds → AtMostOnce (is_replaced kind mask) binds
 once-replaced kind mask = once-apart (is_replaced kind mask) rivals
   where
     rivals : (a b : Bind) → is_replaced kind mask a ≡ true → is_replaced kind mask b ≡ true → is_rival a b ≡ true
@@ -111,17 +122,17 @@ once-replaced kind mask = once-apart (is_replaced kind mask) rivals
         (or_left (is_single a.kind) (bytes_eq a.proc b.proc) (ap is_single (sym (same_kind kind a.kind a2.0)) ∙ a1.0))
 
 -- what is replaced is of the kind
-pub replaced-kind : (kind : Kind) (mask : List ℕ) (b : Bind) → is_replaced kind mask b ≡ true → is_kind kind b.kind ≡ true
+pub replaced-kind : (kind : BindKind) (mask : List ℕ) (b : Bind) → is_replaced kind mask b ≡ true → is_kind kind b.kind ≡ true
 replaced-kind kind mask b e =
     let rest = and_parts (is_single kind) (is_kind kind b.kind && is_same mask b.mask) e in
     (and_parts (is_kind kind b.kind) (is_same mask b.mask) rest.1).0
 
 -- what is such is of the kind
-pub such-kind : (kind : Kind) (mask proc : List ℕ) (b : Bind) → is_such kind mask proc b ≡ true → is_kind kind b.kind ≡ true
+pub such-kind : (kind : BindKind) (mask proc : List ℕ) (b : Bind) → is_such kind mask proc b ≡ true → is_kind kind b.kind ≡ true
 such-kind kind mask proc b e = (and_parts (is_kind kind b.kind) (is_same mask b.mask && bytes_eq b.proc proc) e).0
 
 -- what is left of a single kind has another keyword
-pub no_word-left : (kind : Kind) (mask : List ℕ) (binds : List Bind) → is_single kind ≡ true
+pub no_word-left : (kind : BindKind) (mask : List ℕ) (binds : List Bind) → is_single kind ≡ true
     → list_any (bytes_eq (folded mask)) (map key_of (of_kind kind (without_replaced kind mask binds))) ≡ false
 no_word-left kind mask binds single =
     list_any-kept (bytes_eq (folded mask)) key_of (λ b. is_kind kind b.kind) (λ b. not (is_replaced kind mask b))
@@ -134,7 +145,7 @@ no_word-left kind mask binds single =
     by false k true p q e = absurd cc
 
 -- the same, as the code comes to it
-pub absent-word : (kind : Kind) (mask word : List ℕ) (words : List (List ℕ)) (binds left : List Bind) → is_single kind ≡ true → word ≡ folded mask
+pub absent-word : (kind : BindKind) (mask word : List ℕ) (words : List (List ℕ)) (binds left : List Bind) → is_single kind ≡ true → word ≡ folded mask
     → words ≡ (if is_single kind then map key_of (of_kind kind left) else []) → left ≡ without_replaced kind mask binds → list_any (bytes_eq word) words ≡ false
 absent-word kind mask word words binds left single is_word are_words is_left =
     let keys : words ≡ map key_of (of_kind kind left) = are_words ∙ ap (λ s. if s then map key_of (of_kind kind left) else []) single in
@@ -142,5 +153,5 @@ absent-word kind mask word words binds left single is_word are_words is_left =
     ∙ no_word-left kind mask binds single
 
 -- a bind, where a list is to be read at a place that it has
-abbrev pub any_bind : Kind → Bind
+abbrev pub any_bind : BindKind → Bind
 any_bind kind = record { number = 0; kind = kind; flags = []; mask = []; proc = [] }

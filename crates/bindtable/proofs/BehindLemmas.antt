@@ -17,12 +17,12 @@ use Rattle.wildmask.specs.Signatures.{Pairs, text_signature, is_within}
 use Rattle.bindtable.specs.declared.bind.Bind.{Bind}
 use Rattle.bindtable.specs.declared.index.Entry.{Entry}
 use Rattle.bindtable.specs.Kinds.{is_kind}
-use Rattle.bindtable.specs.Calls.{Occurrence, called, is_called, takes_text, takes_person, numbers_of}
+use Rattle.bindtable.specs.Calls.{Occurrence, called, is_called, takes_event, takes_person, numbers_of}
 use Rattle.bindtable.specs.Masks.{needs_of, entry_of}
 use Rattle.bindtable.specs.Sound.{AreRising}
 use Rattle.bindtable.specs.Behind.{AreKnown, HaveRisen, Tells, behind, bind_of}
 use Rattle.bindtable.proofs.OnceLemmas.{AtMostOnce, find-once, find-none}
-use Rattle.bindtable.proofs.MaskLemmas.{takes_text-needs}
+use Rattle.bindtable.proofs.MaskLemmas.{takes_event-needs}
 
 -- ---- one entry
 
@@ -34,10 +34,10 @@ not_needed event needs pairs (Some b) told is_pairs lacks = sym (ap (λ c. slice
   where
     by : (c : Bool) → is_called event b ≡ c → c ≡ false
     by true e =
-        let rest = and_parts (is_kind event.kind b.kind) (takes_text b event.subject && takes_person b event) e in
-        let text = and_parts (takes_text b event.subject) (takes_person b event) rest.1 in
+        let rest = and_parts (is_kind event.kind b.kind) (takes_event b event && takes_person b event) e in
+        let text = and_parts (takes_event b event) (takes_person b event) rest.1 in
         let has : is_within needs pairs ≡ true = ap (λ n. is_within n pairs) told ∙ ap (is_within (needs_of b)) is_pairs
-        ∙ takes_text-needs b event.subject text.0 in
+        ∙ takes_event-needs b event text.0 in
         absurd cc
     by false e = refl
 

@@ -16,14 +16,14 @@ use Rattle.wildmask.specs.Masks.{bind_mask, is_match}
 use Rattle.wildmask.proofs.TestLemmas.{is_match-Decides}
 use Rattle.flagexpr.specs.Expression.{expression_of, meets}
 use Rattle.flagexpr.specs.Faults.{expression_fault}
-use Rattle.procstore.specs.declared.kind.Kind.{Kind}
+use Rattle.bindtable.specs.declared.bind_kind.BindKind.{BindKind}
 use Rattle.bindtable.specs.declared.bind.Bind.{Bind}
 use Rattle.bindtable.specs.declared.index.Entry.{Entry}
 use Rattle.bindtable.specs.declared.index.KindIndex.{KindIndex}
 use Rattle.bindtable.specs.declared.limits.TheConstants.{MAX_MASK}
-use Rattle.bindtable.specs.Kinds.{is_kind, is_single, has_flags}
-use Rattle.bindtable.specs.Tables.{is_replaced, is_bad_mask}
-use Rattle.bindtable.specs.Calls.{Occurrence, Calls, IsTaken, called, is_called, takes_text, takes_person}
+use Rattle.bindtable.specs.Kinds.{is_kind, is_single, is_cron, has_flags}
+use Rattle.bindtable.specs.Tables.{is_replaced, is_bad_mask, is_bad_cron}
+use Rattle.bindtable.specs.Calls.{Occurrence, Calls, IsTaken, called, is_called, takes_event, takes_minute, takes_person}
 use Rattle.bindtable.specs.Masks.{entry_of, key_of}
 use Rattle.bindtable.specs.Words.{words_of, AreShort, AreWords, AreOf, AreCandidates, IsEntryAt, place_of_word}
 use Rattle.bindtable.specs.Index.{of_kind, IsIndexOf}
@@ -32,6 +32,7 @@ use Rattle.bindtable.specs.Behind.{AreKnown, HaveRisen, behind}
 use Rattle.bindtable.proofs.WordLemmas.{Key, texts_of}
 use Rattle.bindtable.proofs.OnceLemmas.{AtMostOnce, fails_before, list_any-at, none-position}
 use Rattle.bindtable.proofs.ApartLemmas.{any_bind, same_kind, is_kind-refl, swapped_texts, once-replaced}
+use Rattle.bindtable.proofs.MaskLemmas.{takes-keyword}
 use Rattle.bindtable.proofs.SoundLemmas.{apart-filter}
 use Rattle.bindtable.proofs.IndexLemmas.{filter-kept}
 use Rattle.bindtable.proofs.BehindLemmas.{AreFound, found-all, found-filter, found-take, found-drop, behind-entries, known-entries}
@@ -102,9 +103,10 @@ long-word word (k ∷ keys) long short = ap (λ c. c || list_any (λ key. bytes_
     by false e = refl
 
 good-short : (b : Bind) → is_good b ≡ true → length (key_of b) ≤ MAX_MASK
-good-short b good = by (is_bad_mask b.kind b.mask) refl (and_parts (is_none (expression_fault b.flags)) (not (is_bad_mask b.kind b.mask)) good).1
+good-short b good =
+    by (is_bad_mask b.kind b.mask) refl (and_parts (is_none (expression_fault b.flags)) (not (is_bad_mask b.kind b.mask || is_bad_cron b.kind b.mask)) good).1
   where
-    by : (c : Bool) → is_bad_mask b.kind b.mask ≡ c → not c ≡ true → length (key_of b) ≤ MAX_MASK
+    by : (c : Bool) → is_bad_mask b.kind b.mask ≡ c → not (c || is_bad_cron b.kind b.mask) ≡ true → length (key_of b) ≤ MAX_MASK
     by true e fails = absurd cc
     by false e fails =
         let first = or_parts (length b.mask == 0 || nat_lt MAX_MASK (length b.mask)) (is_single b.kind && list_any (λ byte. byte == 32) b.mask) e in
@@ -125,7 +127,7 @@ short-keys p (b ∷ binds) good =
     by false here rest = rest
 
 -- each entry of a single kind has its word
-pub are_words : (kind : Kind) (binds : List Bind) (index : KindIndex) → IsIndexOf kind binds index → list_all is_good binds ≡ true
+pub are_words : (kind : BindKind) (binds : List Bind) (index : KindIndex) → IsIndexOf kind binds index → list_all is_good binds ≡ true
     → is_single kind ≡ true → AreWords index
 are_words kind binds index is good single =
     let words : words_of index ≡ map key_of (of_kind kind binds) = is.words ∙ ap (λ s. if s then map key_of (of_kind kind binds) else []) single in
@@ -141,15 +143,14 @@ are_words kind binds index is good single =
 -- a bind of a single kind that is called is the one of the keyword
 called-word : (event : Occurrence) → is_single event.kind ≡ true → (b : Bind) → is_called event b ≡ true → is_replaced event.kind event.subject b ≡ true
 called-word event single b e =
-    let first = and_parts (is_kind event.kind b.kind) (takes_text b event.subject && takes_person b event) e in
-    let text = (and_parts (takes_text b event.subject) (takes_person b event) first.1).0 in
+    let first = and_parts (is_kind event.kind b.kind) (takes_event b event && takes_person b event) e in
+    let text = (and_parts (takes_event b event) (takes_person b event) first.1).0 in
     let kind : event.kind ≡ b.kind = same_kind event.kind b.kind first.0 in
-    let same : is_same b.mask event.subject ≡ true = ap (λ s. if s then is_same b.mask event.subject else is_match (bind_mask b.mask)
-    event.subject) (sym (ap is_single (sym kind) ∙ single)) ∙ text in
+    let same : is_same b.mask event.subject ≡ true = takes-keyword b event (ap is_single (sym kind) ∙ single) ∙ text in
     λ i. single i && (first.0 i && swapped_texts b.mask event.subject same i)
 
 -- none of the binds of a kind has a word that is none of their keywords
-none-word : (kind : Kind) (word : List ℕ) (binds : List Bind) → list_any (bytes_eq (folded word)) (map key_of binds) ≡ false
+none-word : (kind : BindKind) (word : List ℕ) (binds : List Bind) → list_any (bytes_eq (folded word)) (map key_of binds) ≡ false
     → list_any (is_replaced kind word) binds ≡ false
 none-word kind word [] none = refl
 none-word kind word (b ∷ binds) none =
@@ -165,7 +166,7 @@ none-word kind word (b ∷ binds) none =
 called-of_kind : (event : Occurrence) (binds : List Bind) → called event (of_kind event.kind binds) ≡ called event binds
 called-of_kind event binds =
     filter-kept (is_called event) (λ b. is_kind event.kind b.kind)
-    (λ b e. (and_parts (is_kind event.kind b.kind) (takes_text b event.subject && takes_person b event) e).0) binds
+    (λ b e. (and_parts (is_kind event.kind b.kind) (takes_event b event && takes_person b event) e).0) binds
 
 -- the entries of some of the binds that are held
 from_some : (event : Occurrence) (held xs : List Bind) (some : List Entry) → AreFound held xs → some ≡ map entry_of xs → called event xs ≡ called event held
@@ -180,7 +181,7 @@ any_texts word [] = refl
 any_texts word (k ∷ keys) = ap (λ b. bytes_eq word k.items || b) (any_texts word keys)
 
 -- the place of a keyword is that of the bind that has it
-word-at : (kind : Kind) (word : List ℕ) (xs : List Bind) (keys : List Key) (at : ℕ) (d : Bind) → texts_of keys ≡ map key_of xs
+word-at : (kind : BindKind) (word : List ℕ) (xs : List Bind) (keys : List Key) (at : ℕ) (d : Bind) → texts_of keys ≡ map key_of xs
     → position (λ key. bytes_eq (folded word) key.items) keys ≡ Some at
     → (at < length xs) × (is_same word (get_or xs at d).mask ≡ true)
 word-at kind word xs [] at d words found = absurd cc
@@ -239,9 +240,11 @@ candidates-call event held index some risen apart is = by_kind (is_single event.
 pub called-means : (event : Occurrence) (b : Bind) → (is_called event b ≡ true) ↔ Calls event b
 called-means event b = (told, tested)
   where
-    text : (s : Bool) → ((if s then is_same b.mask event.subject else is_match (bind_mask b.mask) event.subject) ≡ true) ↔ IsTaken s b event.subject
-    text true = bytes_decides (folded b.mask) (folded event.subject)
-    text false = is_match-Decides (bind_mask b.mask) event.subject
+    mask : (s c : Bool) → ((if s then is_same b.mask event.subject
+        else (if c then takes_minute b.mask event.minute else is_match (bind_mask b.mask) event.subject)) ≡ true) ↔ IsTaken s c b event
+    mask true c = bytes_decides (folded b.mask) (folded event.subject)
+    mask false true = (λ e. e, λ e. e)
+    mask false false = is_match-Decides (bind_mask b.mask) event.subject
 
     person : (f m : Bool) → ((not f || m) ≡ true) ↔ (f ≡ true → m ≡ true)
     person true m = (λ e h. e, λ h. h refl)
@@ -249,16 +252,16 @@ called-means event b = (told, tested)
 
     told : is_called event b ≡ true → Calls event b
     told e =
-        let first = and_parts (is_kind event.kind b.kind) (takes_text b event.subject && takes_person b event) e in
-        let second = and_parts (takes_text b event.subject) (takes_person b event) first.1 in
+        let first = and_parts (is_kind event.kind b.kind) (takes_event b event && takes_person b event) e in
+        let second = and_parts (takes_event b event) (takes_person b event) first.1 in
         record {
           kind = same_kind event.kind b.kind first.0;
-          mask = (text (is_single b.kind)).0 second.0;
+          mask = (mask (is_single b.kind) (is_cron b.kind)).0 second.0;
           flags = (person (has_flags b.kind) (meets (expression_of b.flags) event.global event.channel event.bot)).0 second.1;
         }
 
     tested : Calls event b → is_called event b ≡ true
     tested h = λ i.
         (ap (is_kind event.kind) (sym h.kind) ∙ is_kind-refl event.kind) i
-        && ((text (is_single b.kind)).1 h.mask i
+        && ((mask (is_single b.kind) (is_cron b.kind)).1 h.mask i
         && (person (has_flags b.kind) (meets (expression_of b.flags) event.global event.channel event.bot)).1 h.flags i)

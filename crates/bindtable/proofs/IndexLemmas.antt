@@ -9,23 +9,24 @@ use Rattle.std.proofs.lemmas.List.{get_or-set_other, append-nil}
 use Rattle.std.proofs.lemmas.List.Elements.{filter-append}
 use Rattle.std.proofs.lemmas.Grind.{get_or-set_at}
 use Rattle.rfccase.specs.Casemapping.{is_same}
-use Rattle.procstore.specs.declared.kind.Kind.{Kind}
+use Rattle.bindtable.specs.declared.bind_kind.BindKind.{BindKind}
 use Rattle.bindtable.specs.declared.bind.Bind.{Bind}
 use Rattle.bindtable.specs.declared.index.KindIndex.{KindIndex}
 use Rattle.bindtable.specs.Kinds.{is_kind, is_single, place_of}
 use Rattle.bindtable.specs.Tables.{is_such, is_replaced, without_such, without_replaced}
 use Rattle.bindtable.specs.Masks.{entry_of, key_of}
 use Rattle.bindtable.specs.Index.{of_kind, IsIndexOf, AreIndexed}
+use Rattle.bindtable.specs.Words.{words_of}
 use Rattle.bindtable.proofs.ApartLemmas.{same_place, replaced-kind, such-kind, same_kind, is_kind-refl}
 
 -- the index of a kind
-pub index-at : (binds : List Bind) (indexes : List KindIndex) (kind : Kind) (place : ℕ) (d : KindIndex) → AreIndexed binds indexes → place ≡ place_of kind
+pub index-at : (binds : List Bind) (indexes : List KindIndex) (kind : BindKind) (place : ℕ) (d : KindIndex) → AreIndexed binds indexes → place ≡ place_of kind
     → place < length indexes → IsIndexOf kind binds (get_or indexes place d)
 index-at binds indexes kind place d indexed at within =
     indexed kind (get_or indexes place d) (ap (slice_get indexes) (sym at) ∙ slice_get-get_or indexes place d within)
 
 -- an index is as good of other binds that have the same of its kind
-pub IsIndexOf-same : (kind : Kind) (old new : List Bind) (index : KindIndex) → of_kind kind new ≡ of_kind kind old → IsIndexOf kind old index
+pub IsIndexOf-same : (kind : BindKind) (old new : List Bind) (index : KindIndex) → of_kind kind new ≡ of_kind kind old → IsIndexOf kind old index
     → IsIndexOf kind new index
 IsIndexOf-same kind old new index same is =
     record {
@@ -34,9 +35,9 @@ IsIndexOf-same kind old new index same is =
     }
 
 -- one index made anew, and the others kept
-pub AreIndexed-set : (old new : List Bind) (indexes : List KindIndex) (kind : Kind) (place : ℕ) (index : KindIndex) → AreIndexed old indexes
+pub AreIndexed-set : (old new : List Bind) (indexes : List KindIndex) (kind : BindKind) (place : ℕ) (index : KindIndex) → AreIndexed old indexes
     → place ≡ place_of kind
-    → place < length indexes → IsIndexOf kind new index → ((other : Kind) → is_kind other kind ≡ false → of_kind other new ≡ of_kind other old)
+    → place < length indexes → IsIndexOf kind new index → ((other : BindKind) → is_kind other kind ≡ false → of_kind other new ≡ of_kind other old)
     → AreIndexed new (set indexes place index)
 AreIndexed-set old new indexes kind place index indexed at within good others other held found =
     elim (cases_eq (place_of other) place) [
@@ -61,6 +62,16 @@ AreIndexed-set old new indexes kind place index indexed at within good others ot
         slice_get-get_or indexes (place_of other) held inside ∙ ap Some (sym same ∙ read) in
         IsIndexOf-same other old new held (others other (ne_eqb (place_of other) (place_of kind) apart)) (indexed other held was)
 
+-- ---- no binds
+
+-- an index without entries and words is that of no binds
+pub none-indexed : (kind : BindKind) (index : KindIndex) → index.entries.items ≡ [] → words_of index ≡ [] → IsIndexOf kind [] index
+none-indexed kind index entries words = record { entries = entries; words = words ∙ by (is_single kind) }
+  where
+    by : (single : Bool) → [] ≡ (if single then map key_of [] else [])
+    by true = refl
+    by false = refl
+
 -- ---- what other kinds have
 
 -- those of a kind are those among the ones that a test keeps, where it keeps all of the kind
@@ -74,7 +85,7 @@ filter-kept p q keeps (b ∷ binds) = by (q b) (p b) (keeps b) refl (filter-kept
     by false true keep e rest = let never = keep refl in absurd cc
     by false false keep e rest = rest
 
-other_kind : (other kind : Kind) (b : Bind) → is_kind other kind ≡ false → is_kind other b.kind ≡ true → is_kind kind b.kind ≡ true → ⊥
+other_kind : (other kind : BindKind) (b : Bind) → is_kind other kind ≡ false → is_kind other b.kind ≡ true → is_kind kind b.kind ≡ true → ⊥
 other_kind other kind b apart left right =
     let same : kind ≡ other = same_kind kind b.kind right ∙ sym (same_kind other b.kind left) in
     let never : is_kind other kind ≡ true = ap (is_kind other) same ∙ is_kind-refl other in
@@ -85,20 +96,20 @@ not-of true h = absurd (h refl)
 not-of false h = refl
 
 -- binds of other kinds are neither replaced nor taken away
-pub others-replaced : (other kind : Kind) (mask : List ℕ) (binds : List Bind) → is_kind other kind ≡ false
+pub others-replaced : (other kind : BindKind) (mask : List ℕ) (binds : List Bind) → is_kind other kind ≡ false
     → of_kind other (without_replaced kind mask binds) ≡ of_kind other binds
 others-replaced other kind mask binds apart =
     filter-kept (λ b. is_kind other b.kind) (λ b. not (is_replaced kind mask b))
     (λ b of_it. not-of (is_replaced kind mask b) (λ goes. other_kind other kind b apart of_it (replaced-kind kind mask b goes))) binds
 
-pub others-such : (other kind : Kind) (mask proc : List ℕ) (binds : List Bind) → is_kind other kind ≡ false
+pub others-such : (other kind : BindKind) (mask proc : List ℕ) (binds : List Bind) → is_kind other kind ≡ false
     → of_kind other (without_such kind mask proc binds) ≡ of_kind other binds
 others-such other kind mask proc binds apart =
     filter-kept (λ b. is_kind other b.kind) (λ b. not (is_such kind mask proc b))
     (λ b of_it. not-of (is_such kind mask proc b) (λ goes. other_kind other kind b apart of_it (such-kind kind mask proc b goes))) binds
 
 -- nor is one more
-pub others-put : {E : Type 0} (other : Kind) (one : Bind) (old new : List Bind) (r : Result (Unit {0}) E) → is_kind other one.kind ≡ false
+pub others-put : {E : Type 0} (other : BindKind) (one : Bind) (old new : List Bind) (r : Result (Unit {0}) E) → is_kind other one.kind ≡ false
     → OnOk r (new ≡ without_replaced one.kind one.mask old ++ one ∷ []) → OnErr r (new ≡ old) → of_kind other new ≡ of_kind other old
 others-put other one old new (Ok u) apart ok err =
     ap (of_kind other) ok ∙ filter-append (λ b. is_kind other b.kind) (without_replaced one.kind one.mask old) (one ∷ [])
@@ -108,7 +119,7 @@ others-put other one old new (Err e) apart ok err = ap (of_kind other) err
 
 -- ---- a kind that goes by masks replaces none
 
-pub without_replaced-mask : (kind : Kind) (mask : List ℕ) (binds : List Bind) → is_single kind ≡ false → without_replaced kind mask binds ≡ binds
+pub without_replaced-mask : (kind : BindKind) (mask : List ℕ) (binds : List Bind) → is_single kind ≡ false → without_replaced kind mask binds ≡ binds
 without_replaced-mask kind mask [] many = refl
 without_replaced-mask kind mask (b ∷ binds) many =
     let stays : is_replaced kind mask b ≡ false = ap (λ s. s && (is_kind kind b.kind && is_same mask b.mask)) many in

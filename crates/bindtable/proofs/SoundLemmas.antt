@@ -10,10 +10,10 @@ use Rattle.std.specs.List.{list_any, list_all}
 use Rattle.std.specs.Str.{bytes_eq}
 use Rattle.rfccase.specs.Casemapping.{folded, is_same}
 use Rattle.flagexpr.specs.Faults.{expression_fault}
-use Rattle.procstore.specs.declared.kind.Kind.{Kind}
+use Rattle.bindtable.specs.declared.bind_kind.BindKind.{BindKind}
 use Rattle.bindtable.specs.declared.bind.Bind.{Bind}
 use Rattle.bindtable.specs.Kinds.{is_kind, is_single}
-use Rattle.bindtable.specs.Tables.{Asked, is_bad_mask, is_such, is_replaced, count_left, without_replaced, with_flags}
+use Rattle.bindtable.specs.Tables.{Asked, is_bad_cron, is_bad_mask, is_such, is_replaced, count_left, without_replaced, with_flags}
 use Rattle.bindtable.specs.declared.index.KindIndex.{KindIndex}
 use Rattle.bindtable.specs.declared.limits.TheConstants.{MAX_BINDS}
 use Rattle.bindtable.specs.Masks.{entry_of, key_of}
@@ -229,8 +229,8 @@ module _ (asked : Asked) where
     where
       by : (c : Bool) → is_good b ≡ true → is_good (if c then record b { flags = asked.flags } else b) ≡ true
       by true good =
-          ap (λ x. x && not (is_bad_mask b.kind b.mask)) parses
-          ∙ (and_parts (is_none (expression_fault b.flags)) (not (is_bad_mask b.kind b.mask)) good).1
+          ap (λ x. x && not (is_bad_mask b.kind b.mask || is_bad_cron b.kind b.mask)) parses
+          ∙ (and_parts (is_none (expression_fault b.flags)) (not (is_bad_mask b.kind b.mask || is_bad_cron b.kind b.mask)) good).1
       by false good = good
 
   pub sound-flags : (binds new : List Bind) (last : ℕ) → is_none (expression_fault asked.flags) ≡ true → IsSound (record { binds = binds; last = last })
@@ -252,7 +252,7 @@ module _ (asked : Asked) where
       by true = refl
       by false = refl
 
-  same_of_kind : {X : Type 0} (f : Bind → X) → ((b : Bind) → f (with_flags asked b) ≡ f b) → (kind : Kind) (binds : List Bind)
+  same_of_kind : {X : Type 0} (f : Bind → X) → ((b : Bind) → f (with_flags asked b) ≡ f b) → (kind : BindKind) (binds : List Bind)
       → map f (of_kind kind (map (with_flags asked) binds)) ≡ map f (of_kind kind binds)
   same_of_kind f same kind [] = refl
   same_of_kind f same kind (b ∷ binds) =

@@ -14,17 +14,17 @@ use Rattle.wildmask.specs.Masks.{bind_fault}
 use Rattle.wildmask.specs.declared.faults.MaskFault.TheVariants.{MaskEmpty, MaskTooLong}
 use Rattle.flagexpr.specs.declared.fault.FlagFault.{FlagFault}
 use Rattle.flagexpr.specs.Faults.{expression_fault}
-use Rattle.procstore.specs.declared.kind.Kind.{Kind}
+use Rattle.bindtable.specs.declared.bind_kind.BindKind.{BindKind}
 use Rattle.bindtable.specs.declared.bind.Bind.{Bind}
 use Rattle.bindtable.specs.declared.fault.BindFault.{BindFault}
-use Rattle.bindtable.specs.declared.fault.BindFault.TheVariants.{BadFlags, BadMask, Full, NoSuchBind}
+use Rattle.bindtable.specs.declared.fault.BindFault.TheVariants.{BadFlags, BadMask, BadCron, Full, NoSuchBind}
 use Rattle.bindtable.specs.declared.limits.TheConstants.{MAX_BINDS, MAX_MASK, MAX_NUMBER}
 use Rattle.bindtable.specs.Kinds.{is_single}
 use Rattle.bindtable.specs.declared.index.KindIndex.{KindIndex}
 use Rattle.bindtable.specs.Index.{AreIndexed}
 use Rattle.bindtable.specs.Sound.{IsSound, AreApart}
 use Rattle.bindtable.specs.Tables.{Table, Asked, Binds, Unbinds, is_such, without_such, without_replaced, with_flags, with_number, with_new}
-use Rattle.bindtable.specs.Tables.{count_left, is_bad_mask, is_full, later_refusal, refusal, bound, number_of, number_or}
+use Rattle.bindtable.specs.Tables.{count_left, is_bad_cron, is_bad_mask, is_full, later_refusal, refusal, bound, number_of, number_or}
 use Rattle.bindtable.specs.Wishes.{IsAt}
 use Rattle.bindtable.proofs.OnceLemmas.{filter-none, set-once, find-once, list_any-at}
 use Rattle.bindtable.proofs.ApartLemmas.{any_bind, once-such}
@@ -40,7 +40,7 @@ none-found_is t (b ∷ binds) none = by (t b) none (none-found_is t binds)
     by true e rest = absurd cc
     by false e rest = rest e
 
-pub unbinds-from : (old new : Table) (kind : Kind) (mask proc : List ℕ) (o : Option ℕ) (r : Result ℕ BindFault) → r ≡ ok_or o NoSuchBind
+pub unbinds-from : (old new : Table) (kind : BindKind) (mask proc : List ℕ) (o : Option ℕ) (r : Result ℕ BindFault) → r ≡ ok_or o NoSuchBind
     → o ≡ option_map (λ b. b.number) (find (is_such kind mask proc) old.binds)
     → new ≡ record old { binds = without_such kind mask proc old.binds } → Unbinds old kind mask proc r new
 unbinds-from old new kind mask proc o r is_r is_o is_new =
@@ -56,7 +56,7 @@ unbinds-from old new kind mask proc o r is_r is_o is_new =
 
 -- ---- bind: what its tests tell
 
-pub good_mask : (kind : Kind) (mask : List ℕ) → is_bad_mask kind mask ≡ false → bind_fault mask ≡ None
+pub good_mask : (kind : BindKind) (mask : List ℕ) → is_bad_mask kind mask ≡ false → bind_fault mask ≡ None
 good_mask kind mask good =
     let first = or_parts (length mask == 0 || nat_lt MAX_MASK (length mask)) (is_single kind && list_any (λ byte. byte == 32) mask) good in
     let parts = or_parts (length mask == 0) (nat_lt MAX_MASK (length mask)) first.0 in
@@ -67,28 +67,36 @@ good_mask kind mask good =
     by false true p q = absurd cc
     by false false p q = refl
 
--- where a bind isn't refused its mask is good, and where it is new there are a number and room
-pub allowed : (table : Table) (kind : Kind) (mask proc : List ℕ) → later_refusal table kind mask proc ≡ None
-    → (is_bad_mask kind mask ≡ false) × (list_any (is_such kind mask proc) table.binds ≡ false → is_full table kind mask ≡ false)
+-- what a bind that isn't refused has: a good mask, and where it is new a number and room
+pub record Allowed (table : Table) (kind : BindKind) (text proc : List ℕ) : Type 0 where
+  pub mask : is_bad_mask kind text ≡ false
+  pub cron : is_bad_cron kind text ≡ false
+  pub room : list_any (is_such kind text proc) table.binds ≡ false → is_full table kind text ≡ false
+
+pub allowed : (table : Table) (kind : BindKind) (mask proc : List ℕ) → later_refusal table kind mask proc ≡ None → Allowed table kind mask proc
 unfolding later_refusal
-allowed table kind mask proc = by (is_bad_mask kind mask) (list_any (is_such kind mask proc) table.binds) (is_full table kind mask)
+allowed table kind mask proc stands =
+    let parts = by (is_bad_mask kind mask) (is_bad_cron kind mask) (list_any (is_such kind mask proc) table.binds) (is_full table kind mask) stands in
+    record { mask = parts.0; cron = parts.1; room = parts.2 }
   where
-    by : (bad such full : Bool) → (if bad then Some BadMask else (if such then None else (if full then Some Full else None))) ≡ None
-        → (bad ≡ false) × (such ≡ false → full ≡ false)
-    by true such full e = absurd cc
-    by false true full e = (refl, λ no. absurd cc)
-    by false false true e = absurd cc
-    by false false false e = (refl, λ no. refl)
+    by : (bad cron such full : Bool) → (if bad then Some BadMask
+        else (if cron then Some BadCron else (if such then None else (if full then Some Full else None)))) ≡ None
+        → (bad ≡ false) × (cron ≡ false) × (such ≡ false → full ≡ false)
+    by true cron such full e = absurd cc
+    by false true such full e = absurd cc
+    by false false true full e = (refl, refl, λ no. absurd cc)
+    by false false false true e = absurd cc
+    by false false false false e = (refl, refl, λ no. refl)
 
 -- a bind that is allowed leaves a number
-pub number_left : (table : Table) (kind : Kind) (mask : List ℕ) → is_full table kind mask ≡ false → table.last < MAX_NUMBER
+pub number_left : (table : Table) (kind : BindKind) (mask : List ℕ) → is_full table kind mask ≡ false → table.last < MAX_NUMBER
 number_left table kind mask room =
     let parts = or_parts (nat_le MAX_NUMBER table.last) (nat_le MAX_BINDS (count_left kind mask table.binds)) room in
     let none : nat_le MAX_NUMBER table.last ≡ false = parts.0 in
     grind (arith, nat_tests)
 
 -- and room
-pub room_left : (table : Table) (kind : Kind) (mask : List ℕ) → is_full table kind mask ≡ false → count_left kind mask table.binds < MAX_BINDS
+pub room_left : (table : Table) (kind : BindKind) (mask : List ℕ) → is_full table kind mask ≡ false → count_left kind mask table.binds < MAX_BINDS
 room_left table kind mask room =
     let parts = or_parts (nat_le MAX_NUMBER table.last) (nat_le MAX_BINDS (count_left kind mask table.binds)) room in
     let none : nat_le MAX_BINDS (count_left kind mask table.binds) ≡ false = parts.1 in
@@ -174,11 +182,11 @@ module _ (binds new : List Bind) (last : ℕ) (asked : Asked) where
   sound-added parses sound none_stands free is_new =
       let may = allowed (record { binds = binds; last = last }) asked.kind asked.mask asked.proc none_stands in
       sound-new binds new last (last + 1) (with_number asked (last + 1)) sound is_new refl refl
-      (λ i. is_none (parses i) && not (may.0 i)) free
-      (room_left (record { binds = binds; last = last }) asked.kind asked.mask (may.1 free))
+      (λ i. is_none (parses i) && not (may.mask i || may.cron i)) free
+      (room_left (record { binds = binds; last = last }) asked.kind asked.mask (may.room free))
 
   pub last_fits : later_refusal (record { binds = binds; last = last }) asked.kind asked.mask asked.proc ≡ None
       → list_any (is_such asked.kind asked.mask asked.proc) binds ≡ false → last < MAX_NUMBER
   last_fits none_stands free =
       let may = allowed (record { binds = binds; last = last }) asked.kind asked.mask asked.proc none_stands in
-      number_left (record { binds = binds; last = last }) asked.kind asked.mask (may.1 free)
+      number_left (record { binds = binds; last = last }) asked.kind asked.mask (may.room free)

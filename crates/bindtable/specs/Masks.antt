@@ -1,23 +1,29 @@
 -- What is kept beside a bind: its mask, and what is known of it without looking at it.
-use Rattle.std.specs.Prelude.{ℕ, if◌then◌else◌, List, Option, Some, None}
+use Rattle.std.specs.Prelude.{◌≡◌, ℕ, true, false, if◌then◌else◌, List}
 use Rattle.rfccase.specs.Casemapping.{folded}
-use Rattle.wildmask.specs.Masks.{GivenMask, bind_mask, mask_items}
+use Rattle.wildmask.specs.Masks.{bind_mask, mask_items}
 use Rattle.wildmask.specs.Signatures.{Pairs, no_pairs, items_signature}
-use Rattle.procstore.specs.declared.kind.Kind.{Kind}
+use Rattle.bottimers.specs.declared.calendar.CivilMinute.{CivilMinute}
+use Rattle.bottimers.specs.CronSets.{sets_match}
+use Rattle.bottimers.specs.CronMask.{mask_matches}
+use Rattle.bindtable.specs.declared.bind_kind.BindKind.{BindKind}
 use Rattle.bindtable.specs.declared.bind.Bind.{Bind}
 use Rattle.bindtable.specs.declared.index.Entry.{Entry}
-use Rattle.bindtable.specs.Kinds.{is_single}
+use Rattle.bindtable.specs.declared.matcher.Matcher.{Matcher}
+use Rattle.bindtable.specs.declared.matcher.Matcher.TheVariants.{Keyword, Minutes, Wildcards}
+use Rattle.bindtable.specs.Kinds.{is_single, is_cron}
 
--- the mask of a kind that goes by masks
-abbrev pub mask_for : Kind → List ℕ → Option GivenMask
-mask_for kind text = if is_single kind then None else Some (bind_mask text)
+-- what is read of a mask says what the mask does
+abbrev pub Says : BindKind → List ℕ → Matcher → Type 0
+Says kind text Keyword = is_single kind ≡ true
+Says kind text (Minutes sets) =
+    (is_single kind ≡ false) × (is_cron kind ≡ true) × ((at : CivilMinute) → sets_match sets at ≡ mask_matches text at)
+Says kind text (Wildcards mask) = (is_single kind ≡ false) × (is_cron kind ≡ false) × (mask ≡ bind_mask text)
 
-abbrev pub mask_of : Bind → Option GivenMask
-mask_of b = mask_for b.kind b.mask
-
--- the pairs of bytes that a subject needs to be matched; a keyword is found by itself
+-- the pairs of bytes that a subject needs to be matched; a keyword is found by itself, and cron fields ask for none
 abbrev pub needs_of : Bind → Pairs
-needs_of b = if is_single b.kind then no_pairs else items_signature (mask_items (bind_mask b.mask))
+needs_of b =
+    if is_single b.kind then no_pairs else (if is_cron b.kind then no_pairs else items_signature (mask_items (bind_mask b.mask)))
 
 abbrev pub entry_of : Bind → Entry
 entry_of b = record { number = b.number; needs = needs_of b }

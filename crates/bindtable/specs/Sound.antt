@@ -7,7 +7,7 @@ use Rattle.flagexpr.specs.Faults.{expression_fault}
 use Rattle.bindtable.specs.declared.bind.Bind.{Bind}
 use Rattle.bindtable.specs.declared.limits.TheConstants.{MAX_BINDS}
 use Rattle.bindtable.specs.Kinds.{is_kind, is_single}
-use Rattle.bindtable.specs.Tables.{Table, is_bad_mask}
+use Rattle.bindtable.specs.Tables.{Table, is_bad_mask, is_bad_cron}
 
 -- each number is above those before it, and none is above the last
 abbrev pub AreRising : ℕ → List Bind → ℕ → Type 0
@@ -24,7 +24,7 @@ AreApart (b ∷ binds) = (list_any (is_rival b) binds ≡ false) × AreApart bin
 
 -- whether a bind could be made
 abbrev pub is_good : Bind → Bool
-is_good b = is_none (expression_fault b.flags) && not (is_bad_mask b.kind b.mask)
+is_good b = is_none (expression_fault b.flags) && not (is_bad_mask b.kind b.mask || is_bad_cron b.kind b.mask)
 
 -- what holds of every table
 pub record IsSound (table : Table) : Type 0 where

@@ -8,12 +8,13 @@ use Rattle.bytetext.specs.declared.failure.Failure.{Failure}
 use Rattle.bytetext.specs.declared.failure.Failure.TheVariants.{Refused, NoMemory}
 use Rattle.rfccase.specs.Casemapping.{is_same}
 use Rattle.flagexpr.specs.Faults.{expression_fault}
-use Rattle.procstore.specs.declared.kind.Kind.{Kind}
+use Rattle.bottimers.specs.CronMask.{is_mask}
+use Rattle.bindtable.specs.declared.bind_kind.BindKind.{BindKind}
 use Rattle.bindtable.specs.declared.bind.Bind.{Bind}
 use Rattle.bindtable.specs.declared.fault.BindFault.{BindFault}
-use Rattle.bindtable.specs.declared.fault.BindFault.TheVariants.{BadFlags, BadMask, Full, NoSuchBind}
+use Rattle.bindtable.specs.declared.fault.BindFault.TheVariants.{BadFlags, BadMask, BadCron, Full, NoSuchBind}
 use Rattle.bindtable.specs.declared.limits.TheConstants.{MAX_BINDS, MAX_MASK, MAX_NUMBER}
-use Rattle.bindtable.specs.Kinds.{is_kind, is_single}
+use Rattle.bindtable.specs.Kinds.{is_kind, is_single, is_cron}
 
 -- the binds, oldest first, and the last number given
 pub record Table : Type 0 where
@@ -25,7 +26,7 @@ no_binds = record { binds = []; last = 0 }
 
 -- what `bind` is asked for
 pub record Asked : Type 0 where
-  pub kind : Kind
+  pub kind : BindKind
   pub flags : List ℕ
   pub mask : List ℕ
   pub proc : List ℕ
@@ -33,40 +34,45 @@ pub record Asked : Type 0 where
 -- ---- which binds a call speaks of
 
 -- the bind of this kind, of this mask by casemapping, and of this proc byte for byte
-abbrev pub is_such : Kind → List ℕ → List ℕ → Bind → Bool
+abbrev pub is_such : BindKind → List ℕ → List ℕ → Bind → Bool
 is_such kind mask proc b = is_kind kind b.kind && (is_same mask b.mask && bytes_eq b.proc proc)
 
 -- the bind that one of a single kind replaces: the one of its kind with an equal keyword
-abbrev pub is_replaced : Kind → List ℕ → Bind → Bool
+abbrev pub is_replaced : BindKind → List ℕ → Bind → Bool
 is_replaced kind mask b = is_single kind && (is_kind kind b.kind && is_same mask b.mask)
 
 -- what a bind leaves of those before it
-abbrev pub without_replaced : Kind → List ℕ → List Bind → List Bind
+abbrev pub without_replaced : BindKind → List ℕ → List Bind → List Bind
 without_replaced kind mask binds = filter (λ b. not (is_replaced kind mask b)) binds
 
-abbrev pub without_such : Kind → List ℕ → List ℕ → List Bind → List Bind
+abbrev pub without_such : BindKind → List ℕ → List ℕ → List Bind → List Bind
 without_such kind mask proc binds = filter (λ b. not (is_such kind mask proc b)) binds
 
 -- ---- why `bind` refuses
 
 -- a mask has 1 to 120 bytes, and that of a single kind is one word
-abbrev pub is_bad_mask : Kind → List ℕ → Bool
+abbrev pub is_bad_mask : BindKind → List ℕ → Bool
 is_bad_mask kind mask = length mask == 0 || nat_lt MAX_MASK (length mask) || (is_single kind && list_any (λ byte. byte == 32) mask)
 
+-- whether the kind goes by cron fields and the mask isn't such
+abbrev pub is_bad_cron : BindKind → List ℕ → Bool
+is_bad_cron kind mask = is_cron kind && not (is_mask mask)
+
 -- how many binds stay when one of this kind and mask comes
-abbrev pub count_left : Kind → List ℕ → List Bind → ℕ
+abbrev pub count_left : BindKind → List ℕ → List Bind → ℕ
 count_left kind mask binds = count_by (λ b. not (is_replaced kind mask b)) binds
 
 -- whether there is no number or no room for one more
-abbrev pub is_full : Table → Kind → List ℕ → Bool
+abbrev pub is_full : Table → BindKind → List ℕ → Bool
 is_full table kind mask = nat_le MAX_NUMBER table.last || nat_le MAX_BINDS (count_left kind mask table.binds)
 
--- why a bind whose flags parse is refused: a bad mask, or no room for one that is new
-unfoldable pub later_refusal : Table → Kind → List ℕ → List ℕ → Option BindFault
+-- why a bind whose flags parse is refused: a bad mask, bad cron fields, or no room for one that is new
+unfoldable pub later_refusal : Table → BindKind → List ℕ → List ℕ → Option BindFault
 later_refusal table kind mask proc =
     if is_bad_mask kind mask then Some BadMask else
+    (if is_bad_cron kind mask then Some BadCron else
     (if list_any (is_such kind mask proc) table.binds then None else
-    (if is_full table kind mask then Some Full else None))
+    (if is_full table kind mask then Some Full else None)))
 
 -- the first reason that stands against a bind
 unfoldable pub refusal : Table → Asked → Option BindFault
@@ -113,7 +119,7 @@ Binds old asked (Ok number) new = (refusal old asked ≡ None) × (number ≡ nu
 Binds old asked (Err (Refused fault)) new = (refusal old asked ≡ Some fault) × (new ≡ old)
 Binds old asked (Err NoMemory) new = (refusal old asked ≡ None) × (new ≡ old)
 
-abbrev pub Unbinds : Table → Kind → List ℕ → List ℕ → Result ℕ BindFault → Table → Type 0
+abbrev pub Unbinds : Table → BindKind → List ℕ → List ℕ → Result ℕ BindFault → Table → Type 0
 Unbinds old kind mask proc (Ok number) new =
     (Some number ≡ option_map (λ b. b.number) (find (is_such kind mask proc) old.binds))
     × (new ≡ record old { binds = without_such kind mask proc old.binds })
@@ -124,5 +130,6 @@ Unbinds old kind mask proc (Err fault) new =
 abbrev pub code_of : BindFault → List ℕ
 code_of BadFlags = codes "B1"
 code_of BadMask = codes "B2"
+code_of BadCron = codes "B3"
 code_of Full = codes "B4"
 code_of NoSuchBind = codes "B5"

@@ -3,7 +3,7 @@ use Rattle.std.specs.Prelude.{◌≡◌, ℕ, ◌≤◌, Bool, true, false, List
 use Rattle.std.specs.List.{list_any}
 use Rattle.std.specs.Str.{bytes_eq}
 use Rattle.rfccase.specs.Casemapping.{folded}
-use Rattle.procstore.specs.declared.kind.Kind.{Kind}
+use Rattle.bindtable.specs.declared.bind_kind.BindKind.{BindKind}
 use Rattle.bindtable.specs.declared.index.Entry.{Entry}
 use Rattle.bindtable.specs.declared.index.KindIndex.{KindIndex}
 use Rattle.bindtable.specs.declared.limits.TheConstants.{MAX_MASK}
@@ -41,5 +41,5 @@ abbrev pub AreOf : Bool → List ℕ → KindIndex → List Entry → Type 0
 AreOf true subject index some = IsEntryAt (place_of_word subject index) index.entries.items some
 AreOf false subject index some = some ≡ index.entries.items
 
-abbrev pub AreCandidates : Kind → List ℕ → KindIndex → List Entry → Type 0
+abbrev pub AreCandidates : BindKind → List ℕ → KindIndex → List Entry → Type 0
 AreCandidates kind subject index some = AreOf (is_single kind) subject index some

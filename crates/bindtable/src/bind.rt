@@ -1,6 +1,6 @@
 // One bind, as it was given.
+use crate::bind_kind::BindKind;
 use bytetext::{NoMemory, Seq, Text, TryCopy};
-use procstore::Kind;
 use std::alloc::Global;
 
 /// A bind: a proc, and the events that it is called for.
@@ -9,10 +9,10 @@ pub struct Bind {
     /// From 1, rising in the order in which binds are made. A number is never used again.
     pub number: u32,
     /// The kind of event.
-    pub kind: Kind,
-    /// The flag expression that a person has to meet, as it was given last. A raw bind ignores it.
+    pub kind: BindKind,
+    /// The flag expression that a person has to meet, as it was given last. Binds of raw, time, cron and bot ignore it.
     pub flags: Text,
-    /// The keyword of a msg or pub bind, and otherwise the mask, as it was first given.
+    /// The keyword of a msg, pub or bot bind, and otherwise the mask, as it was first given.
     pub mask: Text,
     /// The name of the proc.
     pub proc: Text,

@@ -55,6 +55,7 @@ impl<'t, 'e> Called<'t, 'e> {
             event: Event {
                 kind: event.kind,
                 subject: event.subject,
+                minute: event.minute,
                 global: event.global,
                 channel: event.channel,
                 bot: event.bot,

@@ -12,8 +12,11 @@ pub enum BindFault {
     #[error("write the flags as *, or as letters with + - and | or & between parts")]
     BadFlags,
     /// B2: the mask is empty or has more than 120 bytes, or it holds a space though the kind goes by one word.
-    #[error("give a mask of 1 to 120 bytes, for msg and pub one word without a space")]
+    #[error("give a mask of 1 to 120 bytes, for msg, pub and bot one word without a space")]
     BadMask,
+    /// B3: the mask of a cron bind isn't cron fields.
+    #[error("bad cron mask: write up to five fields, as '0-30/10 8,20 * * 1-5'")]
+    BadCron,
     /// B4: 500 binds are held and none is replaced, or no number is left.
     #[error("unbind something first: the table is full, or its numbers are spent")]
     Full,
@@ -23,13 +26,14 @@ pub enum BindFault {
 }
 
 impl BindFault {
-    /// The short code that transcripts print: `B1`, `B2`, `B4` or `B5`.
+    /// The short code that transcripts print: `B1` to `B5`.
     pub fn code(self) -> &'static str
         ensures { result.now ≡ code_of self }
     {
         match self {
             BindFault::BadFlags => "B1",
             BindFault::BadMask => "B2",
+            BindFault::BadCron => "B3",
             BindFault::Full => "B4",
             BindFault::NoSuchBind => "B5",
         }

@@ -1,61 +1,60 @@
 // A bind that is held, with what its flags and its mask say, so that no event reads their texts again.
-ghost use Rattle.std.specs.Prelude.{◌≡◌, None, IfOk, IfErr};
-ghost use Rattle.flagexpr.specs.Expression.{expression_of};
-ghost use Rattle.wildmask.specs.Masks.{bind_fault};
-ghost use Rattle.bytetext.specs.declared.failure.Failure.TheVariants.{NoMemory as no_memory};
-ghost use Rattle.bindtable.specs.Masks.{mask_for};
+ghost use Rattle.std.specs.Prelude.{◌≡◌, IfOk};
 
 use crate::bind::Bind;
+use crate::bind_kind::BindKind;
 use crate::event::Event;
-use crate::fault::BindError;
 use crate::index::Entry;
 use crate::kinds::{has_flags, is_kind, is_single};
-use bytetext::{Failure, NoMemory, Text, TryCopy};
+use crate::matcher::{Matcher, is_in};
+use bytetext::{NoMemory, Text, TryCopy};
 use flagexpr::FlagExpr;
-use procstore::Kind;
-use rfccase::{fold_text, same};
+use rfccase::same;
 use std::alloc::Global;
 use std::marker::Model;
-use wildmask::{Mask, Signature};
+use wildmask::Signature;
 
 #[derive(Drop)]
 pub(crate) struct Held {
     bind: Bind,
     flags: FlagExpr,
-    // none where the kind goes by keywords
-    mask: Option<Mask>,
+    matcher: Matcher,
 }
 
 impl Model for Held {
     ghost use Rattle.std.specs.Prelude.{◌≡◌};
     ghost use Rattle.flagexpr.specs.Expression.{expression_of};
     ghost use Rattle.bindtable.specs.declared.bind.Bind.{Bind};
-    ghost use Rattle.bindtable.specs.Masks.{mask_of};
+    ghost use Rattle.bindtable.specs.Masks.{Says};
 
     ghost Value = { Bind };
 
     ghost view = { λ h. h.bind };
 
-    ghost invariant = { λ h. (h.flags ≡ expression_of h.bind.flags) × (h.mask ≡ mask_of h.bind) };
+    ghost invariant = { λ h. (h.flags ≡ expression_of h.bind.flags) × Says h.bind.kind h.bind.mask h.matcher };
 }
 
 impl Held {
-    ghost use Rattle.std.specs.Prelude.{◌≡◌, None, IfOk, IfErr};
+    ghost use Rattle.std.specs.Prelude.{◌≡◌, None, false, IfOk};
     ghost use Rattle.flagexpr.specs.Expression.{expression_of};
     ghost use Rattle.wildmask.specs.Masks.{bind_fault};
-    ghost use Rattle.bytetext.specs.declared.failure.Failure.TheVariants.{NoMemory as no_memory};
-    ghost use Rattle.bindtable.specs.Tables.{is_such, is_replaced};
-    ghost use Rattle.bindtable.specs.Calls.{takes_text, takes_person, is_called, seen};
+    ghost use Rattle.bindtable.specs.Tables.{is_bad_cron, is_such, is_replaced};
+    ghost use Rattle.bindtable.specs.Calls.{takes_event, takes_person, is_called, seen};
     ghost use Rattle.bindtable.specs.Masks.{entry_of, needs_of};
 
     // A bind whose flags say this.
     pub(crate) fn new(alloc: Global, bind: Bind, flags: FlagExpr) -> Result<Held, NoMemory>
         requires flags { flags ≡ expression_of bind.flags }
         requires mask { bind_fault bind.mask ≡ None }
+        requires cron { is_bad_cron bind.kind bind.mask ≡ false }
         ensures { IfOk result (λ held. held ≡ bind) }
     {
-        let mask = mask_of(alloc, bind.kind, bind.mask.as_bytes())?;
-        Ok(Held { bind, flags, mask })
+        let matcher = Matcher::new(alloc, bind.kind, bind.mask.as_bytes())?;
+        Ok(Held {
+            bind,
+            flags,
+            matcher,
+        })
     }
 
     // The bind.
@@ -71,7 +70,7 @@ impl Held {
         self.bind.number
     }
 
-    pub(crate) fn kind(&self) -> Kind
+    pub(crate) fn kind(&self) -> BindKind
         ensures { result ≡ self.now.kind }
     {
         self.bind.kind
@@ -84,7 +83,7 @@ impl Held {
     }
 
     // Whether it has this kind, mask and proc.
-    pub(crate) fn is_such(&self, kind: Kind, mask: &[u8], proc: &[u8]) -> bool
+    pub(crate) fn is_such(&self, kind: BindKind, mask: &[u8], proc: &[u8]) -> bool
         ensures { result ≡ is_such kind mask.now proc.now self.now }
     {
         is_kind(kind, self.bind.kind)
@@ -93,7 +92,7 @@ impl Held {
     }
 
     // Whether a bind of this kind and mask replaces it.
-    pub(crate) fn is_replaced(&self, kind: Kind, mask: &[u8]) -> bool
+    pub(crate) fn is_replaced(&self, kind: BindKind, mask: &[u8]) -> bool
         ensures { result ≡ is_replaced kind mask.now self.now }
     {
         is_single(kind) && is_kind(kind, self.bind.kind) && same(self.bind.mask.as_bytes(), mask)
@@ -122,9 +121,9 @@ impl Held {
     fn needs(&self) -> Signature
         ensures { result ≡ needs_of self.now }
     {
-        match &self.mask {
-            Some(mask) => mask.signature(),
-            None => Signature::of(&[]),
+        match &self.matcher {
+            Matcher::Wildcards(mask) => mask.signature(),
+            Matcher::Keyword | Matcher::Minutes(_) => Signature::of(&[]),
         }
     }
 
@@ -132,17 +131,16 @@ impl Held {
     pub(crate) fn is_called(&self, event: &Event) -> bool
         ensures { result ≡ is_called (seen event.now) self.now }
     {
-        is_kind(event.kind, self.bind.kind)
-            && self.takes_text(event.subject)
-            && self.takes_person(event)
+        is_kind(event.kind, self.bind.kind) && self.takes_event(event) && self.takes_person(event)
     }
 
-    fn takes_text(&self, subject: &[u8]) -> bool
-        ensures { result ≡ takes_text self.now subject.now }
+    fn takes_event(&self, event: &Event) -> bool
+        ensures { result ≡ takes_event self.now (seen event.now) }
     {
-        match &self.mask {
-            Some(mask) => mask.matches(subject),
-            None => same(self.bind.mask.as_bytes(), subject),
+        match &self.matcher {
+            Matcher::Keyword => same(self.bind.mask.as_bytes(), event.subject),
+            Matcher::Minutes(cron) => is_in(cron, &event.minute),
+            Matcher::Wildcards(mask) => mask.matches(event.subject),
         }
     }
 
@@ -153,31 +151,14 @@ impl Held {
     }
 }
 
-// The mask of a kind that goes by masks.
-fn mask_of(alloc: Global, kind: Kind, text: &[u8]) -> Result<Option<Mask>, NoMemory>
-    requires { bind_fault text.now ≡ None }
-    ensures { IfOk result (λ mask. mask ≡ mask_for kind text.now) }
-{
-    if is_single(kind) {
-        return Ok(None);
-    }
-    match Mask::bind(alloc, text) {
-        Ok(mask) => Ok(Some(mask)),
-        Err(_) => Err(NoMemory),
-    }
-}
-
 impl TryCopy for Held {
     fn copy(&self, alloc: Global) -> Result<Held, NoMemory> {
         let bind = self.bind.copy(alloc)?;
-        let mask = match &self.mask {
-            Some(mask) => Some(mask.copy(alloc)?),
-            None => None,
-        };
+        let matcher = self.matcher.copy(alloc)?;
         Ok(Held {
             bind,
             flags: self.flags,
-            mask,
+            matcher,
         })
     }
 }

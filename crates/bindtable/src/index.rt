@@ -6,11 +6,11 @@ ghost use Rattle.indexmap.specs.IndexSet.{spare};
 ghost use Rattle.bindtable.specs.Kinds.{is_single};
 ghost use Rattle.bindtable.specs.Words.{words_of, HasNoWord, AreWords, AreCandidates, place_of_word};
 
+use crate::bind_kind::BindKind;
 use crate::kinds::is_single;
 use crate::limits::MAX_MASK;
 use bytetext::NoMemory;
 use indexmap::IndexSet;
-use procstore::Kind;
 use rfccase::ShortFold;
 use std::alloc::Global;
 use wildmask::Signature;
@@ -95,7 +95,7 @@ impl KindIndex {
     }
 
     // The entries of the binds that may be called: all of a kind that goes by masks, and the one of a keyword.
-    pub(crate) fn candidates(&self, kind: Kind, subject: &[u8]) -> &[Entry]
+    pub(crate) fn candidates(&self, kind: BindKind, subject: &[u8]) -> &[Entry]
         requires { is_single kind ≡ true → AreWords self.now }
         ensures { AreCandidates kind subject.now self.now result.now }
     {

@@ -11,37 +11,48 @@ ghost use Rattle.bindtable.specs.Index.{IsIndexOf, AreIndexed};
 ghost use Rattle.bindtable.specs.Sound.{AreApart};
 ghost use Rattle.bindtable.specs.Tables.{count_left, is_replaced, is_such, without_replaced, without_such};
 
+use crate::bind_kind::BindKind;
 use crate::held::Held;
 use crate::index::KindIndex;
 use crate::kinds::{KINDS, is_kind, is_single, place_of};
 use bytetext::{NoMemory, TryCopy};
-use procstore::Kind;
 use rfccase::fold_text;
 use std::alloc::Global;
+use std::array;
 
 // The place of the bind of this kind, mask and proc.
-pub(crate) fn place_of_such(held: &[Held], kind: Kind, mask: &[u8], proc: &[u8]) -> Option<usize>
+pub(crate) fn place_of_such(
+    held: &[Held],
+    kind: BindKind,
+    mask: &[u8],
+    proc: &[u8],
+) -> Option<usize>
     ensures { result ≡ position (is_such kind mask.now proc.now) held.now }
 {
     held.iter().position(|one| one.is_such(kind, mask, proc))
 }
 
 // The place of the bind that one of this kind and mask replaces.
-fn place_of_replaced(held: &[Held], kind: Kind, mask: &[u8]) -> Option<usize>
+fn place_of_replaced(held: &[Held], kind: BindKind, mask: &[u8]) -> Option<usize>
     ensures { result ≡ position (is_replaced kind mask.now) held.now }
 {
     held.iter().position(|one| one.is_replaced(kind, mask))
 }
 
 // How many binds are of this kind.
-fn count_of_kind(held: &[Held], kind: Kind) -> usize
+fn count_of_kind(held: &[Held], kind: BindKind) -> usize
     ensures { result ≡ count_by (λ b. is_kind kind b.kind) held.now }
 {
     held.iter().filter(|one| is_kind(kind, one.kind())).count()
 }
 
 // Takes away the bind at a place, and gives its number. Takes no memory.
-pub(crate) fn take_out(held: &mut Vec<Held>, index: &mut KindIndex, kind: Kind, at: usize) -> u32
+pub(crate) fn take_out(
+    held: &mut Vec<Held>,
+    index: &mut KindIndex,
+    kind: BindKind,
+    at: usize,
+) -> u32
     requires within { at < vec_len held.old }
     requires kind { (b : Bind) → is_kind kind (slice_index_or held.old.items at b).kind ≡ true }
     requires indexed { IsIndexOf kind held.old.items index.old }
@@ -61,7 +72,7 @@ pub(crate) fn take_out(held: &mut Vec<Held>, index: &mut KindIndex, kind: Kind, 
 }
 
 // Takes away the bind that one of this kind and mask replaces, if there is one. Takes no memory.
-fn drop_replaced(held: &mut Vec<Held>, index: &mut KindIndex, kind: Kind, mask: &[u8])
+fn drop_replaced(held: &mut Vec<Held>, index: &mut KindIndex, kind: BindKind, mask: &[u8])
     requires apart { AreApart held.old.items }
     requires indexed { IsIndexOf kind held.old.items index.old }
     ensures indexed { IsIndexOf kind held.new.items index.new }
@@ -145,7 +156,7 @@ pub(crate) fn put(
 pub(crate) fn take_such(
     held: &mut Vec<Held>,
     indexes: &mut [KindIndex; KINDS],
-    kind: Kind,
+    kind: BindKind,
     mask: &[u8],
     proc: &[u8],
 ) -> Option<u32>
@@ -165,14 +176,14 @@ pub(crate) fn take_such(
 }
 
 // Whether there is a bind of this kind, mask and proc.
-pub(crate) fn has_such(held: &[Held], kind: Kind, mask: &[u8], proc: &[u8]) -> bool
+pub(crate) fn has_such(held: &[Held], kind: BindKind, mask: &[u8], proc: &[u8]) -> bool
     ensures { result ≡ list_any (is_such kind mask.now proc.now) held.now }
 {
     held.iter().any(|one| one.is_such(kind, mask, proc))
 }
 
 // How many binds stay when one of this kind and mask comes.
-pub(crate) fn count_left(held: &[Held], kind: Kind, mask: &[u8]) -> usize
+pub(crate) fn count_left(held: &[Held], kind: BindKind, mask: &[u8]) -> usize
     ensures { result ≡ count_left kind mask.now held.now }
 {
     held.iter()
@@ -184,14 +195,7 @@ pub(crate) fn count_left(held: &[Held], kind: Kind, mask: &[u8]) -> usize
 pub(crate) fn no_indexes(alloc: Global) -> [KindIndex; KINDS]
     ensures { AreIndexed [] result }
 {
-    [
-        KindIndex::new(alloc),
-        KindIndex::new(alloc),
-        KindIndex::new(alloc),
-        KindIndex::new(alloc),
-        KindIndex::new(alloc),
-        KindIndex::new(alloc),
-    ]
+    array::from_fn(|_| KindIndex::new(alloc))
 }
 
 // A copy of each bind, in order, with indexes of their own.

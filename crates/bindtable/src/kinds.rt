@@ -1,50 +1,107 @@
 // What a kind of bind is.
 ghost use Rattle.std.specs.Prelude.{◌≡◌, ◌<◌};
-ghost use Rattle.bindtable.specs.Kinds.{place_of, is_kind, is_single, has_flags};
+ghost use Rattle.bindtable.specs.Kinds.{place_of, is_kind, is_single, is_cron, has_flags};
 
-use procstore::Kind;
+use crate::bind_kind::BindKind;
 
 // How many kinds there are.
-pub(crate) const KINDS: usize = 6;
+pub(crate) const KINDS: usize = 16;
 
 // The number of a kind.
-pub(crate) fn place_of(kind: Kind) -> usize
+pub(crate) fn place_of(kind: BindKind) -> usize
     ensures place { result ≡ place_of kind }
     ensures within { result < KINDS }
 {
     match kind {
-        Kind::Raw => 0,
-        Kind::Msg => 1,
-        Kind::Msgm => 2,
-        Kind::Notc => 3,
-        Kind::Pub => 4,
-        Kind::Pubm => 5,
+        BindKind::Raw => 0,
+        BindKind::Msg => 1,
+        BindKind::Msgm => 2,
+        BindKind::Notc => 3,
+        BindKind::Pub => 4,
+        BindKind::Pubm => 5,
+        BindKind::Join => 6,
+        BindKind::Part => 7,
+        BindKind::Sign => 8,
+        BindKind::Kick => 9,
+        BindKind::Nick => 10,
+        BindKind::Mode => 11,
+        BindKind::Topc => 12,
+        BindKind::Bot => 13,
+        BindKind::Time => 14,
+        BindKind::Cron => 15,
     }
 }
 
 // Whether two kinds are one.
-pub(crate) fn is_kind(a: Kind, b: Kind) -> bool
+pub(crate) fn is_kind(a: BindKind, b: BindKind) -> bool
     ensures { result ≡ is_kind a b }
 {
     place_of(a) == place_of(b)
 }
 
 // Whether a keyword has one bind at most.
-pub(crate) fn is_single(kind: Kind) -> bool
+pub(crate) fn is_single(kind: BindKind) -> bool
     ensures { result ≡ is_single kind }
 {
     match kind {
-        Kind::Msg | Kind::Pub => true,
-        Kind::Raw | Kind::Msgm | Kind::Notc | Kind::Pubm => false,
+        BindKind::Msg | BindKind::Pub | BindKind::Bot => true,
+        BindKind::Raw
+        | BindKind::Msgm
+        | BindKind::Notc
+        | BindKind::Pubm
+        | BindKind::Join
+        | BindKind::Part
+        | BindKind::Sign
+        | BindKind::Kick
+        | BindKind::Nick
+        | BindKind::Mode
+        | BindKind::Topc
+        | BindKind::Time
+        | BindKind::Cron => false,
+    }
+}
+
+// Whether its mask is cron fields.
+pub(crate) fn is_cron(kind: BindKind) -> bool
+    ensures { result ≡ is_cron kind }
+{
+    match kind {
+        BindKind::Cron => true,
+        BindKind::Raw
+        | BindKind::Msg
+        | BindKind::Msgm
+        | BindKind::Notc
+        | BindKind::Pub
+        | BindKind::Pubm
+        | BindKind::Join
+        | BindKind::Part
+        | BindKind::Sign
+        | BindKind::Kick
+        | BindKind::Nick
+        | BindKind::Mode
+        | BindKind::Topc
+        | BindKind::Bot
+        | BindKind::Time => false,
     }
 }
 
 // Whether the flags of a bind count.
-pub(crate) fn has_flags(kind: Kind) -> bool
+pub(crate) fn has_flags(kind: BindKind) -> bool
     ensures { result ≡ has_flags kind }
 {
     match kind {
-        Kind::Raw => false,
-        Kind::Msg | Kind::Msgm | Kind::Notc | Kind::Pub | Kind::Pubm => true,
+        BindKind::Msg
+        | BindKind::Msgm
+        | BindKind::Notc
+        | BindKind::Pub
+        | BindKind::Pubm
+        | BindKind::Join
+        | BindKind::Part
+        | BindKind::Sign
+        | BindKind::Kick
+        | BindKind::Nick
+        | BindKind::Mode
+        | BindKind::Topc => true,
+        BindKind::Raw | BindKind::Bot | BindKind::Time | BindKind::Cron => false,
     }
 }

@@ -1,6 +1,7 @@
 // The table of a bot's binds.
 
 use crate::bind::{Bind, Binds};
+use crate::bind_kind::BindKind;
 use crate::called::{Called, held_of};
 use crate::event::Event;
 use crate::fault::{BindError, BindFault};
@@ -9,11 +10,10 @@ use crate::index::KindIndex;
 use crate::keep::{copy_of, count_left, has_such, no_indexes, place_of_such, take_such};
 use crate::kinds::{KINDS, place_of};
 use crate::limits::{MAX_BINDS, MAX_NUMBER};
-use crate::shapes::is_bad_mask;
+use crate::shapes::{is_bad_cron, is_bad_mask};
 use crate::wish::{Wish, add, renew};
 use bytetext::{Failure, NoMemory, Seq, TryCopy};
 use flagexpr::FlagExpr;
-use procstore::Kind;
 use std::alloc::Global;
 use std::marker::Model;
 
@@ -21,10 +21,10 @@ use std::marker::Model;
 ///
 /// ```text
 /// let mut table = BindTable::new(alloc);
-/// table.bind(alloc, Kind::Pub, b"*", b"!x", b"p")?;                // 1
-/// table.bind(alloc, Kind::Pub, b"*", b"!X", b"q")?;                // 2: it replaces the first
-/// table.bind(alloc, Kind::Pub, b"o", b"!x", b"q")?;                // 2 again: only its flags change
-/// table.unbind(Kind::Pub, b"!x", b"p")                             // Err(NoSuchBind)
+/// table.bind(alloc, BindKind::Pub, b"*", b"!x", b"p")?;                // 1
+/// table.bind(alloc, BindKind::Pub, b"*", b"!X", b"q")?;                // 2: it replaces the first
+/// table.bind(alloc, BindKind::Pub, b"o", b"!x", b"q")?;                // 2 again: only its flags change
+/// table.unbind(BindKind::Pub, b"!x", b"p")                             // Err(NoSuchBind)
 ///
 /// let mut called = table.called(&event);
 /// while let Some(bind) = called.next() {
@@ -75,8 +75,7 @@ impl BindTable {
     }
 
     /// What always holds of a table: its numbers rise from 1 and none is above the last one given; no two binds have one
-    /// kind, mask and proc, nor one keyword of a single kind; each has flags that parse and a mask that is none too long;
-    /// and there are at most 500. There is nothing to run: who relies on it calls it for its clause.
+    /// kind, mask and proc, nor one keyword of a single kind; each could be made; and there are at most 500. There is nothing to run: who relies on it calls it for its clause.
     pub fn are_sound(&self)
         ensures { IsSound self.now }
     {
@@ -86,18 +85,18 @@ impl BindTable {
     /// Makes a bind, and gives its number.
     ///
     /// The same kind, mask by casemapping and proc byte for byte again gets the new flags, and keeps its number, its
-    /// place and its mask's first spelling. Any other bind stands last under the next number. One of a single kind, msg
-    /// or pub, replaces the one of its kind with an equal keyword. Numbers rise from 1 and are never used again.
+    /// place and its mask's first spelling. Any other bind stands last under the next number. One of a single kind, msg,
+    /// pub or bot, replaces the one of its kind with an equal keyword. Numbers rise from 1 and are never used again.
     ///
     /// # Errors
     /// In this order: `BadFlags` where the flags are no flag expression; `BadMask` where the mask is empty or has more
-    /// than 120 bytes, or holds a space though the kind is single; `Full`, for a bind that is new, where 500 others would
-    /// stay beside it or the last number, 4,294,967,295, is given; `NoMemory` where a growth is refused. None changes the
-    /// table.
+    /// than 120 bytes, or holds a space though the kind is single; `BadCron` where the kind is cron and the mask isn't cron
+    /// fields; `Full`, for a bind that is new, where 500 others would stay beside it or the last number, 4,294,967,295, is
+    /// given; `NoMemory` where a growth is refused. None changes the table.
     pub fn bind(
         &mut self,
         alloc: Global,
-        kind: Kind,
+        kind: BindKind,
         flags: &[u8],
         mask: &[u8],
         proc: &[u8],
@@ -149,7 +148,7 @@ impl BindTable {
     ///
     /// # Errors
     /// `NoSuchBind` where there is none; the table is as before.
-    pub fn unbind(&mut self, kind: Kind, mask: &[u8], proc: &[u8]) -> Result<u32, BindFault>
+    pub fn unbind(&mut self, kind: BindKind, mask: &[u8], proc: &[u8]) -> Result<u32, BindFault>
         ensures { Unbinds self.old kind mask.now proc.now result self.new }
     {
         take_such(&mut self.held, &mut self.indexes, kind, mask, proc).ok_or(BindFault::NoSuchBind)
@@ -202,11 +201,14 @@ impl BindTable {
 
     // Why a bind whose flags parse can't be made.
     #[tactic(auto, unfolding(crate::specs::Tables::later_refusal))]
-    fn later_refusal(&self, kind: Kind, mask: &[u8], proc: &[u8]) -> Option<BindFault>
+    fn later_refusal(&self, kind: BindKind, mask: &[u8], proc: &[u8]) -> Option<BindFault>
         ensures { result ≡ later_refusal self.now kind mask.now proc.now }
     {
         if is_bad_mask(kind, mask) {
             return Some(BindFault::BadMask);
+        }
+        if is_bad_cron(kind, mask) {
+            return Some(BindFault::BadCron);
         }
         if has_such(&self.held, kind, mask, proc) {
             return None;
@@ -218,7 +220,7 @@ impl BindTable {
     }
 
     // Whether there is no room or no number for a new bind.
-    fn is_full(&self, kind: Kind, mask: &[u8]) -> bool
+    fn is_full(&self, kind: BindKind, mask: &[u8]) -> bool
         ensures { result ≡ is_full self.now kind mask.now }
     {
         self.last >= MAX_NUMBER || count_left(&self.held, kind, mask) >= MAX_BINDS

@@ -6,19 +6,19 @@ ghost use Rattle.bindtable.specs.Index.{AreIndexed};
 ghost use Rattle.bindtable.specs.Wishes.{asked_of, IsWish, IsFound};
 
 use crate::bind::Bind;
+use crate::bind_kind::BindKind;
 use crate::held::Held;
 use crate::index::KindIndex;
 use crate::keep::put;
 use crate::kinds::KINDS;
 use bytetext::{NoMemory, Text};
 use flagexpr::FlagExpr;
-use procstore::Kind;
 use std::alloc::Global;
 
 // What a bind is to be, with what its flags say.
 #[derive(Drop)]
 pub(crate) struct Wish<'a> {
-    pub(crate) kind: Kind,
+    pub(crate) kind: BindKind,
     pub(crate) flags: &'a [u8],
     pub(crate) mask: &'a [u8],
     pub(crate) proc: &'a [u8],

@@ -1,5 +1,5 @@
 // One thing that a proc asks its bot to do.
-use bytetext::{NoMemory, TryCopy};
+use bytetext::{NoMemory, Text, TryCopy};
 use std::alloc::Global;
 use userfile::Change;
 
@@ -8,12 +8,62 @@ use userfile::Change;
 pub enum Action {
     /// Asks for a change of the userfile: it waits at the bot until the bot is pumped.
     Ask(Change),
+    /// Makes a timer, which counts minutes.
+    Timer(TimerWish),
+    /// Makes a utimer, which counts seconds.
+    Utimer(TimerWish),
+    /// Takes away the timer or utimer of this id.
+    KillTimer(u32),
+    /// Sends a text to another bot.
+    SendBot(BotWish),
 }
 
 impl TryCopy for Action {
     fn copy(&self, alloc: Global) -> Result<Action, NoMemory> {
         match self {
             Action::Ask(change) => Ok(Action::Ask(change.copy(alloc)?)),
+            Action::Timer(wish) => Ok(Action::Timer(wish.copy(alloc)?)),
+            Action::Utimer(wish) => Ok(Action::Utimer(wish.copy(alloc)?)),
+            Action::KillTimer(id) => Ok(Action::KillTimer(*id)),
+            Action::SendBot(wish) => Ok(Action::SendBot(wish.copy(alloc)?)),
         }
+    }
+}
+
+/// A timer or utimer that is asked for. It counts from the last second that the bot's clock has seen.
+#[derive(Debug, Drop)]
+pub struct TimerWish {
+    /// Minutes, or seconds of a utimer, from one call to the next.
+    pub interval: u32,
+    /// How many calls it makes, or 0 for one after another without end.
+    pub count: u32,
+    /// The name of the proc that it calls.
+    pub proc: Text,
+}
+
+impl TryCopy for TimerWish {
+    fn copy(&self, alloc: Global) -> Result<TimerWish, NoMemory> {
+        let proc = self.proc.copy(alloc)?;
+        Ok(TimerWish {
+            interval: self.interval,
+            count: self.count,
+            proc,
+        })
+    }
+}
+
+/// A text for another bot.
+#[derive(Debug, Drop)]
+pub struct BotWish {
+    /// The number of the bot that it is for.
+    pub to: u16,
+    /// The text.
+    pub text: Text,
+}
+
+impl TryCopy for BotWish {
+    fn copy(&self, alloc: Global) -> Result<BotWish, NoMemory> {
+        let text = self.text.copy(alloc)?;
+        Ok(BotWish { to: self.to, text })
     }
 }

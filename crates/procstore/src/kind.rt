@@ -1,9 +1,7 @@
-// What kind of event a proc is called for.
-ghost use Rattle.std.specs.Prelude.{◌≡◌, Some};
-ghost use Rattle.procstore.specs.Kinds.{word_of, kind_of};
+// What a proc is called for.
 
-/// The kind of event that a bind waits for and that a proc is called for. Each has the meaning of the Eggdrop bind type
-/// of the same word (Eggdrop 1.9, Tcl commands, "Bind types").
+/// What a proc is called for: the kind of event of its bind, with the meaning of the Eggdrop bind type of the same word
+/// (Eggdrop 1.9, Tcl commands, "Bind types"), or a timer that is due.
 #[derive(Clone, Copy, Debug, PartialEq, Eq)]
 pub enum Kind {
     /// Any line of the server, by its command.
@@ -18,39 +16,26 @@ pub enum Kind {
     Pub,
     /// A message to a channel, by the channel and the whole text.
     Pubm,
-}
-
-// Every kind.
-const ALL: [Kind; 6] = [
-    Kind::Raw,
-    Kind::Msg,
-    Kind::Msgm,
-    Kind::Notc,
-    Kind::Pub,
-    Kind::Pubm,
-];
-
-impl Kind {
-    /// The word that scripts write.
-    pub fn word(self) -> &'static [u8]
-        ensures word { result.now ≡ word_of self }
-        // No two kinds share a word.
-        ensures own { kind_of result.now ≡ Some self }
-    {
-        match self {
-            Kind::Raw => b"raw",
-            Kind::Msg => b"msg",
-            Kind::Msgm => b"msgm",
-            Kind::Notc => b"notc",
-            Kind::Pub => b"pub",
-            Kind::Pubm => b"pubm",
-        }
-    }
-
-    /// The kind whose word this is, byte for byte, if there is one.
-    pub fn of_word(word: &[u8]) -> Option<Kind>
-        ensures { result ≡ kind_of word.now }
-    {
-        ALL.iter().copied().find(|kind| kind.word() == word)
-    }
+    /// Someone joins a channel.
+    Join,
+    /// Someone leaves a channel.
+    Part,
+    /// Someone leaves the server.
+    Sign,
+    /// Someone is kicked from a channel.
+    Kick,
+    /// Someone takes another nick.
+    Nick,
+    /// One mode of a channel is set or cleared.
+    Mode,
+    /// A channel gets another topic.
+    Topc,
+    /// The first word of a text of another bot.
+    Bot,
+    /// A minute begins, by its time text.
+    Time,
+    /// A minute begins, by cron fields.
+    Cron,
+    /// A timer or a utimer is due. It names its proc itself, and so no bind has this kind.
+    Timer,
 }

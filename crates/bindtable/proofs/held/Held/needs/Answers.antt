@@ -1,9 +1,14 @@
-use Rattle.std.proofs.Common.{sym, ◌∙◌, ap}
-use Rattle.bindtable.specs.Masks.{mask_of}
-use Rattle.bindtable.proofs.MaskLemmas.{needs_of-mask}
+use Rattle.std.proofs.Common.{subst, ◌∙◌}
+use Rattle.bindtable.specs.declared.bind.Bind.{Bind}
+use Rattle.bindtable.specs.declared.matcher.Matcher.{Matcher}
+use Rattle.bindtable.specs.declared.matcher.Matcher.TheVariants.{Wildcards}
+use Rattle.bindtable.specs.Masks.{Says}
+use Rattle.bindtable.proofs.MaskLemmas.{needs-wildcards}
 use Rattle.bindtable.proofs.held.Held.needs.Goals as goal
 
-pub returns-in-Some : goal.returns-in-Some
-returns-in-Some c =
+pub returns-in-Wildcards : goal.returns-in-Wildcards
+returns-in-Wildcards c =
     c.signature.ensures.value
-    ∙ needs_of-mask c.args.self.now c.in-Some.mask (sym c.in-Some.is ∙ (c.self.invariant.1 ∙ ap mask_of c.self.view_is))
+    ∙ needs-wildcards c.args.self.now c.in-Wildcards.mask
+    (subst (λ (b : Bind). Says b.kind b.mask (Wildcards c.in-Wildcards.mask)) c.self.view_is
+    (subst (λ (m : Matcher). Says c.self.inside.bind.kind c.self.inside.bind.mask m) c.in-Wildcards.is c.self.invariant.1))

@@ -19,11 +19,12 @@ returns-in-Some c =
 
 pub make-requires-clause-wish : goal.make-requires-clause-wish
 make-requires-clause-wish c =
+    let may = allowed c.args.self.now c.args.kind c.args.mask.now c.args.proc.now (sym c.later_refusal.ensures ∙ c.in_default.is) in
     record {
       parses = sym c.parse.ensures.fault ∙ ap result_err c.in-Ok.is;
       expression = c.in-Ok.ensures.value;
-      mask = good_mask c.args.kind c.args.mask.now (allowed c.args.self.now c.args.kind c.args.mask.now c.args.proc.now (sym
-          c.later_refusal.ensures ∙ c.in_default.is)).0;
+      mask = good_mask c.args.kind c.args.mask.now may.mask;
+      cron = may.cron;
     }
 
 pub returns-in-Ok-make : goal.returns-in-Ok-make
