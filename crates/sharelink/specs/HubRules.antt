@@ -1,18 +1,20 @@
 -- The hub's side of the link, call by call.
 use Rattle.std.specs.Prelude.{ℕ, zero, suc, ◌+◌, ◌==◌, nat_lt, Bool, ◌||◌, List, [], ◌∷◌, ◌++◌, length, take, drop, if◌then◌else◌, Option}
-use Rattle.std.specs.Prelude.{None, Some, Ok}
+use Rattle.std.specs.Prelude.{None, Some, Result, Ok}
 use Rattle.userfile.specs.Records.{Records, no_records}
 use Rattle.userfile.specs.Apply.{bad_shape, refusal, changed}
 use Rattle.userfile.specs.declared.change.Change.{Change}
 use Rattle.userfile.specs.declared.error.ChangeFault.{ChangeFault}
 use Rattle.sharewire.specs.declared.packet.Packet.{Packet}
-use Rattle.sharewire.specs.declared.packet.Packet.TheVariants.{Hello, Change as change_packet}
+use Rattle.sharewire.specs.declared.packet.Packet.TheVariants.{Hello, Change as change_packet, BotText}
 use Rattle.sharelink.specs.declared.answer.Outgoing.{Outgoing}
-use Rattle.sharelink.specs.declared.answer.Note.TheVariants.{Queued, Idle, Accepted, Refused, Served, Stray}
+use Rattle.sharelink.specs.declared.answer.Note.TheVariants.{Queued, Idle, Accepted, Refused, Served, Relayed, Text, Stray}
+use Rattle.sharelink.specs.declared.error.LinkFault.{LinkFault}
 use Rattle.sharelink.specs.declared.error.LinkFault.TheVariants.{BadChange, AsksFull, NumbersSpent}
 use Rattle.sharelink.specs.declared.accepted.AcceptedChange.{AcceptedChange}
 use Rattle.sharelink.specs.declared.TheConstants.{MAX_ASKS, HELLO_CHANGES}
 use Rattle.sharelink.specs.Meets.{Row, noted, refused}
+use Rattle.sharelink.specs.Texts.{is_no_bot, text_fault, text_by, text_sent}
 
 -- what a hub stands for: its leaves, its records, the accepted changes with who asked for them, and the asks that wait
 pub record Hub : Type 0 where
@@ -122,9 +124,29 @@ hello_served old leaf version = record {
   after = old;
 }
 
--- a hello of one of the leaves at a version that the hub has is served, and nothing else is taken
-abbrev pub hub_received : Hub → Packet → Row Hub
-hub_received old (Hello leaf version) =
+-- a hello of one of the leaves, at a version that the hub has
+abbrev pub hello_received : Hub → ℕ → ℕ → Row Hub
+hello_received old leaf version =
     if is_no_leaf old.leaves leaf || nat_lt (version_of old) version then noted Stray old
     else hello_served old leaf version
+
+-- a text is sent on to the leaf that it is for
+abbrev pub relayed : Hub → ℕ → ℕ → List ℕ → Row Hub
+relayed old from to text = record { answer = Ok (record { note = Relayed; packets = text_by to from to text ∷ [] }); after = old }
+
+-- a text of one of the net's bots to another of them: one for the hub ends here
+abbrev pub hub_text_received : Hub → ℕ → ℕ → List ℕ → Row Hub
+hub_text_received old from to text =
+    if is_no_bot old.leaves from || is_no_bot old.leaves to then noted Stray old
+    else if to == 0 then noted (Text from text) old
+    else relayed old from to text
+
+-- a hello is answered, a text taken or sent on, and nothing else is taken
+abbrev pub hub_received : Hub → Packet → Row Hub
+hub_received old (Hello leaf version) = hello_received old leaf version
+hub_received old (BotText from to text) = hub_text_received old from to text
 hub_received old other = noted Stray old
+
+-- the hub's own text goes to the leaf that it is for
+abbrev pub hub_text : Hub → ℕ → List ℕ → ℕ → Result Outgoing LinkFault
+hub_text hub to text sent = text_sent (text_fault hub.leaves 0 to text sent) (text_by to 0 to text)

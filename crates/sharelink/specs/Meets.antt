@@ -4,7 +4,7 @@ use Rattle.bytetext.specs.declared.failure.Failure.{Failure}
 use Rattle.bytetext.specs.declared.failure.Failure.TheVariants.{Refused as refused_by, NoMemory}
 use Rattle.sharelink.specs.declared.answer.Answer.{Answer}
 use Rattle.sharelink.specs.declared.answer.Note.{Note}
-use Rattle.sharelink.specs.declared.answer.Note.TheVariants.{Queued, Idle, Accepted, Refused, Served, Old, Early, Applied, Stray}
+use Rattle.sharelink.specs.declared.answer.Note.TheVariants.{Queued, Idle, Accepted, Refused, Served, Old, Early, Applied, Relayed, Text, Stray}
 use Rattle.sharelink.specs.declared.error.LinkFault.{LinkFault}
 
 -- a rule gives what is answered and the state that the call leaves
@@ -20,11 +20,14 @@ noted note after = record { answer = Ok (record { note = note; packets = [] }); 
 abbrev pub refused : {S : Type 0} → LinkFault → S → Row S
 refused fault old = record { answer = Err fault; after = old }
 
--- what takes memory: an ask that waits, a change that is accepted or applied, and so many packets, if there are any
+-- what takes memory: an ask that waits, a change that is accepted or applied, a text that is sent on or that ends here, and so
+-- many packets, if there are any
 abbrev pub TakesMemory : Note → ℕ → Type 0
 TakesMemory Queued sent = Unit {0}
 TakesMemory (Accepted number) sent = Unit {0}
 TakesMemory (Applied number) sent = Unit {0}
+TakesMemory Relayed sent = Unit {0}
+TakesMemory (Text from text) sent = Unit {0}
 TakesMemory Idle sent = 0 < sent
 TakesMemory (Served count) sent = 0 < sent
 TakesMemory (Refused fault) sent = ⊥

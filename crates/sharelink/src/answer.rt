@@ -1,13 +1,13 @@
 // What a call of a link answers.
 ghost use Rattle.std.specs.Prelude.{◌≡◌, []};
 
-use bytetext::{NoMemory, Seq, TryCopy};
+use bytetext::{NoMemory, Seq, Text, TryCopy};
 use sharewire::Packet;
 use std::alloc::Global;
 use userfile::ChangeFault;
 
 /// What came of a call.
-#[derive(Clone, Copy, Debug, PartialEq, Eq)]
+#[derive(Debug, Drop)]
 pub enum Note {
     /// The ask waits for a pump.
     Queued,
@@ -25,8 +25,38 @@ pub enum Note {
     Early,
     /// The leaf applied the change of this number.
     Applied(u32),
+    /// The hub sends the text on to the leaf that it is for.
+    Relayed,
+    /// A text for this bot.
+    Text {
+        /// The bot that says it.
+        from: u16,
+        /// What is said: 1 to 400 bytes, none of them NUL, CR or LF, where the packet was read from bytes.
+        text: Text,
+    },
     /// The packet is not for this bot, or names what the net does not have.
     Stray,
+}
+
+impl TryCopy for Note {
+    fn copy(&self, alloc: Global) -> Result<Note, NoMemory> {
+        match self {
+            Note::Queued => Ok(Note::Queued),
+            Note::Idle => Ok(Note::Idle),
+            Note::Accepted(number) => Ok(Note::Accepted(*number)),
+            Note::Refused(fault) => Ok(Note::Refused(*fault)),
+            Note::Served(count) => Ok(Note::Served(*count)),
+            Note::Old => Ok(Note::Old),
+            Note::Early => Ok(Note::Early),
+            Note::Applied(number) => Ok(Note::Applied(*number)),
+            Note::Relayed => Ok(Note::Relayed),
+            Note::Text { from, text } => Ok(Note::Text {
+                from: *from,
+                text: text.copy(alloc)?,
+            }),
+            Note::Stray => Ok(Note::Stray),
+        }
+    }
 }
 
 /// A packet and the bot that it goes to.
@@ -74,7 +104,7 @@ impl Answer {
 impl TryCopy for Answer {
     fn copy(&self, alloc: Global) -> Result<Answer, NoMemory> {
         Ok(Answer {
-            note: self.note,
+            note: self.note.copy(alloc)?,
             packets: self.packets.copy(alloc)?,
         })
     }

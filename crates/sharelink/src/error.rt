@@ -21,6 +21,12 @@ pub enum LinkFault {
     /// S4: the version is 4,294,967,295.
     #[error("the hub's numbers are spent: make the net anew")]
     NumbersSpent,
+    /// S7: there is no such bot, it is the sender itself, or the text is none that a bot may tell another.
+    #[error("no such text goes there: 1 to 400 bytes without NUL, CR and LF, to another bot of the net")]
+    BadBotText,
+    /// S6: the step has sent 64 texts.
+    #[error("too many texts in one step: send the others in a later one")]
+    TextsFull,
 }
 
 impl LinkFault {
@@ -33,10 +39,12 @@ impl LinkFault {
             LinkFault::AsksFull => "S1",
             LinkFault::Diverged => "S3",
             LinkFault::NumbersSpent => "S4",
+            LinkFault::BadBotText => "S7",
+            LinkFault::TextsFull => "S6",
         }
     }
 }
 
 /// Why a call changed nothing: a rule stands against it, or else a growth was refused. `NoMemory` comes only where
-/// something is kept (an ask, an accepted or an applied change) or packets are sent.
+/// something is kept (an ask, an accepted or an applied change), a text is handed on or packets are sent.
 pub type LinkError = Failure<LinkFault>;

@@ -5,8 +5,9 @@ ghost use Rattle.sharelink.specs.HubRules.{next_to, numbered_from, to_each};
 use crate::accepted::AcceptedChange;
 use crate::answer::{Answer, Note, Outgoing, Outgoings};
 use crate::error::{LinkError, LinkFault};
+use crate::texts::{text_by, text_fault};
 use crate::{HELLO_CHANGES, MAX_ASKS};
-use bytetext::{NoMemory, Seq, TryCopy, copies_of};
+use bytetext::{NoMemory, Seq, Text, TryCopy, copies_of, refuse};
 use sharewire::Packet;
 use std::alloc::Global;
 use std::collections::VecDeque;
@@ -43,7 +44,9 @@ impl Model for HubLink {
 impl HubLink {
     ghost use Rattle.std.specs.Prelude.{◌≡◌, ◌≤◌, [], length, IfOk, false};
     ghost use Rattle.sharelink.specs.Meets.{Meets};
+    ghost use Rattle.sharelink.specs.Texts.{Gives};
     ghost use Rattle.sharelink.specs.HubRules.{new_hub, hub_asked, hub_pumped, hub_received, version_of, with_oldest};
+    ghost use Rattle.sharelink.specs.HubRules.{hello_received, hub_text_received, hub_text};
     ghost use Rattle.sharelink.specs.declared.TheConstants.{MAX_LEAVES};
 
     /// A hub without records, for this many leaves, at most 1,000. Takes no memory.
@@ -157,7 +160,8 @@ impl HubLink {
     }
 
     /// Takes a packet. A hello of a leaf of the net, at a version that the hub has, is `Served` with the changes that
-    /// follow, at most 16; any other packet is `Stray`.
+    /// follow, at most 16. A text of a bot of the net is `Text` where it is for the hub, and `Relayed` to the leaf that
+    /// it is for. Any other packet is `Stray`.
     ///
     /// # Errors
     /// `NoMemory`, which leaves the hub as it was. `Stray`, and a hello that no change follows, take no memory.
@@ -165,17 +169,72 @@ impl HubLink {
         ensures row { Meets self.old (hub_received self.old packet.now) result self.new }
         ensures few { IfOk result (λ answer. length answer.packets ≤ HELLO_CHANGES) }
     {
-        let Packet::Hello { leaf, version } = packet else {
-            return Ok(Answer::only(alloc, Note::Stray));
-        };
-        if *leaf == 0 || *leaf > self.leaves || *version > self.version() {
+        match packet {
+            Packet::Hello { leaf, version } => self.receive_hello(alloc, *leaf, *version),
+            Packet::BotText { from, to, text } => self.receive_text(alloc, *from, *to, text),
+            Packet::Change { .. }
+            | Packet::Request { .. }
+            | Packet::Accepted { .. }
+            | Packet::Refused { .. } => Ok(Answer::only(alloc, Note::Stray)),
+        }
+    }
+
+    // Answers a leaf's hello.
+    fn receive_hello(&self, alloc: Global, leaf: u16, version: u32) -> Result<Answer, LinkError>
+        ensures row { Meets self.now (hello_received self.now leaf version) result self.now }
+        ensures few { IfOk result (λ answer. length answer.packets ≤ HELLO_CHANGES) }
+    {
+        if leaf == 0 || leaf > self.leaves || version > self.version() {
             return Ok(Answer::only(alloc, Note::Stray));
         }
-        let packets = next_changes(alloc, *leaf, *version, self.accepted.as_slice())?;
+        let packets = next_changes(alloc, leaf, version, self.accepted.as_slice())?;
         Ok(Answer {
             note: Note::Served(packets.len()),
             packets,
         })
+    }
+
+    // Takes a text, or sends it on.
+    fn receive_text(
+        &self,
+        alloc: Global,
+        from: u16,
+        to: u16,
+        text: &Text,
+    ) -> Result<Answer, LinkError>
+        ensures row { Meets self.now (hub_text_received self.now from to text.now) result self.now }
+        ensures few { IfOk result (λ answer. length answer.packets ≤ HELLO_CHANGES) }
+    {
+        if from > self.leaves || to > self.leaves {
+            return Ok(Answer::only(alloc, Note::Stray));
+        }
+        if to == 0 {
+            let text = text.copy(alloc)?;
+            return Ok(Answer::only(alloc, Note::Text { from, text }));
+        }
+        let packets = vec![in alloc; text_by(alloc, to, from, to, text.as_bytes())?]?;
+        Ok(Answer {
+            note: Note::Relayed,
+            packets: Seq::new(packets),
+        })
+    }
+
+    /// A text to a leaf, which the caller is to send, where its step has sent so many so far. The hub stays as it was.
+    ///
+    /// # Errors
+    /// `BadBotText` where there is no such leaf or the text is none that a bot may tell another, then `TextsFull` from
+    /// 64 on, then `NoMemory`.
+    pub fn send_text(
+        &self,
+        alloc: Global,
+        to: u16,
+        text: &[u8],
+        sent: usize,
+    ) -> Result<Outgoing, LinkError>
+        ensures row { Gives (hub_text self.now to text.now sent) result }
+    {
+        refuse(text_fault(self.leaves, 0, to, text, sent))?;
+        Ok(text_by(alloc, to, 0, to, text)?)
     }
 }
 

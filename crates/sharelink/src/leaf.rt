@@ -1,7 +1,8 @@
 // A leaf's end of the link.
 use crate::answer::{Answer, Note, Outgoing};
 use crate::error::{LinkError, LinkFault};
-use bytetext::{NoMemory, Seq, TryCopy};
+use crate::texts::{text_by, text_fault};
+use bytetext::{NoMemory, Seq, Text, TryCopy, refuse};
 use sharewire::Packet;
 use std::alloc::Global;
 use std::marker::Model;
@@ -23,7 +24,7 @@ impl Model for LeafLink {
 
     ghost Value = { Leaf };
 
-    ghost view = { λ l. record { number = l.number; version = l.version; records = l.userfile } };
+    ghost view = { λ l. record { number = l.number; leaves = l.leaves; version = l.version; records = l.userfile } };
 
     ghost invariant = { λ l. (1 ≤ l.number) × (l.number ≤ l.leaves) × (l.leaves ≤ MAX_LEAVES) };
 }
@@ -31,14 +32,16 @@ impl Model for LeafLink {
 impl LeafLink {
     ghost use Rattle.std.specs.Prelude.{◌≡◌, ◌≤◌, [], length, IfOk, IsErr, false};
     ghost use Rattle.sharelink.specs.Meets.{Meets};
+    ghost use Rattle.sharelink.specs.Texts.{Gives};
     ghost use Rattle.sharelink.specs.LeafRules.{new_leaf, leaf_asked, leaf_pumped, leaf_received};
+    ghost use Rattle.sharelink.specs.LeafRules.{change_received, leaf_text_received, leaf_text};
     ghost use Rattle.sharelink.specs.declared.TheConstants.{MAX_LEAVES};
 
     /// The leaf of this number, from 1 to the number of leaves, without records. Takes no memory.
     pub fn new(alloc: Global, number: u16, leaves: u16) -> LeafLink
         requires numbered { (1 ≤ number) × (number ≤ leaves) }
         requires few { leaves ≤ MAX_LEAVES }
-        ensures { result ≡ new_leaf number }
+        ensures { result ≡ new_leaf number leaves }
     {
         LeafLink {
             number,
@@ -106,7 +109,7 @@ impl LeafLink {
     }
 
     /// Takes a packet. The change numbered one above the version is `Applied`; one at most the version is `Old`, and
-    /// one further above is `Early`. Any other packet is `Stray`.
+    /// one further above is `Early`. A text for this leaf from a bot of the net is `Text`. Any other packet is `Stray`.
     ///
     /// # Errors
     /// `Diverged` where the records refuse the next change, then `NoMemory`; each leaves the leaf as it was. `Old`,
@@ -115,13 +118,30 @@ impl LeafLink {
         ensures row { Meets self.old (leaf_received self.old packet.now) result self.new }
         ensures few { IfOk result (λ answer. answer.packets ≡ []) }
     {
-        let Packet::Change { number, change, .. } = packet else {
-            return Ok(Answer::only(alloc, Note::Stray));
-        };
-        if *number <= self.version {
+        match packet {
+            Packet::Change { number, change, .. } => self.receive_change(alloc, *number, change),
+            Packet::BotText { from, to, text } => self.receive_text(alloc, *from, *to, text),
+            Packet::Hello { .. }
+            | Packet::Request { .. }
+            | Packet::Accepted { .. }
+            | Packet::Refused { .. } => Ok(Answer::only(alloc, Note::Stray)),
+        }
+    }
+
+    // Applies the next change.
+    fn receive_change(
+        &mut self,
+        alloc: Global,
+        number: u32,
+        change: &Change,
+    ) -> Result<Answer, LinkError>
+        ensures row { Meets self.old (change_received self.old number change.now) result self.new }
+        ensures few { IfOk result (λ answer. answer.packets ≡ []) }
+    {
+        if number <= self.version {
             return Ok(Answer::only(alloc, Note::Old));
         }
-        if *number - self.version > 1 {
+        if number - self.version > 1 {
             return Ok(Answer::only(alloc, Note::Early));
         }
         if self.userfile.refusal_of(change).is_some() {
@@ -131,8 +151,45 @@ impl LeafLink {
             Ok(()) => {}
             Err(_) => return Err(LinkError::NoMemory),
         }
-        self.version = *number;
-        Ok(Answer::only(alloc, Note::Applied(*number)))
+        self.version = number;
+        Ok(Answer::only(alloc, Note::Applied(number)))
+    }
+
+    // Takes a text.
+    fn receive_text(
+        &self,
+        alloc: Global,
+        from: u16,
+        to: u16,
+        text: &Text,
+    ) -> Result<Answer, LinkError>
+        ensures row { Meets self.now (leaf_text_received self.now from to text.now) result self.now }
+        ensures few { IfOk result (λ answer. answer.packets ≡ []) }
+    {
+        if from > self.leaves || to != self.number {
+            return Ok(Answer::only(alloc, Note::Stray));
+        }
+        let text = text.copy(alloc)?;
+        Ok(Answer::only(alloc, Note::Text { from, text }))
+    }
+
+    /// A text to another bot, which the caller is to send to the hub, where its step has sent so many so far. The leaf
+    /// stays as it was.
+    ///
+    /// # Errors
+    /// `BadBotText` where there is no such bot, it is this leaf, or the text is none that a bot may tell another, then
+    /// `TextsFull` from 64 on, then `NoMemory`.
+    pub fn send_text(
+        &self,
+        alloc: Global,
+        to: u16,
+        text: &[u8],
+        sent: usize,
+    ) -> Result<Outgoing, LinkError>
+        ensures row { Gives (leaf_text self.now to text.now sent) result }
+    {
+        refuse(text_fault(self.leaves, self.number, to, text, sent))?;
+        Ok(text_by(alloc, 0, self.number, to, text)?)
     }
 }
 

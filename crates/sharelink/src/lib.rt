@@ -5,6 +5,9 @@
 //! its version and no other, so whatever the network does, a leaf at version v holds what the hub's first v accepted
 //! changes make. A leaf says hello with its version, and the hub answers with the changes that follow it.
 //!
+//! Bots also tell each other texts, by `send_text`. A leaf's goes to the hub, which sends it on to the leaf that it is
+//! for; nothing of the userfile moves by it, and it may be lost or come twice, as any packet.
+//!
 //! ```text
 //! let mut hub = HubLink::new(alloc, 1);
 //! let mut leaf = LeafLink::new(alloc, 1, 1);
@@ -19,6 +22,7 @@ mod answer;
 mod error;
 mod hub;
 mod leaf;
+mod texts;
 
 pub use crate::accepted::AcceptedChange;
 pub use crate::answer::{Answer, Note, Outgoing, Outgoings};
@@ -32,6 +36,9 @@ pub const MAX_LEAVES: u16 = 1000;
 
 /// The most asks that wait at a hub.
 pub const MAX_ASKS: usize = 64;
+
+/// The most texts that a bot sends in one step.
+pub const MAX_TEXTS: usize = 64;
 
 /// The most changes that a hub sends on one hello.
 pub const HELLO_CHANGES: usize = 16;
