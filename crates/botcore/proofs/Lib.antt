@@ -1,5 +1,9 @@
 pub mod AskLemmas
-pub mod HearingLemmas
+pub mod Calendar
+pub mod CallingLemmas
+pub mod HeardLemmas
 pub mod MakingLemmas
 pub mod NextLemmas
-pub mod OccasionLemmas
+pub mod PacketLemmas
+pub mod ReachLemmas
+pub mod RunningLemmas

@@ -16,7 +16,7 @@ use Rattle.procstore.specs.Calling.{holds, IsCalled}
 use Rattle.bindtable.specs.declared.bind.Bind.{Bind}
 use Rattle.botcore.specs.declared.made_call.MadeCall.{MadeCall}
 use Rattle.botcore.specs.declared.made_call.Unbound.{Unbound}
-use Rattle.botcore.specs.Calls.{Telling, entry_for, told_by, told_all, called_in, missing_in, calls_in, unbound_in}
+use Rattle.botcore.specs.Calls.{Entry, Telling, told_proc, told_by, told_all, called_in, missing_in, calls_in, unbound_in}
 use Rattle.botcore.specs.Calls.Telling.{Called, Missing}
 use Rattle.botcore.specs.Made.{Made, entry_of, AllKept, IsMade, IsFrontMade, Adds, AddsFront}
 
@@ -49,34 +49,36 @@ module _ (code_of : List ℕ → Call → Code) (may : List ℕ → Call → Lis
     kept = subst (AllKept code_of may) (sym calls) made.kept;
   }
 
-  -- a bind whose proc is held, and whose reply keeps the promise
-  pub Adds-called : (names : List (List ℕ)) (call : Call) (b : Bind) (old new : Made) (proc : List ℕ) (given : Call) (reply : Reply)
-      → new.calls ≡ old.calls ++ record { bind = b.number; proc = proc; call = given; reply = reply } ∷ [] → new.unbound ≡ old.unbound
-      → proc ≡ b.proc → given ≡ call → (holds names b.proc ≡ true) × IsKept code_of may b.proc call reply
-      → Adds code_of may old (told_all code_of names call (b ∷ [])) new
-  Adds-called names call b old new proc given reply calls unbound name same answer =
+  -- a call whose proc is held, and whose reply keeps the promise
+  pub Adds-called : (names : List (List ℕ)) (call : Call) (number : ℕ) (name : List ℕ) (old new : Made) (proc : List ℕ) (given : Call) (reply : Reply)
+      → new.calls ≡ old.calls ++ record { bind = number; proc = proc; call = given; reply = reply } ∷ [] → new.unbound ≡ old.unbound
+      → proc ≡ name → given ≡ call → (holds names name ≡ true) × IsKept code_of may name call reply
+      → Adds code_of may old (told_proc code_of names call number name ∷ []) new
+  Adds-called names call number name old new proc given reply calls unbound same_name same answer =
       λ before made.
-      let m : MadeCall = record { bind = b.number; proc = b.proc; call = call; reply = reply } in
+      let m : MadeCall = record { bind = number; proc = name; call = call; reply = reply } in
       let here : new.calls ≡ old.calls ++ m ∷ []
-      = subst (λ (p : List ℕ). new.calls ≡ old.calls ++ record { bind = b.number; proc = p; call = call; reply = reply } ∷ []) name
-      (subst (λ (c : Call). new.calls ≡ old.calls ++ record { bind = b.number; proc = proc; call = c; reply = reply } ∷ []) same calls) in
-      let entry : entry_of m ≡ entry_for code_of call b = ap (λ (c : Code). record { bind = b.number; proc = b.proc; call = call; code = c }) answer.1.code in
-      let told : told_by code_of names call b ≡ Called (entry_of m)
-      = ap (λ (h : Bool). cond h (Called (entry_for code_of call b)) (Missing (record { bind = b.number; proc = b.proc }))) answer.0
+      = subst (λ (p : List ℕ). new.calls ≡ old.calls ++ record { bind = number; proc = p; call = call; reply = reply } ∷ []) same_name
+      (subst (λ (c : Call). new.calls ≡ old.calls ++ record { bind = number; proc = proc; call = c; reply = reply } ∷ []) same calls) in
+      let promised : Entry = record { bind = number; proc = name; call = call; code = code_of name call } in
+      let entry : entry_of m ≡ promised = ap (λ (c : Code). record { bind = number; proc = name; call = call; code = c }) answer.1.code in
+      let told : told_proc code_of names call number name ≡ Called (entry_of m)
+      = ap (λ (h : Bool). cond h (Called promised) (Missing (record { bind = number; proc = name }))) answer.0
       ∙ ap Called (sym entry) in
       subst (λ (t : Telling). IsMade code_of may new (before ++ t ∷ [])) (sym told) (IsMade-called old new before m made here unbound answer.1)
 
-  -- a bind whose proc is not held
-  pub Adds-missing : (names : List (List ℕ)) (call : Call) (b : Bind) (old new : Made) (proc : List ℕ)
-      → new.calls ≡ old.calls → new.unbound ≡ old.unbound ++ record { bind = b.number; proc = proc } ∷ []
-      → proc ≡ b.proc → holds names b.proc ≡ false
-      → Adds code_of may old (told_all code_of names call (b ∷ [])) new
-  Adds-missing names call b old new proc calls unbound name absent =
+  -- one whose proc is not held
+  pub Adds-missing : (names : List (List ℕ)) (call : Call) (number : ℕ) (name : List ℕ) (old new : Made) (proc : List ℕ)
+      → new.calls ≡ old.calls → new.unbound ≡ old.unbound ++ record { bind = number; proc = proc } ∷ []
+      → proc ≡ name → holds names name ≡ false
+      → Adds code_of may old (told_proc code_of names call number name ∷ []) new
+  Adds-missing names call number name old new proc calls unbound same_name absent =
       λ before made.
-      let u : Unbound = record { bind = b.number; proc = b.proc } in
+      let u : Unbound = record { bind = number; proc = name } in
       let here : new.unbound ≡ old.unbound ++ u ∷ []
-      = subst (λ (p : List ℕ). new.unbound ≡ old.unbound ++ record { bind = b.number; proc = p } ∷ []) name unbound in
-      let told : told_by code_of names call b ≡ Missing u = ap (λ (h : Bool). cond h (Called (entry_for code_of call b)) (Missing u)) absent in
+      = subst (λ (p : List ℕ). new.unbound ≡ old.unbound ++ record { bind = number; proc = p } ∷ []) same_name unbound in
+      let promised : Entry = record { bind = number; proc = name; call = call; code = code_of name call } in
+      let told : told_proc code_of names call number name ≡ Missing u = ap (λ (h : Bool). cond h (Called promised) (Missing u)) absent in
       subst (λ (t : Telling). IsMade code_of may new (before ++ t ∷ [])) (sym told) (IsMade-missing old new before u made calls here)
 
   -- ---- one after another

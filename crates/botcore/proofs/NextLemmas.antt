@@ -1,4 +1,4 @@
--- What follows an event, by the calls that were made.
+-- What follows an occasion, by the calls that were made.
 use Rattle.std.proofs.Common.{◌≡◌, ◌∙◌, ℕ, List, [], ◌∷◌, ◌++◌, Bool, ◌||◌, ◌&&◌, not, map, length, drop, refl, ap, sym, append_assoc}
 use Rattle.std.proofs.Math.Seq.{drop-append_seam}
 use Rattle.std.proofs.lemmas.List.Elements.{filter_map-append}
@@ -11,10 +11,10 @@ use Rattle.std.proofs.lemmas.List.{length-map, drop-map}
 use Rattle.botcore.specs.declared.made_call.MadeCall.{MadeCall}
 use Rattle.botcore.specs.Made.{Made, IsMade, IsFrontMade, entry_of}
 use Rattle.botcore.specs.Dispatching.{Setting, is_one, is_raw, has_one, has_raw_one, is_logged, is_silencing, next_after, told, told_from}
-use Rattle.botcore.specs.Occasions.{kind_of}
+use Rattle.botcore.specs.Occasions.{kind_for}
 use Rattle.botcore.specs.declared.next.Next.{Next}
 use Rattle.botcore.specs.declared.next.Next.TheVariants.{Go}
-use Rattle.chanstate.specs.declared.event.Event.{Event}
+use Rattle.botcore.specs.declared.occasion.Occasion.{Occasion}
 
 pub has_one_entries : (calls : List MadeCall) → has_one (map entry_of calls) ≡ list_any (λ m. is_one m.reply.code) calls
 has_one_entries [] = refl
@@ -45,14 +45,14 @@ calls_since-part code_of may old new before part count made more is =
     sym (drop-map entry_of count new.calls) ∙ ap (drop count) all ∙ ap (λ (n : ℕ). drop n (calls_in before ++ calls_in part)) count_is
     ∙ drop-append_seam (calls_in before) (calls_in part)
 
--- where an event stops early, the first calls of all have been made
-pub IsFrontMade-event : (setting : Setting) (may : List ℕ → Call → List Action → Type 0) (new : Made)
-    (next : Next) (taken : Bool) (event : Event) (rest behind : List Event) (done all : List Telling)
-    → rest ≡ event ∷ behind → next ≡ Go taken → done ++ told_from setting next rest ≡ all
-    → IsFrontMade setting.code_of may new (done ++ told setting taken event) → IsFrontMade setting.code_of may new all
-IsFrontMade-event setting may new next taken event rest behind done all first goes whole front =
-    let more : List Telling = told_from setting (next_after (kind_of event.kind) (told setting taken event)) behind in
-    let split : told_from setting next rest ≡ told setting taken event ++ more = rw (goes, first) refl in
-    let shown : all ≡ (done ++ told setting taken event) ++ more
-    = sym whole ∙ ap (λ (ts : List Telling). done ++ ts) split ∙ sym (append_assoc done (told setting taken event) more) in
+-- where an occasion stops early, the first calls of all have been made
+pub IsFrontMade-occasion : (setting : Setting) (may : List ℕ → Call → List Action → Type 0) (new : Made)
+    (next : Next) (taken : Bool) (occasion : Occasion) (rest behind : List Occasion) (done all : List Telling)
+    → rest ≡ occasion ∷ behind → next ≡ Go taken → done ++ told_from setting next rest ≡ all
+    → IsFrontMade setting.code_of may new (done ++ told setting taken occasion) → IsFrontMade setting.code_of may new all
+IsFrontMade-occasion setting may new next taken occasion rest behind done all first goes whole front =
+    let more : List Telling = told_from setting (next_after (kind_for occasion) (told setting taken occasion)) behind in
+    let split : told_from setting next rest ≡ told setting taken occasion ++ more = rw (goes, first) refl in
+    let shown : all ≡ (done ++ told setting taken occasion) ++ more
+    = sym whole ∙ ap (λ (ts : List Telling). done ++ ts) split ∙ sym (append_assoc done (told setting taken occasion) more) in
     (front.0, front.1 ++ more, shown ∙ ap (λ (ts : List Telling). ts ++ more) front.2 ∙ append_assoc front.0 front.1 more, front.3)

@@ -1,7 +1,8 @@
 -- What a bot is to a contract.
-use Rattle.std.specs.Prelude.{ℕ, List}
+use Rattle.std.specs.Prelude.{ℕ, List, [], Option, None}
 use Rattle.bytetext.specs.declared.failure.Failure.{Failure}
 use Rattle.bytetext.specs.declared.failure.Failure.TheVariants.{Refused, NoMemory}
+use Rattle.bottimers.specs.Held.{Held}
 use Rattle.chanstate.specs.declared.state.ChanState.{ChanState}
 use Rattle.chanstate.specs.Views.{connected}
 use Rattle.procstore.specs.declared.call.Call.{Call}
@@ -15,17 +16,23 @@ use Rattle.botcore.specs.Dispatching.{Setting}
 use Rattle.botcore.specs.Dispatched.{setting_of}
 use Rattle.botcore.specs.Links.{new_link, link_records}
 
--- who it is, its end of the link, its binds, oldest first, and the channels that it is on
+-- who it is, its end of the link, its binds, oldest first, the channels that it is on, the last second of its clock, and its
+-- timers
 pub record Bot : Type 0 where
   pub config : Config
   pub link : Link
   pub binds : Table
   pub channels : ChanState
+  pub clock : Option ℕ
+  pub timers : Held
+
+abbrev pub no_timers : Held
+no_timers = record { timers = []; last = None; spent = 0; room = 0 }
 
 -- a bot before its first step
 abbrev pub new_bot : Config → Bot
 new_bot config =
-    record { config = config; link = new_link config.number config.leaves; binds = no_binds; channels = connected config.nick }
+    record { config = config; link = new_link config.number config.leaves; binds = no_binds; channels = connected config.nick; clock = None; timers = no_timers }
 
 -- why a bot isn't made: its configuration breaks a rule, or memory ran out though it is good
 abbrev pub IsWhyNot : Config → Failure BotFault → Type 0

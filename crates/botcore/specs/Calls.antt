@@ -7,24 +7,26 @@ use Rattle.procstore.specs.Calling.{holds}
 use Rattle.bindtable.specs.declared.bind.Bind.{Bind}
 use Rattle.botcore.specs.declared.made_call.Unbound.{Unbound}
 
--- one call, as the bind and the promise fix it
+-- one call, as the bind and the promise fix it; a timer that calls is no bind, and has number 0 here
 pub record Entry : Type 0 where
   pub bind : ℕ
   pub proc : List ℕ
   pub call : Call
   pub code : Code
 
--- what a bind that an event calls comes to: a call of its proc, or that the store lacks it
+-- what a bind or a timer that calls comes to: a call of its proc, or that the store lacks it
 pub data Telling : Type 0 where
   Called : (entry : Entry) → Telling
   Missing : (unbound : Unbound) → Telling
 
-abbrev pub entry_for : (List ℕ → Call → Code) → Call → Bind → Entry
-entry_for code_of call b = record { bind = b.number; proc = b.proc; call = call; code = code_of b.proc call }
+-- a call of this proc for the bind of this number
+abbrev pub told_proc : (List ℕ → Call → Code) → List (List ℕ) → Call → ℕ → List ℕ → Telling
+told_proc code_of names call number proc =
+    if holds names proc then Called (record { bind = number; proc = proc; call = call; code = code_of proc call })
+    else Missing (record { bind = number; proc = proc })
 
 abbrev pub told_by : (List ℕ → Call → Code) → List (List ℕ) → Call → Bind → Telling
-told_by code_of names call b =
-    if holds names b.proc then Called (entry_for code_of call b) else Missing (record { bind = b.number; proc = b.proc })
+told_by code_of names call b = told_proc code_of names call b.number b.proc
 
 -- what binds come to, in order, where a store of these names is called with this
 abbrev pub told_all : (List ℕ → Call → Code) → List (List ℕ) → Call → List Bind → List Telling

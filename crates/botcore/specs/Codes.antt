@@ -1,19 +1,27 @@
 -- The letters and numbers of refusals, and the words of faults.
 use Rattle.std.specs.Prelude.{ℕ, List, Option, Some, None, codes}
 use Rattle.bindtable.specs.Tables.{code_of}
+use Rattle.bottimers.specs.Faults.{letters_of}
 use Rattle.sharelink.specs.Codes.{link_code}
+use Rattle.botcore.specs.declared.fault.ActionFault.{ActionFault}
+use Rattle.botcore.specs.declared.fault.ActionFault.TheVariants.{Link as link_action, Clock as clock_action}
 use Rattle.botcore.specs.declared.fault.Refusal.{Refusal}
-use Rattle.botcore.specs.declared.fault.Refusal.TheVariants.{Link as link_refusal, Bind as bind_refusal}
+use Rattle.botcore.specs.declared.fault.Refusal.TheVariants.{Link as link_refusal, Bind as bind_refusal, Clock as clock_refusal}
 use Rattle.botcore.specs.declared.fault.Fault.{Fault}
 use Rattle.botcore.specs.declared.fault.Fault.TheVariants.{Unbound as unbound_fault, Action as action_fault}
 
 abbrev pub refusal_code : Refusal → List ℕ
 refusal_code (link_refusal fault) = link_code fault
 refusal_code (bind_refusal fault) = code_of fault
+refusal_code (clock_refusal fault) = letters_of fault
+
+abbrev pub action_code : ActionFault → List ℕ
+action_code (link_action fault) = link_code fault
+action_code (clock_action fault) = letters_of fault
 
 abbrev pub fault_word : Fault → List ℕ
 fault_word (unbound_fault unbound) = codes "Unbound"
-fault_word (action_fault fault) = link_code fault
+fault_word (action_fault fault) = action_code fault
 
 -- the proc that the store lacks
 abbrev pub fault_proc : Fault → Option (List ℕ)

@@ -1,16 +1,16 @@
--- Events that were dispatched, against what they come to.
+-- Occasions that were dispatched, against what they come to.
 use Rattle.std.specs.Prelude.{◌≡◌, ℕ, Bool, List, ◌++◌, Result, Ok, Err}
 use Rattle.userfile.specs.declared.user.User.{User}
-use Rattle.chanstate.specs.declared.event.Event.{Event}
 use Rattle.procstore.specs.declared.action.Action.{Action}
 use Rattle.procstore.specs.declared.call.Call.{Call}
 use Rattle.procstore.specs.declared.reply.Code.{Code}
 use Rattle.bindtable.specs.declared.bind.Bind.{Bind}
 use Rattle.botcore.specs.declared.next.Next.{Next}
+use Rattle.botcore.specs.declared.occasion.Occasion.{Occasion}
 use Rattle.botcore.specs.declared.scene.Scene.{Scene}
 use Rattle.botcore.specs.Calls.{Telling}
 use Rattle.botcore.specs.Made.{Made, IsMade, IsFrontMade}
-use Rattle.botcore.specs.Occasions.{kind_of}
+use Rattle.botcore.specs.Occasions.{kind_for}
 use Rattle.botcore.specs.Dispatching.{Setting, told, next_after, told_of}
 
 -- the setting of a bot with these procs, users and binds
@@ -22,13 +22,14 @@ setting_of code_of names users binds exclusive =
 abbrev pub setting_in : {P B : Type 0} → (List ℕ → Call → Code) → Scene P B → Setting
 setting_in code_of scene = setting_of code_of scene.store.now scene.userfile.now.users scene.binds.now.binds scene.exclusive
 
--- one event more was dispatched, and this follows it
-abbrev pub AddsEvent : Setting → (List ℕ → Call → List Action → Type 0) → Made → Bool → Event → Next → Made → Type 0
-AddsEvent setting may old taken event next new =
+-- one occasion more was dispatched, and this follows it
+abbrev pub AddsOccasion : Setting → (List ℕ → Call → List Action → Type 0) → Made → Bool → Occasion → Next → Made → Type 0
+AddsOccasion setting may old taken occasion next new =
     (before : List Telling) → IsMade setting.code_of may old before
-    → IsMade setting.code_of may new (before ++ told setting taken event) × (next ≡ next_after (kind_of event.kind) (told setting taken event))
+    → IsMade setting.code_of may new (before ++ told setting taken occasion)
+    × (next ≡ next_after (kind_for occasion) (told setting taken occasion))
 
--- all events were dispatched, or the first calls of them were made before memory ran out
-abbrev pub IsDispatched : Setting → (List ℕ → Call → List Action → Type 0) → List Event → Result Made Made → Type 0
-IsDispatched setting may events (Ok made) = IsMade setting.code_of may made (told_of setting events)
-IsDispatched setting may events (Err made) = IsFrontMade setting.code_of may made (told_of setting events)
+-- all occasions were dispatched, or the first calls of them were made before memory ran out
+abbrev pub IsDispatched : Setting → (List ℕ → Call → List Action → Type 0) → List Occasion → Result Made Made → Type 0
+IsDispatched setting may occasions (Ok made) = IsMade setting.code_of may made (told_of setting occasions)
+IsDispatched setting may occasions (Err made) = IsFrontMade setting.code_of may made (told_of setting occasions)

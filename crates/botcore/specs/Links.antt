@@ -1,17 +1,19 @@
 -- A bot's end of the sharing link, be it the hub's or a leaf's.
-use Rattle.std.specs.Prelude.{ℕ, ◌==◌, List, length, if◌then◌else◌}
+use Rattle.std.specs.Prelude.{ℕ, ◌==◌, List, length, Result, if◌then◌else◌}
 use Rattle.userfile.specs.Records.{Records}
 use Rattle.userfile.specs.declared.change.Change.{Change}
 use Rattle.sharewire.specs.declared.packet.Packet.{Packet}
+use Rattle.sharelink.specs.declared.answer.Outgoing.{Outgoing}
+use Rattle.sharelink.specs.declared.error.LinkFault.{LinkFault}
 use Rattle.sharelink.specs.Meets.{Row}
-use Rattle.sharelink.specs.HubRules.{Hub, new_hub, version_of, hub_asked, hub_pumped, hub_received, with_asks, with_oldest}
-use Rattle.sharelink.specs.LeafRules.{Leaf, new_leaf, leaf_asked, leaf_pumped, leaf_received}
+use Rattle.sharelink.specs.HubRules.{Hub, new_hub, version_of, hub_asked, hub_pumped, hub_received, hub_text, with_asks, with_oldest}
+use Rattle.sharelink.specs.LeafRules.{Leaf, new_leaf, leaf_asked, leaf_pumped, leaf_received, leaf_text}
 use Rattle.botcore.specs.declared.link.Link.{Link}
 use Rattle.botcore.specs.declared.link.Link.TheVariants.{Hub as hub_end, Leaf as leaf_end}
 
 -- bot 0 is the hub
 abbrev pub new_link : ℕ → ℕ → Link
-new_link number leaves = if number == 0 then hub_end (new_hub leaves) else leaf_end (new_leaf number)
+new_link number leaves = if number == 0 then hub_end (new_hub leaves) else leaf_end (new_leaf number leaves)
 
 abbrev pub link_records : Link → Records
 link_records (hub_end hub) = hub.records
@@ -36,6 +38,11 @@ link_pumped link = link_row link hub_pumped leaf_pumped
 
 abbrev pub link_received : Link → Packet → Row Link
 link_received link packet = link_row link (λ hub. hub_received hub packet) (λ leaf. leaf_received leaf packet)
+
+-- a text to another bot, where so many were sent before it
+abbrev pub link_text : Link → ℕ → List ℕ → ℕ → Result Outgoing LinkFault
+link_text (hub_end hub) to text sent = hub_text hub to text sent
+link_text (leaf_end leaf) to text sent = leaf_text leaf to text sent
 
 -- ---- the asks that wait; none do at a leaf
 

@@ -1,74 +1,58 @@
--- What binds and procs see of an event of a message.
-use Rattle.std.specs.Prelude.{ℕ, nat_le, List, [], ◌∷◌, ◌++◌, length, slice_get, Option, Some, None, unwrap_or, Bool, true, false, if◌then◌else◌}
-use Rattle.std.specs.List.{insert}
-use Rattle.userfile.specs.declared.user.User.{User}
-use Rattle.userfile.specs.declared.flags.PersonFlags.{PersonFlags}
-use Rattle.userfile.specs.Persons.{handle_of, flags_of}
-use Rattle.chanstate.specs.declared.event.Event.{Event}
-use Rattle.chanstate.specs.declared.event.Kind.{Kind as EventKind}
-use Rattle.chanstate.specs.declared.event.Kind.TheVariants.{Raw as raw_event, Msg as msg_event, Msgm as msgm_event}
-use Rattle.chanstate.specs.declared.event.Kind.TheVariants.{Notc as notc_event, Pub as pub_event, Pubm as pubm_event}
+-- What binds and procs see of an occasion.
+use Rattle.std.specs.Prelude.{ℕ, ◌==◌, List, [], ◌∷◌, ◌++◌, Option, Some, None, if◌then◌else◌, codes, decimal}
+use Rattle.chanstate.specs.Speech.{first_word, after_word}
+use Rattle.bottimers.specs.declared.calendar.CivilMinute.{CivilMinute}
+use Rattle.bottimers.specs.Civil.{time_line, time_words, cron_words}
 use Rattle.procstore.specs.declared.call.Call.{Call}
 use Rattle.procstore.specs.declared.kind.Kind.{Kind}
-use Rattle.procstore.specs.declared.kind.Kind.TheVariants.{Raw, Msg, Msgm, Notc, Pub, Pubm}
+use Rattle.procstore.specs.declared.kind.Kind.TheVariants.{Timer as timer_call, Time as time_kind, Cron as cron_kind, Bot as bot_kind}
+use Rattle.bindtable.specs.declared.bind_kind.BindKind.{BindKind}
+use Rattle.bindtable.specs.declared.bind_kind.BindKind.TheVariants.{Bot as bot_bind, Time as time_bind, Cron as cron_bind}
+use Rattle.bindtable.specs.Calls.{Occurrence}
+use Rattle.bindtable.specs.Kinds.{call_kind_of}
+use Rattle.botcore.specs.declared.occasion.Occasion.{Occasion}
+use Rattle.botcore.specs.declared.occasion.Occasion.TheVariants.{Heard, Due, Time, Cron, Said}
+use Rattle.botcore.specs.Heard.{kind_of}
 
--- the kind under which binds know an event
-abbrev pub kind_of : EventKind → Kind
-kind_of raw_event = Raw
-kind_of msg_event = Msg
-kind_of msgm_event = Msgm
-kind_of notc_event = Notc
-kind_of pub_event = Pub
-kind_of pubm_event = Pubm
+-- ---- what binds see of those that are by nobody
 
--- whether an event is by a person, whose nick and user@host are its first two arguments
-abbrev pub is_personal : EventKind → Bool
-is_personal raw_event = false
-is_personal msg_event = true
-is_personal msgm_event = true
-is_personal notc_event = true
-is_personal pub_event = true
-is_personal pubm_event = true
+abbrev pub by_nobody : BindKind → List ℕ → Option CivilMinute → Occurrence
+by_nobody kind subject minute = record { kind = kind; subject = subject; minute = minute; global = 0; channel = 0; bot = 0 }
 
--- a text of a list, and the empty one where there is none
-abbrev pub text_at : List (List ℕ) → ℕ → List ℕ
-text_at texts place = unwrap_or (slice_get texts place) []
+-- a time bind goes by the time text, and a cron bind by the minute
+abbrev pub time_seen : CivilMinute → Occurrence
+time_seen minute = by_nobody time_bind (time_line minute) None
 
--- the person, as hostmasks match one: nick!user@host
-abbrev pub who_of : List (List ℕ) → List ℕ
-who_of arguments = text_at arguments 0 ++ 33 ∷ text_at arguments 1
+abbrev pub cron_seen : CivilMinute → Occurrence
+cron_seen minute = by_nobody cron_bind [] (Some minute)
 
--- the arguments of a call: the person's handle follows user@host
-abbrev pub with_handle : List ℕ → List (List ℕ) → List (List ℕ)
-with_handle handle arguments = if nat_le 2 (length arguments) then insert arguments 2 handle else arguments
+-- a bot bind goes by the first word
+abbrev pub said_seen : List ℕ → Occurrence
+said_seen text = by_nobody bot_bind (first_word text) None
 
--- the flags of a handle where an event is on this channel, or on none
-abbrev pub flags_on : List User → List ℕ → Option (List ℕ) → PersonFlags
-flags_on users handle None = record (flags_of users handle []) { chan = 0 }
-flags_on users handle (Some channel) = flags_of users handle channel
+-- ---- what procs are called with
 
--- whom an event is by, as far as the userfile knows; a raw event is by nobody
-pub record Person : Type 0 where
-  pub handle : List ℕ
-  pub flags : PersonFlags
+abbrev pub due_call : Call
+due_call = record { kind = timer_call; args = [] }
 
-abbrev pub person_by : List User → List ℕ → Option (List ℕ) → Person
-person_by users handle channel = record { handle = handle; flags = flags_on users handle channel }
+abbrev pub time_call : CivilMinute → Call
+time_call minute = record { kind = time_kind; args = time_words minute }
 
-abbrev pub nobody : Person
-nobody = record { handle = []; flags = record { global = 0; chan = 0; bot = 0 } }
+abbrev pub cron_call : CivilMinute → Call
+cron_call minute = record { kind = cron_kind; args = cron_words minute }
 
-abbrev pub person_if : Bool → List User → Event → Person
-person_if false users event = nobody
-person_if true users event = person_by users (handle_of users (who_of event.arguments)) event.channel
+-- bot 0 is the hub
+abbrev pub bot_name : ℕ → List ℕ
+bot_name number = if number == 0 then codes "hub" else codes "leaf" ++ decimal number
 
-abbrev pub person_of : List User → Event → Person
-person_of users event = person_if (is_personal event.kind) users event
+-- who says it, the first word, and what stands behind it and the spaces after it
+abbrev pub said_call : ℕ → List ℕ → Call
+said_call from text = record { kind = bot_kind; args = bot_name from ∷ first_word text ∷ after_word text ∷ [] }
 
--- what procs are called with
-abbrev pub arguments_if : Bool → List ℕ → List (List ℕ) → List (List ℕ)
-arguments_if false handle arguments = arguments
-arguments_if true handle arguments = with_handle handle arguments
-
-abbrev pub call_by : List ℕ → Event → Call
-call_by handle event = record { kind = kind_of event.kind; args = arguments_if (is_personal event.kind) handle event.arguments }
+-- the kind of its calls
+abbrev pub kind_for : Occasion → Kind
+kind_for (Heard event) = call_kind_of (kind_of event.kind)
+kind_for (Due proc) = timer_call
+kind_for (Time minute) = time_kind
+kind_for (Cron minute) = cron_kind
+kind_for (Said from text) = bot_kind

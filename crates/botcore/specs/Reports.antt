@@ -4,6 +4,7 @@ use Rattle.bytetext.specs.declared.failure.Failure.{Failure}
 use Rattle.bytetext.specs.declared.failure.Failure.TheVariants.{Refused as refused_by, NoMemory as no_memory}
 use Rattle.bindtable.specs.declared.fault.BindFault.{BindFault}
 use Rattle.sharelink.specs.declared.answer.Answer.{Answer}
+use Rattle.sharelink.specs.declared.answer.Outgoing.{Outgoing}
 use Rattle.sharelink.specs.declared.error.LinkFault.{LinkFault}
 use Rattle.botcore.specs.declared.fault.Fault.{Fault}
 use Rattle.botcore.specs.declared.fault.Refusal.{Refusal}
@@ -17,7 +18,7 @@ use Rattle.botcore.specs.declared.report.Report.{Report}
 use Rattle.botcore.specs.Dispatching.{is_logged}
 use Rattle.botcore.specs.Made.{entry_of}
 
--- an end and a note, no call, nothing to send and no fault; what is no message of a server is logged
+-- an end and a note, no call, nothing to send and no fault
 abbrev pub plain : End → Option Note → Report
 plain end note = record { end = end; note = note; calls = []; packets = []; faults = []; logged = true }
 
@@ -52,13 +53,14 @@ abbrev pub unbind_report : Result ℕ BindFault → Report
 unbind_report (Ok number) = done (Some (Unbound number))
 unbind_report (Err fault) = refused (bind_refusal fault)
 
--- ---- messages
+-- ---- what calls procs
 
--- these calls were made, and these faults told
-abbrev pub heard : List MadeCall → List Fault → Report
-heard calls faults =
-    record { end = Done; note = None; calls = calls; packets = []; faults = faults; logged = is_logged (map entry_of calls) }
+-- this came of it: these calls were made, these texts are to go out, and these faults are told
+abbrev pub told : Option Note → List MadeCall → List Outgoing → List Fault → Report
+told note calls packets faults =
+    record { end = Done; note = note; calls = calls; packets = packets; faults = faults; logged = is_logged (map entry_of calls) }
 
 -- memory ran out after these calls
 abbrev pub cut_short : List MadeCall → Report
-cut_short calls = record (heard calls []) { end = NoMemory }
+cut_short calls =
+    record { end = NoMemory; note = None; calls = calls; packets = []; faults = []; logged = is_logged (map entry_of calls) }

@@ -1,9 +1,12 @@
 -- One step of a bot: what one event makes it report, and the bot that it leaves.
-use Rattle.std.specs.Prelude.{◌≡◌, ℕ, List, [], ◌++◌, map, find, Option, Some, None}
+use Rattle.std.specs.Prelude.{◌≡◌, ℕ, ◌==◌, nat_le, Bool, true, false, List, [], ◌∷◌, ◌++◌, length, map, find, Option, Some, None, if◌then◌else◌}
 use Rattle.ircline.specs.declared.line.Line.TheVariants.{Message as a_message, Bad as a_bad_line}
 use Rattle.ircline.specs.declared.message.Message.{Message}
 use Rattle.chanstate.specs.Events.{events_of}
+use Rattle.chanstate.specs.Speech.{first_word}
 use Rattle.chanstate.specs.Views.{connected}
+use Rattle.bottimers.specs.declared.fault.ClockFault.{ClockFault}
+use Rattle.bottimers.specs.Seconds.{reading_fault, seconds_run}
 use Rattle.procstore.specs.declared.action.Action.{Action}
 use Rattle.procstore.specs.declared.call.Call.{Call}
 use Rattle.procstore.specs.declared.reply.Code.{Code}
@@ -11,21 +14,30 @@ use Rattle.bindtable.specs.declared.bind.Bind.{Bind as HeldBind}
 use Rattle.bindtable.specs.declared.fault.BindFault.{BindFault}
 use Rattle.bindtable.specs.declared.fault.BindFault.TheVariants.{NoSuchBind}
 use Rattle.bindtable.specs.Tables.{Table, Asked, refusal, number_of, bound, is_such, without_such}
+use Rattle.sharewire.specs.declared.packet.Packet.{Packet}
+use Rattle.sharelink.specs.declared.answer.Note.TheVariants.{Text as told_text}
 use Rattle.sharelink.specs.Meets.{Row, AnswerTakesMemory}
 use Rattle.botcore.specs.declared.event.Event.{Event}
-use Rattle.botcore.specs.declared.event.Event.TheVariants.{Connect, Line, Ask, Pump, Receive, Bind, Unbind}
+use Rattle.botcore.specs.declared.event.Event.TheVariants.{Connect, Line, Ask, Pump, Receive, Clock, Bind, Unbind}
 use Rattle.botcore.specs.declared.event.NewBind.{NewBind}
 use Rattle.botcore.specs.declared.event.OldBind.{OldBind}
-use Rattle.botcore.specs.declared.fault.Refusal.TheVariants.{Bind as bind_refusal}
+use Rattle.botcore.specs.declared.fault.Refusal.TheVariants.{Bind as bind_refusal, Clock as clock_refusal}
 use Rattle.botcore.specs.declared.link.Link.{Link}
 use Rattle.botcore.specs.declared.report.End.{End}
 use Rattle.botcore.specs.declared.report.End.TheVariants.{Done, Refused, NoMemory}
-use Rattle.botcore.specs.declared.report.Note.TheVariants.{Bound, Unbound, Bad}
+use Rattle.botcore.specs.declared.made_call.MadeCall.{MadeCall}
+use Rattle.botcore.specs.declared.occasion.Occasion.{Occasion}
+use Rattle.botcore.specs.declared.occasion.Occasion.TheVariants.{Heard, Said}
+use Rattle.botcore.specs.declared.report.Note.{Note}
+use Rattle.botcore.specs.declared.report.Note.TheVariants.{Link as link_note, Bound, Unbound, Bad}
 use Rattle.botcore.specs.declared.report.Report.{Report}
 use Rattle.botcore.specs.Bots.{Bot, bot_setting}
 use Rattle.botcore.specs.Calls.{Entry, Telling, calls_in, unbound_in}
 use Rattle.botcore.specs.Dispatching.{told_of, is_logged}
-use Rattle.botcore.specs.Lines.{after_line, faults_of}
+use Rattle.botcore.specs.Acting.{faults_of}
+use Rattle.botcore.specs.Happenings.{Saying, saying_of, seconds_of, passed_all}
+use Rattle.botcore.specs.Lines.{acting_of, acting_after, after_calls, after_line}
+use Rattle.botcore.specs.Shown.{AreTaken}
 use Rattle.botcore.specs.Links.{link_asked, link_pumped, link_received}
 use Rattle.botcore.specs.Made.{entry_of, AllKept}
 use Rattle.botcore.specs.Reports.{done, refused, out_of_memory, link_report}
@@ -82,22 +94,19 @@ GivesBind old asked report new =
 abbrev pub GivesUnbind : Bot → OldBind → Report → Bot → Type 0
 GivesUnbind old gone report new = Gives report.end ⊥ old (unbind_due old gone (bind_to_go old.binds gone)) report new
 
--- ---- messages
+-- ---- events that call procs
 
--- what a message comes to: the calls of its events, and the binds that are left out
-abbrev pub message_told : (List ℕ → Call → Code) → List (List ℕ) → Bot → Message → List Telling
-message_told code_of names bot message = told_of (bot_setting code_of names bot) (events_of message bot.channels)
-
--- just these calls were made, each answered by its proc, and what they ask for was done
-pub record IsHeard (code_of : List ℕ → Call → Code) (may : List ℕ → Call → List Action → Type 0)
-    (told : List Telling) (old : Bot) (message : Message) (report : Report) (new : Bot) : Type 0 where
+-- All these calls were made, each answered by its proc, and what they ask for was done, from the bot `start` on; `finish` makes
+-- what the event leaves of that.
+pub record IsCalled (code_of : List ℕ → Call → Code) (may : List ℕ → Call → List Action → Type 0) (told : List Telling)
+    (start : Bot) (came : Option Note) (finish : List MadeCall → Bot) (report : Report) (new : Bot) : Type 0 where
   pub calls : map entry_of report.calls ≡ calls_in told
   pub kept : AllKept code_of may report.calls
-  pub note : report.note ≡ None
-  pub packets : report.packets ≡ []
-  pub faults : report.faults ≡ faults_of old.link report.calls (unbound_in told)
+  pub note : report.note ≡ came
+  pub packets : report.packets ≡ (acting_after start report.calls).sent
+  pub faults : report.faults ≡ faults_of (acting_of start) report.calls (unbound_in told)
   pub logged : report.logged ≡ is_logged (calls_in told)
-  pub after : new ≡ after_line old report.calls message
+  pub after : new ≡ finish report.calls
 
 -- the first of these calls were made before memory ran out, and the bot is as it was
 pub record IsCutShort (code_of : List ℕ → Call → Code) (may : List ℕ → Call → List Action → Type 0)
@@ -111,12 +120,72 @@ pub record IsCutShort (code_of : List ℕ → Call → Code) (may : List ℕ →
   pub logged : report.logged ≡ is_logged (map entry_of report.calls)
   pub after : new ≡ old
 
--- a message is never refused
-abbrev pub TakesMessage : End → (List ℕ → Call → Code) → (List ℕ → Call → List Action → Type 0)
-    → List Telling → Bot → Message → Report → Bot → Type 0
-TakesMessage Done code_of may told old message report new = IsHeard code_of may told old message report new
-TakesMessage (Refused why) code_of may told old message report new = ⊥
-TakesMessage NoMemory code_of may told old message report new = IsCutShort code_of may told old report new
+-- what calls procs is never refused
+abbrev pub TakesCalls : End → (List ℕ → Call → Code) → (List ℕ → Call → List Action → Type 0) → List Telling → Bot
+    → Bot → Option Note → (List MadeCall → Bot) → Report → Bot → Type 0
+TakesCalls Done code_of may told old start came finish report new = IsCalled code_of may told start came finish report new
+TakesCalls (Refused why) code_of may told old start came finish report new = ⊥
+TakesCalls NoMemory code_of may told old start came finish report new = IsCutShort code_of may told old report new
+
+-- a message: its events call procs, their actions are done, and it is taken into the channel state
+abbrev pub message_told : (List ℕ → Call → Code) → List (List ℕ) → Bot → Message → List Telling
+message_told code_of names bot message = told_of (bot_setting code_of names bot) (map Heard (events_of message bot.channels))
+
+abbrev pub TakesMessage : (List ℕ → Call → Code) → (List ℕ → Call → List Action → Type 0) → List (List ℕ)
+    → Bot → Message → Report → Bot → Type 0
+TakesMessage code_of may names old message report new =
+    TakesCalls report.end code_of may (message_told code_of names old message) old old None (after_line old message) report new
+
+-- a text of another bot calls procs by its first word, if it begins with one
+abbrev pub said_occasions : Saying → List Occasion
+said_occasions saying = if length (first_word saying.text) == 0 then [] else Said saying.from saying.text ∷ []
+
+abbrev pub text_note : Saying → Note
+text_note saying = link_note (told_text saying.from saying.text)
+
+abbrev pub TakesText : (List ℕ → Call → Code) → (List ℕ → Call → List Action → Type 0) → List (List ℕ)
+    → Bot → Saying → Report → Bot → Type 0
+TakesText code_of may names old saying report new =
+    TakesCalls report.end code_of may (told_of (bot_setting code_of names old) (said_occasions saying)) old old
+    (Some (text_note saying)) (after_calls old) report new
+
+-- a packet is one call of the link, and its text, if it brings one to this bot, is told
+abbrev pub TakesPacket : Option Saying → (List ℕ → Call → Code) → (List ℕ → Call → List Action → Type 0) → List (List ℕ)
+    → Bot → Packet → Report → Bot → Type 0
+TakesPacket None code_of may names old packet report new = GivesRow old (link_received old.link packet) report new
+TakesPacket (Some saying) code_of may names old packet report new = TakesText code_of may names old saying report new
+
+-- ---- readings of the clock
+
+-- a reading that is not above the last one
+abbrev pub is_stale : Option ℕ → ℕ → Bool
+is_stale None now = false
+is_stale (Some last) now = nat_le now last
+
+-- the bot when all seconds of a reading have run: its clock is at the reading, where new timers are made
+abbrev pub run_to : Bot → ℕ → Bot
+run_to old now = record old { clock = Some now; timers = passed_all old.timers (seconds_run old.clock now) }
+
+-- the seconds of a reading call procs, and then all actions are done; where memory runs out, the first of all may be called
+abbrev pub TakesSeconds : (List ℕ → Call → Code) → (List ℕ → Call → List Action → Type 0) → List (List ℕ)
+    → Bot → ℕ → Report → Bot → Type 0
+TakesSeconds code_of may names old now report new =
+    (occasions : List Occasion)
+    × AreTaken report.end (seconds_of old.config.offset old.timers (seconds_run old.clock now)) occasions
+    × TakesCalls report.end code_of may (told_of (bot_setting code_of names old) occasions) old (run_to old now)
+    None (after_calls (run_to old now)) report new
+
+-- one that is not above the last does nothing, and takes no memory
+abbrev pub TakesMoment : Bool → (List ℕ → Call → Code) → (List ℕ → Call → List Action → Type 0) → List (List ℕ)
+    → Bot → ℕ → Report → Bot → Type 0
+TakesMoment true code_of may names old now report new = (report ≡ done None) × (new ≡ old)
+TakesMoment false code_of may names old now report new = TakesSeconds code_of may names old now report new
+
+-- one that is no moment is refused
+abbrev pub TakesReading : Option ClockFault → (List ℕ → Call → Code) → (List ℕ → Call → List Action → Type 0) → List (List ℕ)
+    → Bot → ℕ → Report → Bot → Type 0
+TakesReading (Some fault) code_of may names old now report new = (report ≡ refused (clock_refusal fault)) × (new ≡ old)
+TakesReading None code_of may names old now report new = TakesMoment (is_stale old.clock now) code_of may names old now report new
 
 -- ---- any event
 
@@ -124,11 +193,12 @@ TakesMessage NoMemory code_of may told old message report new = IsCutShort code_
 abbrev pub TakesStep : (List ℕ → Call → Code) → (List ℕ → Call → List Action → Type 0) → List (List ℕ)
     → Bot → Event → Report → Bot → Type 0
 TakesStep code_of may names old Connect report new = Gives report.end (Unit {0}) old (connect_due old) report new
-TakesStep code_of may names old (Line (a_message message)) report new =
-    TakesMessage report.end code_of may (message_told code_of names old message) old message report new
+TakesStep code_of may names old (Line (a_message message)) report new = TakesMessage code_of may names old message report new
 TakesStep code_of may names old (Line (a_bad_line fault)) report new = (report ≡ done (Some (Bad fault))) × (new ≡ old)
 TakesStep code_of may names old (Ask change) report new = GivesRow old (link_asked old.link change) report new
 TakesStep code_of may names old Pump report new = GivesRow old (link_pumped old.link) report new
-TakesStep code_of may names old (Receive packet) report new = GivesRow old (link_received old.link packet) report new
+TakesStep code_of may names old (Receive packet) report new =
+    TakesPacket (saying_of (link_received old.link packet).answer) code_of may names old packet report new
+TakesStep code_of may names old (Clock now) report new = TakesReading (reading_fault now) code_of may names old now report new
 TakesStep code_of may names old (Bind asked) report new = GivesBind old (asked_of asked) report new
 TakesStep code_of may names old (Unbind gone) report new = GivesUnbind old gone report new

@@ -3,19 +3,22 @@ use crate::config::Config;
 use crate::fault::BotError;
 use crate::link::Link;
 use bindtable::BindTable;
+use bottimers::{Clock, Timers};
 use bytetext::{Failure, NoMemory, TryCopy};
 use chanstate::ChanState;
 use std::alloc::Global;
 use std::marker::Model;
 use userfile::Userfile;
 
-/// A bot: its end of the sharing link, its binds, and the channels that it is on.
+/// A bot: its end of the sharing link, its binds, the channels that it is on, its clock and its timers.
 #[derive(Drop)]
 pub struct Bot {
     pub(crate) config: Config,
     pub(crate) link: Link,
     pub(crate) binds: BindTable,
     pub(crate) channels: ChanState,
+    pub(crate) clock: Clock,
+    pub(crate) timers: Timers,
 }
 
 impl Model for Bot {
@@ -23,7 +26,20 @@ impl Model for Bot {
 
     ghost Value = { Bot };
 
-    ghost view = { λ b. record { config = b.config; link = b.link; binds = b.binds; channels = b.channels } };
+    ghost view = { λ b. record {
+      config = b.config;
+      link = b.link;
+      binds = b.binds;
+      channels = b.channels;
+      clock = b.clock;
+      timers = b.timers;
+    } };
+
+    ghost use Rattle.botcore.specs.Rising.{IsReached};
+    ghost use Rattle.bottimers.specs.Civil.{IsOffset};
+
+    // No timer has seen a second that the clock has not, and the clock has an offset of less than a day.
+    ghost invariant = { λ b. IsReached b.timers.last b.clock × IsOffset b.config.offset };
 }
 
 impl Bot {
@@ -56,6 +72,8 @@ impl Bot {
             link,
             binds,
             channels,
+            clock: Clock::new(),
+            timers: Timers::new(alloc),
         })
     }
 
@@ -87,11 +105,15 @@ impl TryCopy for Bot {
         let link = self.link.copy(alloc)?;
         let binds = self.binds.copy(alloc)?;
         let channels = self.channels.copy(alloc)?;
+        let clock = self.clock.copy(alloc)?;
+        let timers = self.timers.copy(alloc)?;
         Ok(Bot {
             config,
             link,
             binds,
             channels,
+            clock,
+            timers,
         })
     }
 }

@@ -1,22 +1,28 @@
-// Calling the procs of the binds that events call.
+// Calling the procs that occasions call.
 ghost use Rattle.std.specs.Prelude.{◌≡◌, ◌&&◌};
+ghost use Rattle.bindtable.specs.Calls.{seen};
 ghost use Rattle.botcore.specs.Dispatching.{is_word};
 ghost use Rattle.botcore.specs.Dispatched.{setting_in, IsDispatched};
+ghost use Rattle.botcore.specs.Occasions.{by_nobody};
 
+use crate::heard::{call_by, kind_of, person_of};
 use crate::made_call::{MadeCall, Unbound};
 use crate::next::{Next, is_word, next_of};
-use crate::occasion::{call_by, kind_of, person_of};
+use crate::occasion::{Occasion, cron_call, due_call, said_call, time_call};
 use crate::report::MadeCalls;
 use crate::scene::Scene;
-use bindtable::{Bind, Called, Event as Occurrence};
-use bytetext::{Failure, NoMemory, Seq, TryCopy};
+use crate::words::first_word;
+use bindtable::{Bind, BindKind, Called, Event as Occurrence};
+use bottimers::{CivilMinute, time_text};
+use bytetext::{Failure, NoMemory, Seq, Text, TryCopy};
 use chanstate::Event;
+use flagexpr::Flags;
 use procstore::{Call, CallFault, Kind, ProcStore, Promise, Run};
 use std::alloc::Global;
 use std::marker::Model;
 
-// The calls that were made for some events, and the binds that were left out since the store lacks their procs: a bind
-// stands there once for each event that calls it. Contracts see the two lists, each in order.
+// The calls that were made for some occasions, and the binds and timers that were left out since the store lacks their procs:
+// one stands there once for each occasion that calls it. Contracts see the two lists, each in order.
 #[derive(Drop)]
 pub(crate) struct Dispatch {
     calls: Vec<MadeCall>,
@@ -33,10 +39,12 @@ impl Model for Dispatch {
 
 impl Dispatch {
     ghost use Rattle.std.specs.Prelude.{◌≡◌, ◌∷◌, [], OnOk, OnErr, IfOk, drop, length, false};
-    ghost use Rattle.botcore.specs.Calls.{told_all};
+    ghost use Rattle.bindtable.specs.Calls.{seen};
+    ghost use Rattle.botcore.specs.Calls.{told_proc, told_all};
+    ghost use Rattle.botcore.specs.Occasions.{time_seen, cron_seen, said_seen, time_call, cron_call, said_call};
     ghost use Rattle.botcore.specs.Made.{Adds, AddsFront};
-    ghost use Rattle.botcore.specs.Dispatching.{told, told_alone};
-    ghost use Rattle.botcore.specs.Dispatched.{setting_in, AddsEvent};
+    ghost use Rattle.botcore.specs.Dispatching.{told, told_alone, told_heard, told_seen, told_due};
+    ghost use Rattle.botcore.specs.Dispatched.{setting_in, AddsOccasion};
 
     // No call, and no bind left out. Takes no memory.
     pub(crate) fn new(alloc: Global) -> Dispatch
@@ -56,33 +64,33 @@ impl Dispatch {
         (Seq::new(self.calls), self.unbound)
     }
 
-    // Calls the proc of a bind, or notes that the store lacks it.
-    pub(crate) fn call_one<P: Promise, B: Run>(
+    // Calls a proc for the bind of this number, or notes that the store lacks it.
+    fn call_proc<P: Promise, B: Run>(
         &mut self,
         alloc: Global,
         store: &ProcStore<P, B>,
         call: &Call,
-        bind: &Bind,
+        number: u32,
+        name: &Text,
     ) -> Result<(), NoMemory>
         ensures ok { OnOk result (Adds P.code_of P.may self.old
-            (told_all P.code_of store.now call.now (bind.now ∷ [])) self.new) }
+            (told_proc P.code_of store.now call.now number name.now ∷ []) self.new) }
         ensures err { OnErr result (self.new ≡ self.old) }
     {
         // Room for the call is made before it, so that each call that is made is told.
         self.calls.reserve(1)?;
-        let proc = bind.proc.copy(alloc)?;
+        let proc = name.copy(alloc)?;
         let call_copy = call.copy(alloc)?;
-        match store.call(bind.proc.as_bytes(), call) {
+        match store.call(name.as_bytes(), call) {
             Ok(reply) => self.calls.push_reserved(MadeCall {
-                bind: bind.number,
+                bind: number,
                 proc,
                 call: call_copy,
                 reply,
             }),
-            Err(Failure::Refused(CallFault::NoSuchProc)) => self.unbound.push(Unbound {
-                bind: bind.number,
-                proc,
-            })?,
+            Err(Failure::Refused(CallFault::NoSuchProc)) => self
+                .unbound
+                .push(Unbound { bind: number, proc })?,
             Err(Failure::NoMemory) => return Err(NoMemory),
         }
         Ok(())
@@ -102,7 +110,7 @@ impl Dispatch {
             (told_all P.code_of store.now call.now binds.entry) self.new) }
     {
         while let Some(bind) = binds.next() {
-            match self.call_one(alloc, store, call, bind) {
+            match self.call_proc(alloc, store, call, bind.number, &bind.proc) {
                 Ok(()) => {}
                 Err(NoMemory) => return Err(NoMemory),
             }
@@ -124,7 +132,7 @@ impl Dispatch {
         ensures err { OnErr result (AddsFront P.code_of P.may self.old
             (told_all P.code_of store.now call.now (first.now ∷ rest.entry)) self.new) }
     {
-        match self.call_one(alloc, store, call, first) {
+        match self.call_proc(alloc, store, call, first.number, &first.proc) {
             Ok(()) => {}
             Err(NoMemory) => return Err(NoMemory),
         }
@@ -134,18 +142,126 @@ impl Dispatch {
         }
     }
 
-    // Calls the procs of an event, as if it were the only one.
+    // Calls the procs of the binds that see this.
+    fn call_seen<P: Promise, B: Run>(
+        &mut self,
+        alloc: Global,
+        scene: &Scene<'_, P, B>,
+        seen_by: &Occurrence<'_>,
+        call: &Call,
+    ) -> Result<(), NoMemory>
+        ensures ok { OnOk result (Adds P.code_of P.may self.old
+            (told_seen (setting_in P.code_of scene.now) (seen seen_by.now) call.now) self.new) }
+        ensures err { OnErr result (AddsFront P.code_of P.may self.old
+            (told_seen (setting_in P.code_of scene.now) (seen seen_by.now) call.now) self.new) }
+    {
+        let found = scene.binds.called(seen_by);
+        match self.call_each(alloc, scene.store, call, found) {
+            Ok(()) => Ok(()),
+            Err(NoMemory) => Err(NoMemory),
+        }
+    }
+
+    // Calls the proc of a due timer.
     #[tactic(auto, using(crate::proofs::MakingLemmas::front_none))]
-    fn call_alone<P: Promise, B: Run>(
+    fn call_due<P: Promise, B: Run>(
+        &mut self,
+        alloc: Global,
+        scene: &Scene<'_, P, B>,
+        proc: &Text,
+    ) -> Result<(), NoMemory>
+        ensures ok { OnOk result (Adds P.code_of P.may self.old
+            (told_due (setting_in P.code_of scene.now) proc.now) self.new) }
+        ensures err { OnErr result (AddsFront P.code_of P.may self.old
+            (told_due (setting_in P.code_of scene.now) proc.now) self.new) }
+    {
+        let call = due_call(alloc);
+        match self.call_proc(alloc, scene.store, &call, 0, proc) {
+            Ok(()) => Ok(()),
+            Err(NoMemory) => Err(NoMemory),
+        }
+    }
+
+    // Calls the procs of time binds.
+    #[tactic(auto, using(crate::proofs::MakingLemmas::front_none))]
+    fn call_time<P: Promise, B: Run>(
+        &mut self,
+        alloc: Global,
+        scene: &Scene<'_, P, B>,
+        minute: &CivilMinute,
+    ) -> Result<(), NoMemory>
+        ensures ok { OnOk result (Adds P.code_of P.may self.old
+            (told_seen (setting_in P.code_of scene.now) (time_seen minute.now) (time_call minute.now)) self.new) }
+        ensures err { OnErr result (AddsFront P.code_of P.may self.old
+            (told_seen (setting_in P.code_of scene.now) (time_seen minute.now) (time_call minute.now)) self.new) }
+    {
+        let text = match time_text(alloc, minute) {
+            Ok(text) => text,
+            Err(NoMemory) => return Err(NoMemory),
+        };
+        let call = match time_call(alloc, minute) {
+            Ok(call) => call,
+            Err(NoMemory) => return Err(NoMemory),
+        };
+        let seen = by_nobody(BindKind::Time, text.as_bytes(), None);
+        self.call_seen(alloc, scene, &seen, &call)
+    }
+
+    // Calls the procs of cron binds.
+    #[tactic(auto, using(crate::proofs::MakingLemmas::front_none))]
+    fn call_cron<P: Promise, B: Run>(
+        &mut self,
+        alloc: Global,
+        scene: &Scene<'_, P, B>,
+        minute: &CivilMinute,
+    ) -> Result<(), NoMemory>
+        ensures ok { OnOk result (Adds P.code_of P.may self.old
+            (told_seen (setting_in P.code_of scene.now) (cron_seen minute.now) (cron_call minute.now)) self.new) }
+        ensures err { OnErr result (AddsFront P.code_of P.may self.old
+            (told_seen (setting_in P.code_of scene.now) (cron_seen minute.now) (cron_call minute.now)) self.new) }
+    {
+        let call = match cron_call(alloc, minute) {
+            Ok(call) => call,
+            Err(NoMemory) => return Err(NoMemory),
+        };
+        let seen = by_nobody(BindKind::Cron, b"", Some(*minute));
+        self.call_seen(alloc, scene, &seen, &call)
+    }
+
+    // Calls the procs of bot binds.
+    #[tactic(auto, using(crate::proofs::MakingLemmas::front_none))]
+    fn call_said<P: Promise, B: Run>(
+        &mut self,
+        alloc: Global,
+        scene: &Scene<'_, P, B>,
+        from: u16,
+        text: &Text,
+    ) -> Result<(), NoMemory>
+        ensures ok { OnOk result (Adds P.code_of P.may self.old
+            (told_seen (setting_in P.code_of scene.now) (said_seen text.now) (said_call from text.now)) self.new) }
+        ensures err { OnErr result (AddsFront P.code_of P.may self.old
+            (told_seen (setting_in P.code_of scene.now) (said_seen text.now) (said_call from text.now)) self.new) }
+    {
+        let call = match said_call(alloc, from, text.as_bytes()) {
+            Ok(call) => call,
+            Err(NoMemory) => return Err(NoMemory),
+        };
+        let seen = by_nobody(BindKind::Bot, first_word(text.as_bytes()), None);
+        self.call_seen(alloc, scene, &seen, &call)
+    }
+
+    // Calls the procs of an event of a message.
+    #[tactic(auto, using(crate::proofs::MakingLemmas::front_none))]
+    fn call_heard<P: Promise, B: Run>(
         &mut self,
         alloc: Global,
         scene: &Scene<'_, P, B>,
         event: &Event,
     ) -> Result<(), NoMemory>
         ensures ok { OnOk result (Adds P.code_of P.may self.old
-            (told_alone (setting_in P.code_of scene.now) event.now) self.new) }
+            (told_heard (setting_in P.code_of scene.now) event.now) self.new) }
         ensures err { OnErr result (AddsFront P.code_of P.may self.old
-            (told_alone (setting_in P.code_of scene.now) event.now) self.new) }
+            (told_heard (setting_in P.code_of scene.now) event.now) self.new) }
     {
         let person = match person_of(alloc, scene.userfile, event) {
             Ok(person) => person,
@@ -154,6 +270,7 @@ impl Dispatch {
         let seen = Occurrence {
             kind: kind_of(event.kind),
             subject: event.subject.as_bytes(),
+            minute: None,
             global: person.flags.global,
             channel: person.flags.chan,
             bot: person.flags.bot,
@@ -169,44 +286,65 @@ impl Dispatch {
         self.call_first(alloc, scene.store, &call, first, found)
     }
 
-    // Calls the procs of an event whose text may be taken already.
+    // Calls the procs of an occasion, as if it were the only one.
+    fn call_alone<P: Promise, B: Run>(
+        &mut self,
+        alloc: Global,
+        scene: &Scene<'_, P, B>,
+        occasion: &Occasion,
+    ) -> Result<(), NoMemory>
+        ensures ok { OnOk result (Adds P.code_of P.may self.old
+            (told_alone (setting_in P.code_of scene.now) occasion.now) self.new) }
+        ensures err { OnErr result (AddsFront P.code_of P.may self.old
+            (told_alone (setting_in P.code_of scene.now) occasion.now) self.new) }
+    {
+        match occasion {
+            Occasion::Heard(event) => self.call_heard(alloc, scene, event),
+            Occasion::Due(proc) => self.call_due(alloc, scene, proc),
+            Occasion::Time(minute) => self.call_time(alloc, scene, minute),
+            Occasion::Cron(minute) => self.call_cron(alloc, scene, minute),
+            Occasion::Said { from, text } => self.call_said(alloc, scene, *from, text),
+        }
+    }
+
+    // Calls the procs of an occasion whose text may be taken already.
     fn call_unless_taken<P: Promise, B: Run>(
         &mut self,
         alloc: Global,
         scene: &Scene<'_, P, B>,
-        event: &Event,
+        occasion: &Occasion,
         taken: bool,
     ) -> Result<(), NoMemory>
         ensures ok { OnOk result (Adds P.code_of P.may self.old
-            (told (setting_in P.code_of scene.now) taken event.now) self.new) }
+            (told (setting_in P.code_of scene.now) taken occasion.now) self.new) }
         ensures err { OnErr result (AddsFront P.code_of P.may self.old
-            (told (setting_in P.code_of scene.now) taken event.now) self.new) }
+            (told (setting_in P.code_of scene.now) taken occasion.now) self.new) }
     {
-        if is_silent(scene.exclusive, taken, kind_of(event.kind)) {
+        if is_silent(scene.exclusive, taken, occasion.kind()) {
             return Ok(());
         }
-        match self.call_alone(alloc, scene, event) {
+        match self.call_alone(alloc, scene, occasion) {
             Ok(()) => Ok(()),
             Err(NoMemory) => Err(NoMemory),
         }
     }
 
-    // Calls the procs of an event whose text may be taken already, and says what follows it.
-    fn call_event<P: Promise, B: Run>(
+    // Calls the procs of an occasion whose text may be taken already, and says what follows it.
+    fn call_occasion<P: Promise, B: Run>(
         &mut self,
         alloc: Global,
         scene: &Scene<'_, P, B>,
-        event: &Event,
+        occasion: &Occasion,
         taken: bool,
     ) -> Result<Next, NoMemory>
         ensures ok { IfOk result (λ next.
-            AddsEvent (setting_in P.code_of scene.now) P.may self.old taken event.now next self.new) }
+            AddsOccasion (setting_in P.code_of scene.now) P.may self.old taken occasion.now next self.new) }
         ensures err { OnErr result (AddsFront P.code_of P.may self.old
-            (told (setting_in P.code_of scene.now) taken event.now) self.new) }
+            (told (setting_in P.code_of scene.now) taken occasion.now) self.new) }
     {
         let before = self.call_count();
-        match self.call_unless_taken(alloc, scene, event, taken) {
-            Ok(()) => Ok(next_of(kind_of(event.kind), self.calls_since(before))),
+        match self.call_unless_taken(alloc, scene, occasion, taken) {
+            Ok(()) => Ok(next_of(occasion.kind(), self.calls_since(before))),
             Err(NoMemory) => Err(NoMemory),
         }
     }
@@ -229,27 +367,27 @@ impl Dispatch {
     }
 }
 
-// Calls the procs that the events of a message call.
+// Calls the procs that occasions call.
 //
-// Each event calls the binds of its kind whose mask and flags let it, oldest first. Where a raw proc answers 1,
-// nothing follows the raw event. Where the scene is exclusive, the first word of a text calls nothing once a proc was
-// called for the whole of that text. A bind whose proc is not in the store is left out and told.
+// Each calls the binds of its kind whose mask and flags let it, oldest first; a due timer calls its proc. Where a raw proc
+// answers 1, nothing follows the raw event. Where the scene is exclusive, the first word of a text calls nothing once a
+// proc was called for the whole of that text. A bind or timer whose proc is not in the store is left out and told.
 //
 // An error has the calls that were made before memory ran out: they are the first of those that would be made.
 pub(crate) fn call_procs<P: Promise, B: Run>(
     alloc: Global,
     scene: &Scene<'_, P, B>,
-    events: &[Event],
+    occasions: &[Occasion],
 ) -> Result<Dispatch, Dispatch>
-    ensures { IsDispatched (setting_in P.code_of scene.now) P.may events.now result }
+    ensures { IsDispatched (setting_in P.code_of scene.now) P.may occasions.now result }
 {
     let mut made = Dispatch::new(alloc);
     let mut next = Next::Go { taken: false };
-    let mut rest = events;
-    while let Some((event, behind)) = rest.split_first() {
+    let mut rest = occasions;
+    while let Some((occasion, behind)) = rest.split_first() {
         match next {
             Next::Stop => return Ok(made),
-            Next::Go { taken } => match made.call_event(alloc, scene, event, taken) {
+            Next::Go { taken } => match made.call_occasion(alloc, scene, occasion, taken) {
                 Ok(after) => next = after,
                 Err(NoMemory) => return Err(made),
             },
@@ -259,9 +397,23 @@ pub(crate) fn call_procs<P: Promise, B: Run>(
     Ok(made)
 }
 
-// Whether an event of this kind calls nothing, since a proc was called for the whole of its text.
+// Whether an occasion of this kind calls nothing, since a proc was called for the whole of its text.
 fn is_silent(exclusive: bool, taken: bool, kind: Kind) -> bool
     ensures { result ≡ (exclusive && (taken && is_word kind)) }
 {
     exclusive && taken && is_word(kind)
+}
+
+// What binds see of an occasion that is by nobody.
+fn by_nobody<'a>(kind: BindKind, subject: &'a [u8], minute: Option<CivilMinute>) -> Occurrence<'a>
+    ensures { seen result ≡ by_nobody kind subject.now minute }
+{
+    Occurrence {
+        kind,
+        subject,
+        minute,
+        global: Flags::empty(),
+        channel: Flags::empty(),
+        bot: Flags::empty(),
+    }
 }

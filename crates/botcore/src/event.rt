@@ -1,7 +1,7 @@
 // What a bot is told.
+use bindtable::BindKind;
 use bytetext::{NoMemory, Text, TryCopy};
 use ircline::Line;
-use procstore::Kind;
 use sharelink::Packet;
 use std::alloc::Global;
 use userfile::Change;
@@ -19,6 +19,8 @@ pub enum Event {
     Pump,
     /// A packet comes over the link.
     Receive(Packet),
+    /// The clock reads this many seconds since 1970-01-01 00:00 UTC.
+    Clock(u64),
     /// A bind is to be made.
     Bind(NewBind),
     /// A bind is to be taken away.
@@ -33,6 +35,7 @@ impl TryCopy for Event {
             Event::Ask(change) => Ok(Event::Ask(change.copy(alloc)?)),
             Event::Pump => Ok(Event::Pump),
             Event::Receive(packet) => Ok(Event::Receive(packet.copy(alloc)?)),
+            Event::Clock(now) => Ok(Event::Clock(*now)),
             Event::Bind(asked) => Ok(Event::Bind(asked.copy(alloc)?)),
             Event::Unbind(gone) => Ok(Event::Unbind(gone.copy(alloc)?)),
         }
@@ -43,7 +46,7 @@ impl TryCopy for Event {
 #[derive(Drop)]
 pub struct NewBind {
     /// The kind of event.
-    pub kind: Kind,
+    pub kind: BindKind,
     /// The flag expression that a person has to meet.
     pub flags: Text,
     /// The keyword of a msg or pub bind, and otherwise the mask.
@@ -70,7 +73,7 @@ impl TryCopy for NewBind {
 #[derive(Drop)]
 pub struct OldBind {
     /// The kind of event.
-    pub kind: Kind,
+    pub kind: BindKind,
     /// The keyword or mask.
     pub mask: Text,
     /// The name of the proc.

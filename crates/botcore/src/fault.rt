@@ -2,10 +2,11 @@
 ghost use Rattle.std.specs.Prelude.{◌≡◌};
 ghost use Rattle.std.specs.Option.{option_copied};
 ghost use Rattle.botcore.specs.Configs.{code_of};
-ghost use Rattle.botcore.specs.Codes.{refusal_code, fault_word, fault_proc};
+ghost use Rattle.botcore.specs.Codes.{action_code, refusal_code, fault_word, fault_proc};
 
 use crate::made_call::Unbound;
 use bindtable::BindFault;
+use bottimers::ClockFault;
 use bytetext::{Failure, NoMemory, TryCopy};
 use sharelink::LinkFault;
 use std::alloc::Global;
@@ -42,6 +43,9 @@ pub enum Refusal {
     /// The table of binds refuses to make a bind or to take one away.
     #[error("{0}")]
     Bind(BindFault),
+    /// The clock refuses a reading.
+    #[error("{0}")]
+    Clock(ClockFault),
 }
 
 impl Refusal {
@@ -52,6 +56,30 @@ impl Refusal {
         match self {
             Refusal::Link(fault) => fault.code(),
             Refusal::Bind(fault) => fault.code(),
+            Refusal::Clock(fault) => fault.code(),
+        }
+    }
+}
+
+/// Why an action is refused.
+#[derive(Clone, Copy, Debug, PartialEq, Eq, Error)]
+pub enum ActionFault {
+    /// The link refuses an ask or a text.
+    #[error("{0}")]
+    Link(LinkFault),
+    /// The timers refuse to make a timer or to take one away.
+    #[error("{0}")]
+    Clock(ClockFault),
+}
+
+impl ActionFault {
+    /// The letter and number that transcripts print.
+    pub fn code(self) -> &'static str
+        ensures { result.now ≡ action_code self }
+    {
+        match self {
+            ActionFault::Link(fault) => fault.code(),
+            ActionFault::Clock(fault) => fault.code(),
         }
     }
 }
@@ -59,10 +87,10 @@ impl Refusal {
 /// What went wrong in a step that is done all the same.
 #[derive(Debug, Drop)]
 pub enum Fault {
-    /// A bind was left out, since the store lacks its proc.
+    /// A bind or a due timer was left out, since the store lacks its proc.
     Unbound(Unbound),
     /// What a proc asked for was refused and left out.
-    Action(LinkFault),
+    Action(ActionFault),
 }
 
 impl Fault {

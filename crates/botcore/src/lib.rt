@@ -1,16 +1,16 @@
 //! One bot: what it is told, which procs that calls, and what it makes of their answers.
 //!
 //! A [`Config`] says who a bot is. [`Bot::new`] makes it, and [`Bot::step`] does one step: it takes an [`Event`] and
-//! gives a [`Report`]. A message of the server calls procs of the store that the caller lends; every other event calls
-//! none.
+//! gives a [`Report`]. A message of the server, a text of another bot and a reading of the clock call procs of the store
+//! that the caller lends; every other event calls none.
 //!
-//! What a step may report and leave is stated whole in `specs/Steps.antt`. The calls of a message are those of
-//! `specs/Dispatching.antt`, each with a reply that keeps its proc's promise, and what they leave is `after_line` in
-//! `specs/Lines.antt`. A step that runs out of memory leaves the bot as it was.
+//! What a step may report and leave is stated whole in `specs/Steps.antt`. What happens is in `specs/Happenings.antt`, its
+//! calls are those of `specs/Dispatching.antt`, each with a reply that keeps its proc's promise, and what their actions do
+//! is in `specs/Acting.antt`. A step that runs out of memory leaves the bot as it was.
 //!
 //! ```text
 //! let mut bot = Bot::new(alloc, config)?;
-//! let asked = NewBind { kind: Kind::Msg, flags, mask, proc };
+//! let asked = NewBind { kind: BindKind::Msg, flags, mask, proc };
 //! bot.step(alloc, &store, Event::Bind(asked));            // Done, Bound(1)
 //! let line = read_line(alloc, b":a!b@c PRIVMSG egg0 :hi dave")?;
 //! let report = bot.step(alloc, &store, Event::Line(line));
@@ -18,26 +18,33 @@
 //! ```
 #![tactic(auto)]
 
+mod acting;
 mod bot;
+mod calls;
 mod config;
 mod dispatch;
 mod event;
 mod fault;
+mod heard;
 mod limits;
 mod line;
 mod link;
 mod made_call;
 mod next;
 mod occasion;
+mod reading;
 mod report;
+mod running;
 mod scene;
 mod step;
+mod words;
 
 pub use crate::bot::Bot;
 pub use crate::config::Config;
 pub use crate::event::{Event, NewBind, OldBind};
-pub use crate::fault::{BotError, BotFault, Fault, Refusal};
+pub use crate::fault::{ActionFault, BotError, BotFault, Fault, Refusal};
 pub use crate::limits::MAX_NICK;
 pub use crate::link::Link;
 pub use crate::made_call::{MadeCall, Unbound};
+pub use crate::occasion::Occasion;
 pub use crate::report::{End, Faults, MadeCalls, Note, Report};

@@ -1,16 +1,14 @@
 // A bot's end of the sharing link.
-ghost use Rattle.std.specs.Prelude.{◌≡◌, ◌≤◌, ◌++◌, [], length, IfOk, OnOk, OnErr};
-ghost use Rattle.sharelink.specs.Meets.{Meets, refusals_of, with_refusal};
+ghost use Rattle.std.specs.Prelude.{◌≡◌, ◌≤◌, length, IfOk};
+ghost use Rattle.sharelink.specs.Meets.{Meets};
+ghost use Rattle.sharelink.specs.Texts.{Gives};
 ghost use Rattle.botcore.specs.Links.{new_link, link_records, link_version};
-ghost use Rattle.botcore.specs.Links.{link_asked, link_pumped, link_received};
+ghost use Rattle.botcore.specs.Links.{link_asked, link_pumped, link_received, link_text};
 ghost use Rattle.botcore.specs.Links.{ask_count, link_with_oldest};
-ghost use Rattle.botcore.specs.Lines.{link_after, action_faults};
 
-use crate::fault::Fault;
-use bytetext::{Failure, NoMemory, TryCopy};
-use sharelink::{Answer, HubLink, LeafLink, LinkError, MAX_LEAVES, Packet};
+use bytetext::{NoMemory, TryCopy};
+use sharelink::{Answer, HubLink, LeafLink, LinkError, MAX_LEAVES, Outgoing, Packet};
 use std::alloc::Global;
-use std::collections::VecDeque;
 use userfile::{Change, Userfile};
 
 /// A bot's end of the sharing link: the hub's, or a leaf's. Only contracts speak of it.
@@ -86,51 +84,19 @@ impl Link {
         }
     }
 
-    // Lets changes wait, one after another, all that aren't refused or none, and puts the refusals after other faults.
-    pub(crate) fn ask_all(
-        &mut self,
+    // A text to another bot, where so many were sent before it. The link stays as it was.
+    pub(crate) fn send_text(
+        &self,
         alloc: Global,
-        mut changes: VecDeque<Change>,
-        faults: &mut Vec<Fault>,
-    ) -> Result<(), NoMemory>
-        ensures faults { OnOk result (faults.new.items ≡
-            faults.old.items ++ action_faults (refusals_of link_asked self.old changes.items)) }
-        ensures ok { OnOk result (self.new ≡ link_after self.old changes.items) }
-        ensures err { OnErr result (self.new ≡ self.old) }
+        to: u16,
+        text: &[u8],
+        sent: usize,
+    ) -> Result<Outgoing, LinkError>
+        ensures { Gives (link_text self.now to text.now sent) result }
     {
-        let waiting = self.ask_count();
-        while let Some(change) = changes.pop_front() {
-            match self.ask_or_tell(alloc, change, faults) {
-                Ok(()) => {}
-                Err(NoMemory) => {
-                    self.keep_asks(waiting);
-                    return Err(NoMemory);
-                }
-            }
-        }
-        Ok(())
-    }
-
-    // Lets a change wait, or puts its refusal after other faults.
-    #[tactic(auto, using(crate::proofs::AskLemmas::link_asked_refused))]
-    fn ask_or_tell(
-        &mut self,
-        alloc: Global,
-        change: Change,
-        faults: &mut Vec<Fault>,
-    ) -> Result<(), NoMemory>
-        ensures faults { OnOk result (faults.new.items ≡
-            faults.old.items ++ action_faults (with_refusal (link_asked self.old change).answer [])) }
-        ensures ok { OnOk result (self.new ≡ (link_asked self.old change).after) }
-        ensures err { OnErr result (self.new ≡ self.old) }
-    {
-        match self.ask(alloc, change) {
-            Ok(_) => Ok(()),
-            Err(Failure::Refused(fault)) => match faults.push(Fault::Action(fault)) {
-                Ok(()) => Ok(()),
-                Err(_) => Err(NoMemory),
-            },
-            Err(Failure::NoMemory) => Err(NoMemory),
+        match self {
+            Link::Hub(hub) => hub.send_text(alloc, to, text, sent),
+            Link::Leaf(leaf) => leaf.send_text(alloc, to, text, sent),
         }
     }
 

@@ -6,7 +6,7 @@ use std::alloc::Global;
 /// A call that was made, and what it answered.
 #[derive(Debug, Drop)]
 pub struct MadeCall {
-    /// The number of the bind that it was made for.
+    /// The number of the bind that it was made for; 0 where a timer was due.
     pub bind: u32,
     /// The name of the proc.
     pub proc: Text,
@@ -30,10 +30,10 @@ impl TryCopy for MadeCall {
     }
 }
 
-/// A bind that an event calls, whose proc is not in the store.
+/// A bind or a due timer that calls, whose proc is not in the store.
 #[derive(Debug, Drop)]
 pub struct Unbound {
-    /// The number of the bind.
+    /// The number of the bind; 0 where a timer was due.
     pub bind: u32,
     /// The name of the proc.
     pub proc: Text,

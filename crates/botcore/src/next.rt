@@ -1,4 +1,4 @@
-// What follows an event.
+// What follows an occasion.
 ghost use Rattle.std.specs.Prelude.{◌≡◌, ◌&&◌, not, ◌==◌, map, length};
 ghost use Rattle.std.specs.List.{list_any};
 ghost use Rattle.botcore.specs.Dispatching.{is_one, is_raw, is_whole, is_word, is_logged, is_silencing, next_of};
@@ -8,19 +8,19 @@ ghost use Rattle.botcore.specs.Made.{entry_of};
 use crate::made_call::MadeCall;
 use procstore::{Code, Kind};
 
-// What follows an event of a message.
+// What follows an occasion.
 #[derive(Clone, Copy, Debug)]
 pub(crate) enum Next {
     // Nothing: a raw proc has answered 1.
     Stop,
-    // The next event.
+    // The next occasion.
     Go {
         // Whether a proc was called for the whole of a text, which its first word may follow.
         taken: bool,
     },
 }
 
-// What follows an event of this kind and these calls.
+// What follows an occasion of this kind and these calls.
 #[tactic(auto, using(crate::proofs::NextLemmas::has_one_entries, crate::proofs::NextLemmas::length_entries))]
 pub(crate) fn next_of(kind: Kind, calls: &[MadeCall]) -> Next
     ensures { result ≡ next_of kind (map entry_of calls.now) }
@@ -52,29 +52,20 @@ fn is_one(code: Code) -> bool
 fn is_raw(kind: Kind) -> bool
     ensures { result ≡ is_raw kind }
 {
-    match kind {
-        Kind::Raw => true,
-        Kind::Msg | Kind::Msgm | Kind::Notc | Kind::Pub | Kind::Pubm => false,
-    }
+    matches!(kind, Kind::Raw)
 }
 
 fn is_whole(kind: Kind) -> bool
     ensures { result ≡ is_whole kind }
 {
-    match kind {
-        Kind::Msgm | Kind::Pubm => true,
-        Kind::Raw | Kind::Msg | Kind::Notc | Kind::Pub => false,
-    }
+    matches!(kind, Kind::Msgm | Kind::Pubm)
 }
 
 // Whether a kind goes by a text's first word.
 pub(crate) fn is_word(kind: Kind) -> bool
     ensures { result ≡ is_word kind }
 {
-    match kind {
-        Kind::Msg | Kind::Pub => true,
-        Kind::Raw | Kind::Msgm | Kind::Notc | Kind::Pubm => false,
-    }
+    matches!(kind, Kind::Msg | Kind::Pub)
 }
 
 // Whether a raw call has code 1, after which a line is not taken into the channel state.
@@ -112,8 +103,5 @@ fn has_silencer(calls: &[MadeCall]) -> bool
 fn is_silencing(kind: Kind) -> bool
     ensures { result ≡ is_silencing kind }
 {
-    match kind {
-        Kind::Raw | Kind::Msgm | Kind::Notc | Kind::Pubm => true,
-        Kind::Msg | Kind::Pub => false,
-    }
+    matches!(kind, Kind::Raw | Kind::Msgm | Kind::Notc | Kind::Pubm)
 }

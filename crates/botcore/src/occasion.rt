@@ -1,127 +1,92 @@
-// What binds and procs see of an event.
-ghost use Rattle.std.specs.Prelude.{◌≡◌, [], IfOk};
-ghost use Rattle.std.specs.Option.{option_copied};
-ghost use Rattle.botcore.specs.Occasions.{kind_of, is_personal, text_at, who_of, flags_on, person_of, call_by};
+// What calls procs.
+ghost use Rattle.std.specs.Prelude.{◌≡◌, IfOk};
+ghost use Rattle.botcore.specs.Occasions.{due_call, time_call, cron_call, said_call};
 
-use bytetext::{NoMemory, Text, Texts, copies_of};
-use chanstate::{Event, Kind as EventKind};
-use flagexpr::Flags;
+use crate::heard::kind_of;
+use crate::words::{after_word, bot_name, first_word};
+use bottimers::{CivilMinute, cron_args, time_args};
+use bytetext::{NoMemory, Text, Texts};
+use chanstate::Event;
 use procstore::{Call, Kind};
 use std::alloc::Global;
-use userfile::{PersonFlags, Userfile};
 
-// Whom an event is by, as far as the userfile knows.
-#[derive(Clone, Copy)]
-pub(crate) struct Person<'a> {
-    // Empty where it is by nobody.
-    pub(crate) handle: &'a [u8],
-    pub(crate) flags: PersonFlags,
+/// What calls procs. Only contracts speak of it.
+#[derive(Drop)]
+pub enum Occasion {
+    /// An event of a message.
+    Heard(Event),
+    /// A timer of this proc is due.
+    Due(Text),
+    /// A minute begins, for time binds.
+    Time(CivilMinute),
+    /// A minute begins, for cron binds.
+    Cron(CivilMinute),
+    /// A bot tells this one a text.
+    Said {
+        /// The number of the bot that tells it.
+        from: u16,
+        /// The text.
+        text: Text,
+    },
 }
 
-// The kind under which binds know an event.
-pub(crate) fn kind_of(kind: EventKind) -> Kind
-    ensures { result ≡ kind_of kind }
-{
-    match kind {
-        EventKind::Raw => Kind::Raw,
-        EventKind::Msg => Kind::Msg,
-        EventKind::Msgm => Kind::Msgm,
-        EventKind::Notc => Kind::Notc,
-        EventKind::Pub => Kind::Pub,
-        EventKind::Pubm => Kind::Pubm,
-    }
-}
+impl Occasion {
+    ghost use Rattle.std.specs.Prelude.{◌≡◌};
+    ghost use Rattle.botcore.specs.Occasions.{kind_for};
 
-// Whether an event is by a person.
-fn is_personal(kind: EventKind) -> bool
-    ensures { result ≡ is_personal kind }
-{
-    match kind {
-        EventKind::Raw => false,
-        EventKind::Msg | EventKind::Msgm | EventKind::Notc | EventKind::Pub | EventKind::Pubm =>
-            true,
-    }
-}
-
-// Whom an event is by.
-pub(crate) fn person_of<'a>(
-    alloc: Global,
-    userfile: &'a Userfile,
-    event: &Event,
-) -> Result<Person<'a>, NoMemory>
-    ensures handle { IfOk result (λ person. person.handle.now ≡ (person_of userfile.now.users event.now).handle) }
-    ensures flags { IfOk result (λ person. person.flags ≡ (person_of userfile.now.users event.now).flags) }
-{
-    if !is_personal(event.kind) {
-        return Ok(nobody());
-    }
-    let who = who_of(alloc, event.arguments.as_slice())?;
-    let handle = userfile.handle_of(who.as_bytes());
-    let channel = event.channel.as_ref().map(|name| name.as_bytes());
-    let flags = flags_on(userfile, handle, channel);
-    Ok(Person { handle, flags })
-}
-
-// By nobody.
-fn nobody<'a>() -> Person<'a>
-    ensures handle { result.handle.now ≡ [] }
-    ensures flags { result.flags ≡ record { global = 0; chan = 0; bot = 0 } }
-{
-    let flags = PersonFlags {
-        global: Flags::empty(),
-        chan: Flags::empty(),
-        bot: Flags::empty(),
-    };
-    Person { handle: b"", flags }
-}
-
-// A text of a list, and the empty one where there is none.
-fn text_at(texts: &[Text], place: usize) -> &[u8]
-    ensures { result.now ≡ text_at texts.now place }
-{
-    match texts.get(place) {
-        Some(text) => text.as_bytes(),
-        None => b"",
-    }
-}
-
-// The person of these arguments, as hostmasks match one.
-fn who_of(alloc: Global, arguments: &[Text]) -> Result<Text, NoMemory>
-    ensures { IfOk result (λ who. who ≡ who_of arguments.now) }
-{
-    let mut who = Vec::from_slice(alloc, text_at(arguments, 0))?;
-    who.push(b'!')?;
-    who.extend_from_slice(text_at(arguments, 1))?;
-    Ok(Text::new(who))
-}
-
-// The flags of a handle where an event is on this channel, or on none.
-fn flags_on(userfile: &Userfile, handle: &[u8], channel: Option<&[u8]>) -> PersonFlags
-    ensures { result ≡ flags_on userfile.now.users handle.now (option_copied channel.entry) }
-{
-    match channel {
-        Some(channel) => userfile.flags_of(handle, channel),
-        None => {
-            let flags = userfile.flags_of(handle, b"");
-            PersonFlags {
-                global: flags.global,
-                chan: Flags::empty(),
-                bot: flags.bot,
-            }
+    // What procs are called for.
+    pub(crate) fn kind(&self) -> Kind
+        ensures { result ≡ kind_for self.now }
+    {
+        match self {
+            Occasion::Heard(event) => kind_of(event.kind).kind(),
+            Occasion::Due(_) => Kind::Timer,
+            Occasion::Time(_) => Kind::Time,
+            Occasion::Cron(_) => Kind::Cron,
+            Occasion::Said { .. } => Kind::Bot,
         }
     }
 }
 
-// What procs are called with for an event by this handle.
-pub(crate) fn call_by(alloc: Global, handle: &[u8], event: &Event) -> Result<Call, NoMemory>
-    ensures { IfOk result (λ call. call ≡ call_by handle.now event.now) }
+// What a due timer calls its proc with. Takes no memory.
+pub(crate) fn due_call(alloc: Global) -> Call
+    ensures { result ≡ due_call }
 {
-    let mut args = copies_of(alloc, event.arguments.as_slice())?;
-    if is_personal(event.kind) && args.len() >= 2 {
-        args.insert(2, Text::from_slice(alloc, handle)?)?;
+    Call {
+        kind: Kind::Timer,
+        args: Texts::new(Vec::new(alloc)),
     }
+}
+
+// What time binds call their procs with.
+pub(crate) fn time_call(alloc: Global, minute: &CivilMinute) -> Result<Call, NoMemory>
+    ensures { IfOk result (λ call. call ≡ time_call minute.now) }
+{
     Ok(Call {
-        kind: kind_of(event.kind),
-        args: Texts::new(args),
+        kind: Kind::Time,
+        args: time_args(alloc, minute)?,
+    })
+}
+
+// What cron binds call their procs with.
+pub(crate) fn cron_call(alloc: Global, minute: &CivilMinute) -> Result<Call, NoMemory>
+    ensures { IfOk result (λ call. call ≡ cron_call minute.now) }
+{
+    Ok(Call {
+        kind: Kind::Cron,
+        args: cron_args(alloc, minute)?,
+    })
+}
+
+// What bot binds call their procs with.
+pub(crate) fn said_call(alloc: Global, from: u16, text: &[u8]) -> Result<Call, NoMemory>
+    ensures { IfOk result (λ call. call ≡ said_call from text.now) }
+{
+    let name = bot_name(alloc, from)?;
+    let word = Text::from_slice(alloc, first_word(text))?;
+    let rest = Text::from_slice(alloc, after_word(text))?;
+    Ok(Call {
+        kind: Kind::Bot,
+        args: Texts::new(vec![in alloc; name, word, rest]?),
     })
 }

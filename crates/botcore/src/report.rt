@@ -1,6 +1,6 @@
 // What a step tells.
-ghost use Rattle.std.specs.Prelude.{◌≡◌};
-ghost use Rattle.botcore.specs.Reports.{heard, cut_short};
+ghost use Rattle.std.specs.Prelude.{◌≡◌, IfOk};
+ghost use Rattle.botcore.specs.Reports.{told, cut_short};
 ghost use Rattle.botcore.specs.Reports.{plain, done, refused, out_of_memory};
 ghost use Rattle.botcore.specs.Reports.{answer_report, bind_report, unbind_report};
 
@@ -23,8 +23,8 @@ pub enum End {
     NoMemory,
 }
 
-/// What came of a step that is done. A connect and a message of the server have none.
-#[derive(Clone, Copy, Debug, PartialEq, Eq)]
+/// What came of a step that is done. A connect, a message of the server and a reading of the clock have none.
+#[derive(Debug, Drop)]
 pub enum Note {
     /// What came of a call of the link.
     Link(sharelink::Note),
@@ -34,6 +34,17 @@ pub enum Note {
     Unbound(u32),
     /// The line is no message, and nothing is done for it.
     Bad(ircline::Fault),
+}
+
+impl TryCopy for Note {
+    fn copy(&self, alloc: Global) -> Result<Note, NoMemory> {
+        match self {
+            Note::Link(note) => Ok(Note::Link(note.copy(alloc)?)),
+            Note::Bound(number) => Ok(Note::Bound(*number)),
+            Note::Unbound(number) => Ok(Note::Unbound(*number)),
+            Note::Bad(fault) => Ok(Note::Bad(*fault)),
+        }
+    }
 }
 
 /// Calls in order.
@@ -53,7 +64,7 @@ pub struct Report {
     pub calls: MadeCalls,
     /// The packets to send, in order.
     pub packets: Outgoings,
-    /// The binds that were left out since the store lacks their procs, in the order in which they would be called; then
+    /// The binds and timers that were left out since the store lacks their procs, in the order in which they would be called; then
     /// the actions that were refused, in the order of the calls.
     pub faults: Faults,
     /// Whether the line is logged: false where a raw, `msgm`, `pubm` or `notc` proc has answered 1, and true for any
@@ -136,22 +147,27 @@ impl Report {
         }
     }
 
-    // A message of these calls, with these faults. Takes no memory.
-    pub(crate) fn heard(alloc: Global, calls: MadeCalls, faults: Faults) -> Report
-        ensures { result ≡ heard calls faults }
+    // These calls were made, and this came of them. Takes no memory.
+    pub(crate) fn told(
+        note: Option<Note>,
+        calls: MadeCalls,
+        packets: Outgoings,
+        faults: Faults,
+    ) -> Report
+        ensures { result ≡ told note calls packets faults }
     {
         let logged = is_logged(calls.as_slice());
         Report {
             end: End::Done,
-            note: None,
+            note,
             calls,
-            packets: Seq::empty(alloc),
+            packets,
             faults,
             logged,
         }
     }
 
-    // A message of which these calls were made before memory ran out. Takes no memory.
+    // These calls were made before memory ran out. Takes no memory.
     pub(crate) fn cut_short(alloc: Global, calls: MadeCalls) -> Report
         ensures { result ≡ cut_short calls }
     {
@@ -169,16 +185,26 @@ impl Report {
 
 impl TryCopy for Report {
     fn copy(&self, alloc: Global) -> Result<Report, NoMemory> {
+        let note = copy_of_note(alloc, &self.note)?;
         let calls = self.calls.copy(alloc)?;
         let packets = self.packets.copy(alloc)?;
         let faults = self.faults.copy(alloc)?;
         Ok(Report {
             end: self.end,
-            note: self.note,
+            note,
             calls,
             packets,
             faults,
             logged: self.logged,
         })
+    }
+}
+
+fn copy_of_note(alloc: Global, note: &Option<Note>) -> Result<Option<Note>, NoMemory>
+    ensures { IfOk result (λ twin. twin ≡ note.now) }
+{
+    match note {
+        Some(note) => Ok(Some(note.copy(alloc)?)),
+        None => Ok(None),
     }
 }

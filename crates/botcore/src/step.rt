@@ -6,27 +6,31 @@ use bytetext::NoMemory;
 use chanstate::ChanState;
 use ircline::Line;
 use procstore::{ProcStore, Promise, Run};
-use sharelink::Packet;
+use sharelink::{Answer, Packet};
 use std::alloc::Global;
 use userfile::Change;
 
 impl Bot {
-    ghost use Rattle.std.specs.Prelude.{◌≡◌, ◌≤◌, [], length};
-    ghost use Rattle.sharelink.specs.declared.TheConstants.{MAX_LEAVES};
+    ghost use Rattle.std.specs.Prelude.{◌≡◌, ◌≤◌, [], Some, None, Ok, length};
+    ghost use Rattle.botcore.specs.Happenings.{Saying, saying_in};
+    ghost use Rattle.botcore.specs.Reports.{answer_report};
+    ghost use Rattle.sharelink.specs.declared.TheConstants.{MAX_LEAVES, MAX_TEXTS};
     ghost use Rattle.botcore.specs.Links.{link_asked, link_pumped, link_received};
-    ghost use Rattle.botcore.specs.Steps.{TakesStep};
+    ghost use Rattle.botcore.specs.Steps.{TakesStep, TakesText};
     ghost use Rattle.botcore.specs.Steps.{Gives, GivesRow, GivesBind, GivesUnbind, connect_due, asked_of};
 
     /// Does one step: the bot is told this event, and reports what came of it.
     ///
-    /// A message of the server calls the procs of the binds that its events call. When all have answered, their actions
-    /// are done in the order of the calls; one that is refused is left out and told. Then the message is taken into the
-    /// channel state, unless a raw proc has answered 1. Each other event is one call of the link or of the table of
-    /// binds, or a connect, and calls nothing.
+    /// A message of the server calls the procs of the binds that its events call; a text of another bot those of its
+    /// first word; a reading of the clock, second by second, those of due timers and of the minutes that begin. When all
+    /// have answered, their actions are done in the order of the calls; one that is refused is left out and told. Then a
+    /// message is taken into the channel state, unless a raw proc has answered 1. New timers are made at the last second
+    /// that the clock has seen. Each other event is one call of the link or of the table of binds, or a connect, and
+    /// calls nothing.
     ///
     /// The report ends `NoMemory` where a growth was refused: then the bot is as it was, and the calls that were made
-    /// are the first of those that would be made. A line that is no message, a bind that is taken away, and each call
-    /// of the link that takes no memory never end so.
+    /// are the first of those that would be made. A line that is no message, a reading that is refused or not above the
+    /// last, a bind that is taken away, and each call of the link that takes no memory never end so.
     pub fn step<P: Promise, B: Run>(
         &mut self,
         alloc: Global,
@@ -41,7 +45,8 @@ impl Bot {
             Event::Line(line) => self.take_line(alloc, store, &line),
             Event::Ask(change) => self.ask(alloc, change),
             Event::Pump => self.pump(alloc),
-            Event::Receive(packet) => self.receive(alloc, &packet),
+            Event::Receive(packet) => self.receive(alloc, store, &packet),
+            Event::Clock(now) => self.read_clock(alloc, store, now),
             Event::Bind(asked) => self.bind(alloc, &asked),
             Event::Unbind(gone) => self.unbind(alloc, &gone),
         }
@@ -69,7 +74,7 @@ impl Bot {
         line: &Line,
     ) -> Report
         ensures takes { TakesStep P.code_of P.may store.now self.old (Event.Line line.now) result self.new }
-        ensures few { result.packets ≡ [] }
+        ensures few { length result.packets ≤ MAX_TEXTS }
     {
         match line {
             Line::Message(message) => self.hear(alloc, store, message),
@@ -96,12 +101,40 @@ impl Bot {
     }
 
     // A packet comes.
-    fn receive(&mut self, alloc: Global, packet: &Packet) -> Report
-        ensures row { GivesRow self.old (link_received self.old.link packet.now) result self.new }
+    fn receive<P: Promise, B: Run>(
+        &mut self,
+        alloc: Global,
+        store: &ProcStore<P, B>,
+        packet: &Packet,
+    ) -> Report
+        ensures takes { TakesStep P.code_of P.may store.now self.old (Event.Receive packet.now) result self.new }
         ensures few { length result.packets ≤ MAX_LEAVES }
     {
-        let answer = self.link.receive(alloc, packet);
-        Report::of_answer(alloc, answer)
+        match self.link.receive(alloc, packet) {
+            Ok(answer) => self.take_answer(alloc, store, answer),
+            Err(why) => Report::of_answer(alloc, Err(why)),
+        }
+    }
+
+    // What the link answers to a packet, which may bring a text to this bot.
+    fn take_answer<P: Promise, B: Run>(
+        &mut self,
+        alloc: Global,
+        store: &ProcStore<P, B>,
+        answer: Answer,
+    ) -> Report
+        requires { length answer.packets ≤ MAX_LEAVES }
+        ensures text { (saying : Saying) → saying_in answer.note ≡ Some saying
+            → TakesText P.code_of P.may store.now self.old saying result self.new }
+        ensures report { saying_in answer.note ≡ None → result ≡ answer_report (Ok answer) }
+        ensures same { saying_in answer.note ≡ None → self.new ≡ self.old }
+        ensures few { length result.packets ≤ MAX_LEAVES }
+    {
+        let Answer { note, packets } = answer;
+        match note {
+            sharelink::Note::Text { from, text } => self.hear_text(alloc, store, from, text),
+            note => Report::of_answer(alloc, Ok(Answer { note, packets })),
+        }
     }
 
     // A bind is to be made.

@@ -1,14 +1,21 @@
-use Rattle.std.proofs.Common.{◌∙◌}
+use Rattle.std.proofs.Common.{◌∙◌, ap, sym, subst}
+use Rattle.bottimers.specs.Held.{Held}
+use Rattle.botcore.specs.Acting.{actions_of}
 use Rattle.botcore.specs.Bots.{Bot}
-use Rattle.botcore.proofs.AskLemmas.{asks_taken_back}
+use Rattle.botcore.specs.Progress.{Progress}
+use Rattle.botcore.specs.Rising.{IsReached}
+use Rattle.botcore.proofs.ReachLemmas.{reached_by}
 use Rattle.botcore.proofs.bot.Bot.act.Goals as goal
 
-pub returns-in-Err-clause-err : goal.returns-in-Err-clause-err
-returns-in-Err-clause-err c =
-    let old : Bot
-    = record { config = c.self.inside.config; link = c.self.inside.link; binds = c.self.inside.binds; channels = c.self.inside.channels } in
-    let asked : Bot
-    = record { config = c.self-2.inside.config; link = c.self-2.inside.link; binds = c.self-2.inside.binds; channels = c.self-2.inside.channels } in
-    asks_taken_back old asked c.in_ok-changes.changes.items c.ask_all.new.self c.keep_asks.new.self c.ask_count-waiting.result
-    (c.self-2.view_is ∙ c.in-Err.ensures.err) c.in_ok-ask_all.ensures.ok c.ask_count-waiting.ensures c.keep_asks.ensures
-    ∙ c.self.view_is
+pub returns-clause-reading : goal.returns-clause-reading
+returns-clause-reading c =
+    let inside = c.self.inside in
+    let made = c.new-doing.result in
+    let last = ap (λ (p : Progress). p.last) c.new-doing.ensures ∙ c.last.ensures in
+    let timers = ap (λ (p : Progress). p.timers) c.new-doing.ensures ∙ c.in_ok-timers.ensures in
+    let reached = subst (λ (h : Held). IsReached h.last made.last) (sym timers) (subst (IsReached inside.timers.last) (sym last) c.self.invariant.0) in
+    let done = reached_by inside.link c.act_all.new.self made c.act_all.new.doing (actions_of c.args.calls.now) inside.clock
+    c.in_ok-act_all.ensures.done reached last in
+    let clock = ap (λ (b : Bot). b.clock) c.self.view_is in
+    subst (IsReached c.doing.inside.timers.last) clock
+    (subst (λ (p : Progress). IsReached p.timers.last inside.clock) (sym c.doing.view_is) done)

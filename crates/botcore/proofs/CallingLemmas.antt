@@ -1,0 +1,87 @@
+-- What is reported of what calls procs, by the calls that were made.
+use Rattle.std.proofs.Common.{◌≡◌, ◌∙◌, ℕ, List, [], ◌++◌, map, Option, None, refl, ap, sym, subst}
+use Rattle.std.proofs.lemmas.List.{append-nil}
+use Rattle.std.proofs.lemmas.List.Elements.{filter_map-append}
+use Rattle.procstore.specs.declared.action.Action.{Action}
+use Rattle.procstore.specs.declared.call.Call.{Call}
+use Rattle.procstore.specs.declared.reply.Code.{Code}
+use Rattle.botcore.specs.declared.made_call.MadeCall.{MadeCall}
+use Rattle.botcore.specs.declared.made_call.Unbound.{Unbound}
+use Rattle.botcore.specs.declared.fault.Fault.{Fault}
+use Rattle.botcore.specs.declared.report.Note.{Note}
+use Rattle.botcore.specs.declared.report.Report.{Report}
+use Rattle.sharelink.specs.declared.answer.Outgoing.{Outgoing}
+use Rattle.bottimers.specs.Seconds.{seconds_run}
+use Rattle.botcore.specs.declared.occasion.Occasion.{Occasion}
+use Rattle.botcore.specs.Bots.{Bot, bot_setting}
+use Rattle.botcore.specs.Acting.{faults_of}
+use Rattle.botcore.specs.Calls.{Telling, called_in, calls_in}
+use Rattle.botcore.specs.Dispatching.{is_logged, told_of}
+use Rattle.botcore.specs.Happenings.{seconds_of}
+use Rattle.botcore.specs.Lines.{acting_of, acting_after, after_calls}
+use Rattle.botcore.specs.Made.{Made, IsMade, IsFrontMade, AllKept, entry_of}
+use Rattle.botcore.specs.Reports.{cut_short, told as told_as}
+use Rattle.botcore.specs.Steps.{IsCalled, IsCutShort, TakesCalls, TakesSeconds, run_to}
+use Rattle.botcore.specs.Shown.{AreOccasions, AreTaken}
+use Rattle.botcore.proofs.RunningLemmas.{AreFirst-all}
+
+module _ (code_of : List ℕ → Call → Code) (may : List ℕ → Call → List Action → Type 0) where
+  -- the first calls were made
+  IsCutShort-front : (told : List Telling) (old new : Bot) (made : Made) → IsFrontMade code_of may made told → new ≡ old
+      → IsCutShort code_of may told old (cut_short made.calls) new
+  IsCutShort-front told old new made front same = record {
+    rest = calls_in front.1;
+    calls = ap (λ es. es ++ calls_in front.1) front.3.calls ∙ sym (ap calls_in front.2 ∙ filter_map-append called_in front.0 front.1);
+    kept = front.3.kept;
+    note = refl;
+    packets = refl;
+    faults = refl;
+    logged = refl;
+    after = same;
+  }
+
+  -- a report of the first calls
+  pub cut_short-takes : (told : List Telling) (old new start : Bot) (came : Option Note) (finish : List MadeCall → Bot) (made : Made) (calls : List MadeCall)
+      (report : Report) → IsFrontMade code_of may made told → calls ≡ made.calls → new ≡ old → report ≡ cut_short calls
+      → TakesCalls report.end code_of may told old start came finish report new
+  cut_short-takes told old new start came finish made calls report front same_calls same told_as =
+      subst (λ (r : Report). TakesCalls r.end code_of may told old start came finish r new)
+      (sym (told_as ∙ ap cut_short same_calls))
+      (IsCutShort-front told old new made front same)
+
+  -- a report of all calls
+  pub told-takes : (told : List Telling) (old start new : Bot) (came : Option Note) (finish : List MadeCall → Bot) (made : Made) (calls : List MadeCall)
+      (unbound : List Unbound) (packets : List Outgoing) (faults : List Fault) (report : Report)
+      → IsMade code_of may made told → calls ≡ made.calls → unbound ≡ made.unbound
+      → packets ≡ (acting_after start calls).sent → faults ≡ faults_of (acting_of start) calls unbound → new ≡ finish calls
+      → report ≡ told_as came calls packets faults
+      → TakesCalls report.end code_of may told old start came finish report new
+  told-takes told old start new came finish made calls unbound packets faults report is same_calls same_unbound sent why after reported =
+      let entries : map entry_of calls ≡ calls_in told = ap (map entry_of) same_calls ∙ is.calls in
+      subst (λ (r : Report). TakesCalls r.end code_of may told old start came finish r new) (sym reported)
+      (record {
+        calls = entries;
+        kept = subst (AllKept code_of may) (sym same_calls) is.kept;
+        note = refl;
+        packets = sent;
+        faults = why ∙ ap (faults_of (acting_of start) calls) (same_unbound ∙ is.unbound);
+        logged = ap is_logged entries;
+        after = after;
+      })
+
+  -- the seconds of a reading, of which the first calls were made
+  pub cut_short-seconds : (names : List (List ℕ)) (old new : Bot) (now : ℕ) (occasions : List Occasion) (made : Made) (calls : List MadeCall) (report : Report)
+      → AreOccasions (seconds_of old.config.offset old.timers (seconds_run old.clock now)) occasions
+      → IsFrontMade code_of may made (told_of (bot_setting code_of names old) occasions) → calls ≡ made.calls → new ≡ old → report ≡ cut_short calls
+      → TakesSeconds code_of may names old now report new
+  cut_short-seconds names old new now occasions made calls report all front same_calls same reported = (
+    occasions,
+    subst (λ (r : Report). AreTaken r.end (seconds_of old.config.offset old.timers (seconds_run old.clock now)) occasions) (sym reported)
+        (AreFirst-all (seconds_of old.config.offset old.timers (seconds_run old.clock now)) occasions all),
+    cut_short-takes (told_of (bot_setting code_of names old) occasions) old new (run_to old now) None (after_calls (run_to old now)) made calls report
+        front same_calls same reported,
+  )
+
+  -- all is the first of it
+  pub front_all : (made : Made) (told : List Telling) → IsMade code_of may made told → IsFrontMade code_of may made told
+  front_all made told is = (told, [], sym (append-nil told), is)

@@ -1,0 +1,32 @@
+use Rattle.std.proofs.Common.{◌∙◌, ℕ, Option, ap, sym, subst, Some}
+use Rattle.bottimers.specs.Held.{Held}
+use Rattle.bottimers.specs.Seconds.{seconds_run, last_after}
+use Rattle.botcore.specs.Bots.{Bot}
+use Rattle.botcore.specs.Rising.{IsReached, Rise}
+use Rattle.botcore.specs.Happenings.{passed_all}
+use Rattle.botcore.specs.Steps.{is_stale}
+use Rattle.botcore.proofs.RunningLemmas.{rise_run, passed_run, last_after_reading}
+use Rattle.botcore.proofs.bot.Bot.run.Goals as goal
+
+pub run_seconds-requires-clause-rise : goal.run_seconds-requires-clause-rise
+run_seconds-requires-clause-rise c =
+    let now = c.args.now in
+    let inside = c.self.inside in
+    let seconds = c.as_slice.ensures.value ∙ c.in-Ok.ensures.seconds ∙ ap (λ (k : Option ℕ). seconds_run k now) c.in_ok-clock.ensures.equal in
+    let fresh = ap (λ (b : Bot). is_stale b.clock now) c.self.view_is ∙ c.requires.above in
+    subst (λ (h : Held). Rise h.last c.as_slice.result.now) (sym c.in_ok-timers.ensures)
+    (subst (Rise inside.timers.last) (sym seconds) (rise_run inside.clock inside.timers.last now c.self.invariant.0 c.requires.moment fresh))
+
+pub returns-clause-reading : goal.returns-clause-reading
+returns-clause-reading c =
+    let now = c.args.now in
+    let inside = c.self.inside in
+    let seconds = c.as_slice.ensures.value ∙ c.in-Ok.ensures.seconds ∙ ap (λ (k : Option ℕ). seconds_run k now) c.in_ok-clock.ensures.equal in
+    let fresh = ap (λ (b : Bot). is_stale b.clock now) c.self.view_is ∙ c.requires.above in
+    let ran = c.in_ok-occasions.ensures.passed ∙ ap (λ (h : Held). passed_all h c.as_slice.result.now) c.in_ok-timers.ensures
+    ∙ ap (passed_all inside.timers) seconds in
+    let read = c.in-Ok.ensures.moved ∙ ap (λ (k : Option ℕ). Some (last_after k now)) c.in_ok-clock.ensures.equal
+    ∙ ap (λ (t : ℕ). Some t) (last_after_reading inside.clock now fresh) in
+    subst (λ (h : Held). IsReached h.last c.advance.new.self) (sym ran)
+    (subst (IsReached (passed_all inside.timers (seconds_run inside.clock now)).last) (sym read)
+    (passed_run inside.clock inside.timers now c.self.invariant.0 fresh))

@@ -1,0 +1,115 @@
+-- What the actions of calls do to a bot: all of them, in the order of the calls, whatever the codes were. One that is refused
+-- leaves all as it was, and is told.
+use Rattle.std.specs.Prelude.{ℕ, ◌+◌, List, [], ◌∷◌, ◌++◌, length, map, Bool, true, false, Option, Some, None, unwrap_or, Result, Ok, Err}
+use Rattle.bottimers.specs.declared.fault.ClockFault.{ClockFault}
+use Rattle.bottimers.specs.declared.fault.ClockFault.TheVariants.{NoSuchTimer}
+use Rattle.bottimers.specs.declared.timer.Timer.{Timer}
+use Rattle.bottimers.specs.declared.timer.TimerKind.{TimerKind}
+use Rattle.bottimers.specs.declared.timer.TimerKind.TheVariants.{Minutes, Seconds}
+use Rattle.bottimers.specs.Held.{Held, add_fault, with_timer, holds, without}
+use Rattle.userfile.specs.declared.change.Change.{Change}
+use Rattle.procstore.specs.declared.action.Action.{Action}
+use Rattle.procstore.specs.declared.action.Action.TheVariants.{Ask, Timer as timer_wished, Utimer, KillTimer, SendBot}
+use Rattle.procstore.specs.declared.action.BotWish.{BotWish}
+use Rattle.procstore.specs.declared.action.TimerWish.{TimerWish}
+use Rattle.sharelink.specs.declared.answer.Answer.{Answer}
+use Rattle.sharelink.specs.declared.answer.Outgoing.{Outgoing}
+use Rattle.sharelink.specs.declared.error.LinkFault.{LinkFault}
+use Rattle.sharelink.specs.Meets.{Row}
+use Rattle.botcore.specs.declared.fault.ActionFault.{ActionFault}
+use Rattle.botcore.specs.declared.fault.ActionFault.TheVariants.{Link as link_fault, Clock as clock_fault}
+use Rattle.botcore.specs.declared.fault.Fault.{Fault}
+use Rattle.botcore.specs.declared.fault.Fault.TheVariants.{Unbound as unbound_fault, Action as action_fault}
+use Rattle.botcore.specs.declared.link.Link.{Link}
+use Rattle.botcore.specs.declared.made_call.MadeCall.{MadeCall}
+use Rattle.botcore.specs.declared.made_call.Unbound.{Unbound}
+use Rattle.botcore.specs.Links.{link_asked, link_text}
+
+-- what actions change: the link, the timers, and the texts that are sent; new timers are made at the last second
+pub record Acting : Type 0 where
+  pub link : Link
+  pub timers : Held
+  pub last : Option ℕ
+  pub sent : List Outgoing
+
+-- an action leaves this, and is refused or not
+pub record Acted : Type 0 where
+  pub after : Acting
+  pub fault : Option ActionFault
+
+abbrev pub done_to : Acting → Acted
+done_to after = record { after = after; fault = None }
+
+abbrev pub refused_to : Acting → ActionFault → Acted
+refused_to old fault = record { after = old; fault = Some fault }
+
+-- ---- one action
+
+-- a change is asked for
+abbrev pub answer_fault : Result Answer LinkFault → Option ActionFault
+answer_fault (Ok answer) = None
+answer_fault (Err fault) = Some (link_fault fault)
+
+abbrev pub asked_to : Acting → Row Link → Acted
+asked_to old row = record { after = record old { link = row.after }; fault = answer_fault row.answer }
+
+-- a timer is made under the next id
+abbrev pub timer_of : Acting → TimerKind → TimerWish → Timer
+timer_of old kind wish =
+    record {
+      id = old.timers.spent + 1;
+      kind = kind;
+      made = unwrap_or old.last 0;
+      interval = wish.interval;
+      count = wish.count;
+      proc = wish.proc;
+    }
+
+abbrev pub made_unless : Option ClockFault → Acting → Timer → Acted
+made_unless (Some fault) old timer = refused_to old (clock_fault fault)
+made_unless None old timer = done_to (record old { timers = with_timer old.timers timer })
+
+abbrev pub timer_made : TimerKind → Acting → TimerWish → Acted
+timer_made kind old wish = made_unless (add_fault old.timers wish.interval old.last) old (timer_of old kind wish)
+
+-- a timer is taken away, if it is held
+abbrev pub killed_if : Bool → Acting → ℕ → Acted
+killed_if true old id = done_to (record old { timers = without old.timers id })
+killed_if false old id = refused_to old (clock_fault NoSuchTimer)
+
+-- a text goes out after those that went out so far
+abbrev pub sent_if : Result Outgoing LinkFault → Acting → Acted
+sent_if (Ok outgoing) old = done_to (record old { sent = old.sent ++ outgoing ∷ [] })
+sent_if (Err fault) old = refused_to old (link_fault fault)
+
+abbrev pub acted : Acting → Action → Acted
+acted old (Ask change) = asked_to old (link_asked old.link change)
+acted old (timer_wished wish) = timer_made Minutes old wish
+acted old (Utimer wish) = timer_made Seconds old wish
+acted old (KillTimer id) = killed_if (holds old.timers id) old id
+acted old (SendBot wish) = sent_if (link_text old.link wish.to wish.text (length old.sent)) old
+
+-- ---- all actions
+
+-- the actions of calls, in the order of the calls
+abbrev pub actions_of : List MadeCall → List Action
+actions_of [] = []
+actions_of (m ∷ ms) = m.reply.actions ++ actions_of ms
+
+abbrev pub acted_all : Acting → List Action → Acting
+acted_all old [] = old
+acted_all old (a ∷ actions) = acted_all (acted old a).after actions
+
+-- a refusal, before those of later actions
+abbrev pub with_fault : Option ActionFault → List Fault → List Fault
+with_fault None later = later
+with_fault (Some fault) later = action_fault fault ∷ later
+
+-- the refusals
+abbrev pub action_faults : Acting → List Action → List Fault
+action_faults old [] = []
+action_faults old (a ∷ actions) = with_fault (acted old a).fault (action_faults (acted old a).after actions)
+
+-- the binds that were left out, and then the actions that are refused
+abbrev pub faults_of : Acting → List MadeCall → List Unbound → List Fault
+faults_of old calls unbound = map (λ u. unbound_fault u) unbound ++ action_faults old (actions_of calls)

@@ -1,0 +1,80 @@
+-- What calls procs, as an event makes it happen at a bot.
+use Rattle.std.specs.Prelude.{ℕ, ◌/◌, ◌%◌, ◌==◌, ℤ, pos, ◌+ℤ◌, List, [], ◌∷◌, ◌++◌, map, length, if◌then◌else◌}
+use Rattle.std.specs.Prelude.{Option, Some, None, Result, Ok, Err}
+use Rattle.ircline.specs.declared.line.Line.TheVariants.{Message as a_message}
+use Rattle.chanstate.specs.declared.event.Event.{Event as MessageEvent}
+use Rattle.chanstate.specs.Events.{events_of}
+use Rattle.chanstate.specs.Speech.{first_word}
+use Rattle.bottimers.specs.Held.{Held, calls_at, passed}
+use Rattle.bottimers.specs.Seconds.{seconds_run}
+use Rattle.sharelink.specs.declared.answer.Answer.{Answer}
+use Rattle.sharelink.specs.declared.answer.Note.{Note as LinkNote}
+use Rattle.sharelink.specs.declared.answer.Note.TheVariants.{Text as text_note}
+use Rattle.sharelink.specs.declared.error.LinkFault.{LinkFault}
+use Rattle.botcore.specs.declared.event.Event.{Event}
+use Rattle.botcore.specs.declared.event.Event.TheVariants.{Line, Receive, Clock}
+use Rattle.botcore.specs.Bots.{Bot}
+use Rattle.botcore.specs.Links.{link_received}
+
+pub data Happening : Type 0 where
+  -- an event of a message
+  Heard : (event : MessageEvent) → Happening
+  -- a timer of this proc is due
+  Due : (proc : List ℕ) → Happening
+  -- a minute begins, by its number from the start of 1970 on the bot's clock: once for time binds and once for cron binds
+  Time : (minute : ℤ) → Happening
+  Cron : (minute : ℤ) → Happening
+  -- a bot tells this one a text
+  Said : (from : ℕ) → (text : List ℕ) → Happening
+
+-- ---- a text of another bot
+
+pub record Saying : Type 0 where
+  pub from : ℕ
+  pub text : List ℕ
+
+-- what the link takes for this bot, if it is a text
+abbrev pub saying_in : LinkNote → Option Saying
+saying_in (text_note from text) = Some (record { from = from; text = text })
+saying_in other = None
+
+abbrev pub saying_of : Result Answer LinkFault → Option Saying
+saying_of (Ok answer) = saying_in answer.note
+saying_of (Err fault) = None
+
+-- a text that begins with a space has no first word, and calls nothing
+abbrev pub said : Saying → List Happening
+said saying = if length (first_word saying.text) == 0 then [] else Said saying.from saying.text ∷ []
+
+abbrev pub said_if : Option Saying → List Happening
+said_if None = []
+said_if (Some saying) = said saying
+
+-- ---- the clock
+
+-- where the clock is so many minutes ahead of UTC, a second that begins a minute is a time event and then a cron event
+abbrev pub minute_of : ℤ → ℕ → List Happening
+minute_of offset t = if t % 60 == 0 then Time (pos (t / 60) +ℤ offset) ∷ Cron (pos (t / 60) +ℤ offset) ∷ [] else []
+
+-- what a second brings: the timers that are due, and its minute where it begins one
+abbrev pub second_of : ℤ → ℕ → Held → List Happening
+second_of offset t timers = map (λ c. Due c.1) (calls_at t timers) ++ minute_of offset t
+
+-- what seconds bring, one after another
+abbrev pub seconds_of : ℤ → Held → List ℕ → List Happening
+seconds_of offset timers [] = []
+seconds_of offset timers (t ∷ ts) = second_of offset t timers ++ seconds_of offset (passed t timers) ts
+
+-- the timers after these seconds
+abbrev pub passed_all : Held → List ℕ → Held
+passed_all timers [] = timers
+passed_all timers (t ∷ ts) = passed_all (passed t timers) ts
+
+-- ---- any event
+
+-- the events of a message, the seconds that a reading runs, a text that a packet brings; nothing else calls procs
+abbrev pub happenings_of : Bot → Event → List Happening
+happenings_of bot (Line (a_message message)) = map Heard (events_of message bot.channels)
+happenings_of bot (Receive packet) = said_if (saying_of (link_received bot.link packet).answer)
+happenings_of bot (Clock now) = seconds_of bot.config.offset bot.timers (seconds_run bot.clock now)
+happenings_of bot other = []

@@ -1,0 +1,203 @@
+// What the actions of calls do.
+ghost use Rattle.botcore.specs.Acting.{actions_of};
+ghost use Rattle.botcore.specs.Progress.{HasMoreAsks, LeavesAll};
+
+use crate::fault::{ActionFault, Fault};
+use crate::link::Link;
+use crate::made_call::MadeCall;
+use crate::report::Faults;
+use bottimers::{TimerKind, Timers};
+use bytetext::{Failure, NoMemory, Seq, TryCopy};
+use procstore::{Action, BotWish, TimerWish};
+use sharelink::Outgoings;
+use std::alloc::Global;
+use std::marker::Model;
+use userfile::Change;
+
+// What actions have changed so far beside the link, and what went wrong.
+#[derive(Drop)]
+pub(crate) struct Doing {
+    // The timers: new ones are made at the last second.
+    pub(crate) timers: Timers,
+    // The last second of the clock.
+    pub(crate) last: Option<u64>,
+    // The texts that go out.
+    pub(crate) sent: Outgoings,
+    // What went wrong.
+    pub(crate) faults: Faults,
+}
+
+impl Model for Doing {
+    ghost use Rattle.std.specs.Prelude.{◌≤◌, length};
+    ghost use Rattle.bottimers.specs.Held.{IsNotBelow};
+    ghost use Rattle.sharelink.specs.declared.TheConstants.{MAX_TEXTS};
+    ghost use Rattle.botcore.specs.Progress.{Progress};
+
+    ghost Value = { Progress };
+
+    ghost view = { λ d. record { timers = d.timers; last = d.last; sent = d.sent; faults = d.faults } };
+
+    ghost invariant = { λ d. IsNotBelow d.timers.last d.last × (length d.sent ≤ MAX_TEXTS) };
+}
+
+impl Link {
+    ghost use Rattle.std.specs.Prelude.{◌≡◌, OnOk, OnErr};
+
+    // Does all that calls ask for, in their order, and tells what is refused. Out of memory the link is as it was, and
+    // the rest is not to be used.
+    pub(crate) fn act_all(
+        &mut self,
+        alloc: Global,
+        calls: &[MadeCall],
+        doing: &mut Doing,
+    ) -> Result<(), NoMemory>
+        ensures done { OnOk result (LeavesAll self.old doing.old (actions_of calls.now) self.new doing.new) }
+        ensures err { OnErr result (self.new ≡ self.old) }
+        ensures kept { HasMoreAsks self.old self.new }
+    {
+        let waiting = self.ask_count();
+        match doing.act_for(alloc, self, calls) {
+            Ok(()) => Ok(()),
+            Err(NoMemory) => {
+                self.keep_asks(waiting);
+                Err(NoMemory)
+            }
+        }
+    }
+}
+
+impl Doing {
+    ghost use Rattle.std.specs.Prelude.{◌≡◌, ◌++◌, ◌∷◌, [], length, OnOk};
+    ghost use Rattle.bottimers.specs.Held.{IsNotBelow, holds};
+    ghost use Rattle.botcore.specs.declared.fault.Fault.TheVariants.{Action as action_fault};
+    ghost use Rattle.botcore.specs.declared.link.Link.{Link};
+    ghost use Rattle.botcore.specs.Acting.{acted, asked_to, killed_if, sent_if, timer_made};
+    ghost use Rattle.botcore.specs.Links.{link_asked, link_text};
+    ghost use Rattle.botcore.specs.Progress.{Leaves, acting_at};
+
+    // Before the first action. Takes no memory.
+    pub(crate) fn new(alloc: Global, timers: Timers, last: Option<u64>, faults: Faults) -> Doing
+        requires { IsNotBelow timers.last last }
+        ensures { result ≡ record { timers = timers; last = last; sent = []; faults = faults } }
+    {
+        Doing {
+            timers,
+            last,
+            sent: Seq::empty(alloc),
+            faults,
+        }
+    }
+
+    // Does all that calls ask for, in their order.
+    fn act_for(
+        &mut self,
+        alloc: Global,
+        link: &mut Link,
+        calls: &[MadeCall],
+    ) -> Result<(), NoMemory>
+        ensures done { OnOk result (LeavesAll link.old self.old (actions_of calls.now) link.new self.new) }
+        ensures kept { HasMoreAsks link.old link.new }
+    {
+        for call in calls {
+            self.act_all(alloc, link, call.reply.actions.as_slice())?;
+        }
+        Ok(())
+    }
+
+    // Does these actions, in order.
+    fn act_all(
+        &mut self,
+        alloc: Global,
+        link: &mut Link,
+        actions: &[Action],
+    ) -> Result<(), NoMemory>
+        ensures done { OnOk result (LeavesAll link.old self.old actions.now link.new self.new) }
+        ensures kept { HasMoreAsks link.old link.new }
+    {
+        for action in actions {
+            self.act(alloc, link, action)?;
+        }
+        Ok(())
+    }
+
+    // Does an action, or tells why not.
+    #[tactic(auto, using(crate::proofs::AskLemmas::HasMoreAsks_refl))]
+    fn act(&mut self, alloc: Global, link: &mut Link, action: &Action) -> Result<(), NoMemory>
+        ensures done { OnOk result (Leaves self.old (acted (acting_at link.old self.old) action.now) link.new self.new) }
+        ensures kept { HasMoreAsks link.old link.new }
+    {
+        match action {
+            Action::Ask(change) => self.ask(alloc, link, change),
+            Action::Timer(wish) => self.make_timer(alloc, TimerKind::Minutes, wish),
+            Action::Utimer(wish) => self.make_timer(alloc, TimerKind::Seconds, wish),
+            Action::KillTimer(id) => self.kill_timer(*id),
+            Action::SendBot(wish) => self.send_text(alloc, link, wish),
+        }
+    }
+
+    // Lets a change wait for a pump, or tells why not.
+    #[tactic(auto, using(crate::proofs::AskLemmas::HasMoreAsks_refl))]
+    fn ask(&mut self, alloc: Global, link: &mut Link, change: &Change) -> Result<(), NoMemory>
+        ensures done { OnOk result (Leaves self.old
+            (asked_to (acting_at link.old self.old) (link_asked link.old change.now)) link.new self.new) }
+        ensures kept { HasMoreAsks link.old link.new }
+    {
+        let change = change.copy(alloc)?;
+        match link.ask(alloc, change) {
+            Ok(_) => Ok(()),
+            Err(Failure::Refused(fault)) => self.tell(ActionFault::Link(fault)),
+            Err(Failure::NoMemory) => Err(NoMemory),
+        }
+    }
+
+    // Makes a timer, or tells why not.
+    fn make_timer(
+        &mut self,
+        alloc: Global,
+        kind: TimerKind,
+        wish: &TimerWish,
+    ) -> Result<(), NoMemory>
+        ensures { OnOk result ((link : Link) →
+            Leaves self.old (timer_made kind (acting_at link self.old) wish.now) link self.new) }
+    {
+        let proc = wish.proc.copy(alloc)?;
+        match self
+            .timers
+            .add(kind, wish.interval, wish.count, proc, self.last)
+        {
+            Ok(_) => Ok(()),
+            Err(Failure::Refused(fault)) => self.tell(ActionFault::Clock(fault)),
+            Err(Failure::NoMemory) => Err(NoMemory),
+        }
+    }
+
+    // Takes a timer away, or tells why not.
+    fn kill_timer(&mut self, id: u32) -> Result<(), NoMemory>
+        ensures { OnOk result ((link : Link) →
+            Leaves self.old (killed_if (holds self.old.timers id) (acting_at link self.old) id) link self.new) }
+    {
+        match self.timers.kill(id) {
+            Ok(()) => Ok(()),
+            Err(fault) => self.tell(ActionFault::Clock(fault)),
+        }
+    }
+
+    // Lets a text go out, or tells why not.
+    fn send_text(&mut self, alloc: Global, link: &Link, wish: &BotWish) -> Result<(), NoMemory>
+        ensures { OnOk result (Leaves self.old (sent_if
+            (link_text link.now wish.now.to wish.now.text (length self.old.sent)) (acting_at link.now self.old)) link.now self.new) }
+    {
+        match link.send_text(alloc, wish.to, wish.text.as_bytes(), self.sent.len()) {
+            Ok(outgoing) => self.sent.push(outgoing),
+            Err(Failure::Refused(fault)) => self.tell(ActionFault::Link(fault)),
+            Err(Failure::NoMemory) => Err(NoMemory),
+        }
+    }
+
+    // Tells a refusal after the faults so far.
+    fn tell(&mut self, fault: ActionFault) -> Result<(), NoMemory>
+        ensures { OnOk result (self.new ≡ record self.old { faults = self.old.faults ++ action_fault fault ∷ [] }) }
+    {
+        self.faults.push(Fault::Action(fault))
+    }
+}

@@ -1,0 +1,140 @@
+// What calls and their actions make of a bot.
+ghost use Rattle.std.specs.Prelude.{◌≡◌, [], map, IfOk, IsFalse};
+ghost use Rattle.botcore.specs.declared.fault.Fault.TheVariants.{Unbound as unbound_fault};
+ghost use Rattle.botcore.specs.Acting.{actions_of};
+
+use crate::acting::Doing;
+use crate::bot::Bot;
+use crate::dispatch::{Dispatch, call_procs};
+use crate::fault::Fault;
+use crate::made_call::{MadeCall, Unbound};
+use crate::occasion::Occasion;
+use crate::report::Faults;
+use crate::scene::Scene;
+use bottimers::Timers;
+use bytetext::{NoMemory, Seq, TryCopy};
+use procstore::{ProcStore, Promise, Run};
+use sharelink::Outgoings;
+use std::alloc::Global;
+
+// What actions leave, beside the link.
+#[derive(Drop)]
+pub(crate) struct Left {
+    // The timers, if an action may have changed them.
+    pub(crate) timers: Option<Timers>,
+    // The texts that are to go out.
+    pub(crate) packets: Outgoings,
+    // The binds and timers that were left out, and then the actions that were refused.
+    pub(crate) faults: Faults,
+}
+
+impl Bot {
+    ghost use Rattle.std.specs.Prelude.{◌≡◌, ◌≤◌, [], length, unwrap_or, IfOk, IfSome, OnOk, OnErr};
+    ghost use Rattle.botcore.specs.Rising.{IsReached};
+    ghost use Rattle.sharelink.specs.declared.TheConstants.{MAX_TEXTS};
+    ghost use Rattle.botcore.specs.Acting.{faults_of};
+    ghost use Rattle.botcore.specs.Bots.{bot_setting};
+    ghost use Rattle.botcore.specs.Dispatched.{IsDispatched};
+    ghost use Rattle.botcore.specs.Lines.{acting_of, acting_after, after_calls};
+    ghost use Rattle.botcore.specs.Progress.{HasMoreAsks};
+
+    // Calls the procs that occasions call: all of them, or the first ones before memory ran out.
+    pub(crate) fn call_procs<P: Promise, B: Run>(
+        &self,
+        alloc: Global,
+        store: &ProcStore<P, B>,
+        occasions: &[Occasion],
+    ) -> Result<Dispatch, Dispatch>
+        ensures { IsDispatched (bot_setting P.code_of store.now self.now) P.may occasions.now result }
+    {
+        let scene = Scene {
+            store,
+            binds: &self.binds,
+            userfile: self.link.userfile(),
+            exclusive: self.config.exclusive,
+        };
+        call_procs(alloc, &scene, occasions)
+    }
+
+    // Does what calls ask for at the link, and says what else is to be done. Where memory runs out, all is as it was.
+    pub(crate) fn act(
+        &mut self,
+        alloc: Global,
+        calls: &[MadeCall],
+        unbound: Vec<Unbound>,
+    ) -> Result<Left, NoMemory>
+        ensures faults { IfOk result (λ left. left.faults ≡ faults_of (acting_of self.old) calls.now unbound.items) }
+        ensures packets { IfOk result (λ left. left.packets ≡ (acting_after self.old calls.now).sent) }
+        ensures few { IfOk result (λ left. length left.packets ≤ MAX_TEXTS) }
+        ensures timers { IfOk result (λ left. unwrap_or left.timers self.old.timers ≡ (acting_after self.old calls.now).timers) }
+        ensures reading { IfOk result (λ left. IfSome left.timers (λ timers. IsReached timers.last self.old.clock)) }
+        ensures ok { OnOk result (self.new ≡ record self.old { link = (acting_after self.old calls.now).link }) }
+        ensures err { OnErr result (self.new ≡ self.old) }
+        ensures kept { HasMoreAsks self.old.link self.new.link }
+    {
+        let faults = left_out(alloc, unbound)?;
+        if !asks_any(calls) {
+            return Ok(Left {
+                timers: None,
+                packets: Seq::empty(alloc),
+                faults,
+            });
+        }
+        let timers = self.timers.copy(alloc)?;
+        let mut doing = Doing::new(alloc, timers, self.clock.last(), faults);
+        self.link.act_all(alloc, calls, &mut doing)?;
+        Ok(Left {
+            timers: Some(doing.timers),
+            packets: doing.sent,
+            faults: doing.faults,
+        })
+    }
+
+    // Takes the timers that actions left, if they may have changed them. Takes no memory.
+    pub(crate) fn put_timers(&mut self, timers: Option<Timers>)
+        requires { IfSome timers (λ timers. IsReached timers.last self.old.clock) }
+        ensures { self.new ≡ record self.old { timers = unwrap_or timers self.old.timers } }
+    {
+        if let Some(timers) = timers {
+            self.timers = timers;
+        }
+    }
+
+    // Does all that calls ask for, or nothing: answers the texts and the faults.
+    pub(crate) fn settle(
+        &mut self,
+        alloc: Global,
+        calls: &[MadeCall],
+        unbound: Vec<Unbound>,
+    ) -> Result<(Outgoings, Faults), NoMemory>
+        ensures faults { IfOk result (λ told. told.1 ≡ faults_of (acting_of self.old) calls.now unbound.items) }
+        ensures packets { IfOk result (λ told. told.0 ≡ (acting_after self.old calls.now).sent) }
+        ensures few { IfOk result (λ told. length told.0 ≤ MAX_TEXTS) }
+        ensures ok { OnOk result (self.new ≡ after_calls self.old calls.now) }
+        ensures err { OnErr result (self.new ≡ self.old) }
+    {
+        let left = self.act(alloc, calls, unbound)?;
+        self.put_timers(left.timers);
+        Ok((left.packets, left.faults))
+    }
+}
+
+// The binds that were left out, as faults.
+fn left_out(alloc: Global, unbound: Vec<Unbound>) -> Result<Faults, NoMemory>
+    ensures { IfOk result (λ faults. faults ≡ map (λ u. unbound_fault u) unbound.items) }
+{
+    let faults = unbound.into_iter().map(Fault::Unbound).collect(alloc)?;
+    Ok(Seq::new(faults))
+}
+
+// Whether some call asks for something.
+fn asks_any(calls: &[MadeCall]) -> bool
+    ensures { IsFalse result → actions_of calls.now ≡ [] }
+{
+    for call in calls {
+        if !call.reply.actions.is_empty() {
+            return true;
+        }
+    }
+    false
+}

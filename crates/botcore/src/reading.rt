@@ -1,0 +1,158 @@
+// What a reading of the clock makes of a bot.
+ghost use Rattle.std.specs.Prelude.{◌≡◌};
+ghost use Rattle.botcore.specs.Steps.{is_stale};
+
+use crate::bot::Bot;
+use crate::fault::Refusal;
+use crate::made_call::{MadeCall, Unbound};
+use crate::occasion::Occasion;
+use crate::report::{Faults, Report};
+use crate::running::run_seconds;
+use bottimers::{Clock, ClockFault, Timers};
+use bytetext::{MOMENTS_END, NoMemory, Seq, TryCopy};
+use procstore::{ProcStore, Promise, Run};
+use sharelink::Outgoings;
+use std::alloc::Global;
+use std::mem;
+
+// What the seconds of a reading bring, and the clock and the timers after them.
+#[derive(Drop)]
+struct Ran {
+    clock: Clock,
+    timers: Timers,
+    occasions: Vec<Occasion>,
+}
+
+impl Bot {
+    ghost use Rattle.std.specs.Prelude.{◌≡◌, ◌≤◌, ◌<◌, false, Some, length, IfOk, OnOk, OnErr};
+    ghost use Rattle.bytetext.specs.declared.moment.TheConstants.{MOMENTS_END as end_of_moments};
+    ghost use Rattle.botcore.specs.Rising.{IsReached};
+    ghost use Rattle.bottimers.specs.Seconds.{reading_fault, seconds_run};
+    ghost use Rattle.sharelink.specs.declared.TheConstants.{MAX_TEXTS};
+    ghost use Rattle.botcore.specs.Acting.{faults_of};
+    ghost use Rattle.botcore.specs.Happenings.{seconds_of};
+    ghost use Rattle.botcore.specs.Lines.{acting_of, acting_after, after_calls};
+    ghost use Rattle.botcore.specs.Shown.{AreOccasions};
+    ghost use Rattle.botcore.specs.Steps.{TakesReading, TakesSeconds, is_stale, run_to};
+
+    // A reading of the clock: the seconds that run call procs, and then all that they ask for is done, or nothing is.
+    pub(crate) fn read_clock<P: Promise, B: Run>(
+        &mut self,
+        alloc: Global,
+        store: &ProcStore<P, B>,
+        now: u64,
+    ) -> Report
+        ensures takes { TakesReading (reading_fault now) P.code_of P.may store.now self.old now result self.new }
+        ensures few { length result.packets ≤ MAX_TEXTS }
+    {
+        if now >= MOMENTS_END {
+            return Report::refused(alloc, Refusal::Clock(ClockFault::BadMoment));
+        }
+        if is_stale(self.clock.last(), now) {
+            return Report::done(alloc, None);
+        }
+        self.take_seconds(alloc, store, now)
+    }
+
+    // A reading that is the first, or above the last.
+    fn take_seconds<P: Promise, B: Run>(
+        &mut self,
+        alloc: Global,
+        store: &ProcStore<P, B>,
+        now: u64,
+    ) -> Report
+        requires moment { now < end_of_moments }
+        requires above { is_stale self.old.clock now ≡ false }
+        ensures takes { TakesSeconds P.code_of P.may store.now self.old now result self.new }
+        ensures few { length result.packets ≤ MAX_TEXTS }
+    {
+        let ran = match self.run(alloc, now) {
+            Ok(ran) => ran,
+            Err(NoMemory) => return Report::cut_short(alloc, Seq::empty(alloc)),
+        };
+        let made = match self.call_procs(alloc, store, ran.occasions.as_slice()) {
+            Ok(made) => made,
+            Err(made) => return Report::cut_short(alloc, made.into_parts().0),
+        };
+        let (calls, unbound) = made.into_parts();
+        match self.settle_at(alloc, calls.as_slice(), unbound, ran.clock, ran.timers) {
+            Ok((packets, faults)) => Report::told(None, calls, packets, faults),
+            Err(NoMemory) => Report::cut_short(alloc, calls),
+        }
+    }
+
+    // Lets copies of the clock and the timers run to a reading.
+    fn run(&self, alloc: Global, now: u64) -> Result<Ran, NoMemory>
+        requires moment { now < end_of_moments }
+        requires above { is_stale self.now.clock now ≡ false }
+        ensures clock { IfOk result (λ ran. ran.clock ≡ (run_to self.now now).clock) }
+        ensures timers { IfOk result (λ ran. ran.timers ≡ (run_to self.now now).timers) }
+        ensures reading { IfOk result (λ ran. IsReached ran.timers.last ran.clock) }
+        ensures occasions { IfOk result (λ ran. AreOccasions
+            (seconds_of self.now.config.offset self.now.timers (seconds_run self.now.clock now)) ran.occasions.items) }
+    {
+        let mut clock = self.clock.copy(alloc)?;
+        let mut timers = self.timers.copy(alloc)?;
+        let seconds = match clock.advance(alloc, now) {
+            Ok(seconds) => seconds,
+            Err(_) => return Err(NoMemory),
+        };
+        let occasions = run_seconds(alloc, &mut timers, &self.config, seconds.as_slice())?;
+        Ok(Ran {
+            clock,
+            timers,
+            occasions,
+        })
+    }
+
+    // Takes this clock and these timers, and does all that calls ask for, or nothing.
+    fn settle_at(
+        &mut self,
+        alloc: Global,
+        calls: &[MadeCall],
+        unbound: Vec<Unbound>,
+        clock: Clock,
+        timers: Timers,
+    ) -> Result<(Outgoings, Faults), NoMemory>
+        requires { IsReached timers.last clock }
+        ensures faults { IfOk result (λ told. told.1 ≡
+            faults_of (acting_of (record self.old { clock = clock; timers = timers })) calls.now unbound.items) }
+        ensures packets { IfOk result (λ told. told.0 ≡
+            (acting_after (record self.old { clock = clock; timers = timers }) calls.now).sent) }
+        ensures few { IfOk result (λ told. length told.0 ≤ MAX_TEXTS) }
+        ensures ok { OnOk result (self.new ≡ after_calls (record self.old { clock = clock; timers = timers }) calls.now) }
+        ensures err { OnErr result (self.new ≡ self.old) }
+    {
+        let old = self.set_clock(clock, timers);
+        match self.settle(alloc, calls, unbound) {
+            Ok(told) => Ok(told),
+            Err(NoMemory) => {
+                self.set_clock(old.0, old.1);
+                Err(NoMemory)
+            }
+        }
+    }
+
+    // Takes this clock and these timers, and hands out those before. Takes no memory.
+    fn set_clock(&mut self, clock: Clock, timers: Timers) -> (Clock, Timers)
+        requires { IsReached timers.last clock }
+        ensures new { self.new ≡ record self.old { clock = clock; timers = timers } }
+        ensures clock { result.0 ≡ self.old.clock }
+        ensures timers { result.1 ≡ self.old.timers }
+        ensures reading { IsReached result.1.last result.0 }
+    {
+        let old_clock = mem::replace(&mut self.clock, clock);
+        let old_timers = mem::replace(&mut self.timers, timers);
+        (old_clock, old_timers)
+    }
+}
+
+// Whether a reading is not above the last one.
+fn is_stale(last: Option<u64>, now: u64) -> bool
+    ensures { result ≡ is_stale last now }
+{
+    match last {
+        Some(last) => now <= last,
+        None => false,
+    }
+}

@@ -1,0 +1,86 @@
+// What the seconds of a reading bring.
+ghost use Rattle.std.specs.Prelude.{◌≡◌, ◌<◌, map, IfOk, OnOk};
+ghost use Rattle.bytetext.specs.declared.moment.TheConstants.{MOMENTS_END};
+ghost use Rattle.bottimers.specs.Civil.{IsOffset};
+ghost use Rattle.bottimers.specs.Held.{IsAbove, calls_at, passed};
+ghost use Rattle.botcore.specs.Happenings.{minute_of, second_of, seconds_of, passed_all};
+ghost use Rattle.botcore.specs.declared.occasion.Occasion.TheVariants.{Due};
+ghost use Rattle.botcore.specs.Shown.{AreOccasions};
+ghost use Rattle.botcore.specs.Rising.{Rise};
+
+use crate::config::Config;
+use crate::occasion::Occasion;
+use bottimers::{Timers, civil};
+use bytetext::NoMemory;
+use std::alloc::Global;
+
+// Lets the timers run through these seconds, and answers what they bring.
+pub(crate) fn run_seconds(
+    alloc: Global,
+    timers: &mut Timers,
+    config: &Config,
+    seconds: &[u64],
+) -> Result<Vec<Occasion>, NoMemory>
+    requires rise { Rise timers.old.last seconds.now }
+    requires offset { IsOffset config.now.offset }
+    ensures occasions { IfOk result (λ occasions. AreOccasions (seconds_of config.now.offset timers.old seconds.now) occasions.items) }
+    ensures passed { OnOk result (timers.new ≡ passed_all timers.old seconds.now) }
+{
+    let mut occasions = Vec::new(alloc);
+    let mut rest = seconds;
+    while let Some((second, behind)) = rest.split_first() {
+        let mut more = run_second(alloc, timers, config, *second)?;
+        occasions.append(&mut more)?;
+        rest = behind;
+    }
+    Ok(occasions)
+}
+
+// Lets the timers run through a second, and answers what it brings.
+fn run_second(
+    alloc: Global,
+    timers: &mut Timers,
+    config: &Config,
+    second: u64,
+) -> Result<Vec<Occasion>, NoMemory>
+    requires above { IsAbove timers.old.last second }
+    requires moment { second < MOMENTS_END }
+    requires offset { IsOffset config.now.offset }
+    ensures occasions { IfOk result (λ occasions. AreOccasions (second_of config.now.offset second timers.old) occasions.items) }
+    ensures passed { OnOk result (timers.new ≡ passed second timers.old) }
+{
+    let mut occasions = due_of(alloc, timers, second)?;
+    let mut more = minute_of(alloc, config.offset, second)?;
+    occasions.append(&mut more)?;
+    Ok(occasions)
+}
+
+// The timers that are due at a second.
+fn due_of(alloc: Global, timers: &mut Timers, second: u64) -> Result<Vec<Occasion>, NoMemory>
+    requires above { IsAbove timers.old.last second }
+    ensures occasions { IfOk result (λ occasions. occasions.items ≡ map (λ c. Due c.1) (calls_at second timers.old)) }
+    ensures passed { OnOk result (timers.new ≡ passed second timers.old) }
+{
+    let calls = timers.due(alloc, second)?;
+    Ok(
+        calls
+            .into_iter()
+            .map(|call| Occasion::Due(call.1))
+            .collect(alloc)?,
+    )
+}
+
+// The minute that a second begins, if it begins one.
+fn minute_of(alloc: Global, offset: i32, second: u64) -> Result<Vec<Occasion>, NoMemory>
+    requires moment { second < MOMENTS_END }
+    requires offset { IsOffset offset }
+    ensures { IfOk result (λ occasions. AreOccasions (minute_of offset second) occasions.items) }
+{
+    let mut occasions = Vec::new(alloc);
+    if second % 60 == 0 {
+        let minute = civil(second, offset).unwrap();
+        occasions.push(Occasion::Time(minute))?;
+        occasions.push(Occasion::Cron(minute))?;
+    }
+    Ok(occasions)
+}
