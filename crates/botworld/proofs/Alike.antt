@@ -1,10 +1,9 @@
--- The calls of events don't depend on the numbers of binds.
+-- The calls of occasions don't depend on the numbers of binds.
 use Rattle.std.proofs.Common.{◌≡◌, ℕ, suc, ◌==◌, Bool, true, false, not, ◌&&◌, ◌||◌, if◌then◌else◌, List, [], ◌∷◌, ◌++◌, length, map}
 use Rattle.std.proofs.Common.{refl, ap, sym, ◌∙◌}
 use Rattle.std.proofs.lemmas.List.{map-append}
 use Rattle.std.proofs.lemmas.List.Elements.{filter_map-append}
 use Rattle.std.specs.List.{list_any}
-use Rattle.chanstate.specs.declared.event.Event.{Event}
 use Rattle.procstore.specs.declared.call.Call.{Call}
 use Rattle.procstore.specs.declared.kind.Kind.{Kind}
 use Rattle.procstore.specs.declared.kind.Kind.TheVariants.{Raw}
@@ -13,9 +12,12 @@ use Rattle.procstore.specs.Calling.{holds}
 use Rattle.bindtable.specs.declared.bind.Bind.{Bind}
 use Rattle.bindtable.specs.Calls.{Occurrence, is_called, called}
 use Rattle.bindtable.specs.Tables.{Asked, with_number}
+use Rattle.botcore.specs.declared.occasion.Occasion.{Occasion}
+use Rattle.botcore.specs.declared.occasion.Occasion.TheVariants.{Heard, Due, Time, Cron, Said}
 use Rattle.botcore.specs.Calls.{Entry, Telling, told_all, called_in, calls_in}
-use Rattle.botcore.specs.Dispatching.{Setting, occurrence_of, told_alone, told, is_word, is_one, has_one, is_raw, is_whole, next_of, told_from, told_of}
-use Rattle.botcore.specs.Occasions.{kind_of, person_of, call_by}
+use Rattle.botcore.specs.Dispatching.{Setting, occurrence_of, told_seen, told_alone, told, is_word, is_one, has_one, is_raw, is_whole, next_of, told_from, told_of}
+use Rattle.botcore.specs.Heard.{person_of, call_by}
+use Rattle.botcore.specs.Occasions.{time_seen, cron_seen, said_seen, time_call, cron_call, said_call, kind_for}
 use Rattle.botworld.specs.Calling.{ProcCall, asked_in}
 
 -- what tellings come to, whichever binds they are of
@@ -55,22 +57,29 @@ told_all-plain code_of names call (b ∷ binds) =
     by rest true e = rw e (ap (λ (cs : List ProcCall). record { proc = b.proc; call = call; code = code_of b.proc call } ∷ cs) rest)
     by rest false e = rw e rest
 
-told_alone-plain : (setting : Setting) (event : Event)
-    → proc_calls (told_alone (plain_setting setting) event) ≡ proc_calls (told_alone setting event)
-told_alone-plain setting event =
-    let person = person_of setting.users event in
-    let call = call_by person.handle event in
-    ap (λ (bs : List Bind). proc_calls (told_all setting.code_of setting.names call bs)) (called-plain (occurrence_of event person) setting.binds)
-    ∙ told_all-plain setting.code_of setting.names call (called (occurrence_of event person) setting.binds)
+told_seen-plain : (setting : Setting) (seen : Occurrence) (call : Call)
+    → proc_calls (told_seen (plain_setting setting) seen call) ≡ proc_calls (told_seen setting seen call)
+told_seen-plain setting seen call =
+    ap (λ (bs : List Bind). proc_calls (told_all setting.code_of setting.names call bs)) (called-plain seen setting.binds)
+    ∙ told_all-plain setting.code_of setting.names call (called seen setting.binds)
 
--- events ---------------------------------------------------------------------------------------------------------------
+told_alone-plain : (setting : Setting) (occasion : Occasion)
+    → proc_calls (told_alone (plain_setting setting) occasion) ≡ proc_calls (told_alone setting occasion)
+told_alone-plain setting (Heard event) =
+    let person = person_of setting.users event in told_seen-plain setting (occurrence_of event person) (call_by person.handle event)
+told_alone-plain setting (Due proc) = refl
+told_alone-plain setting (Time minute) = told_seen-plain setting (time_seen minute) (time_call minute)
+told_alone-plain setting (Cron minute) = told_seen-plain setting (cron_seen minute) (cron_call minute)
+told_alone-plain setting (Said from text) = told_seen-plain setting (said_seen text) (said_call from text)
 
-told-plain : (setting : Setting) (taken : Bool) (event : Event) → proc_calls (told (plain_setting setting) taken event) ≡ proc_calls (told setting taken event)
-told-plain setting taken event = by (setting.exclusive && (taken && is_word (kind_of event.kind)))
+-- occasions ------------------------------------------------------------------------------------------------------------
+
+told-plain : (setting : Setting) (taken : Bool) (occasion : Occasion) → proc_calls (told (plain_setting setting) taken occasion) ≡ proc_calls (told setting taken occasion)
+told-plain setting taken occasion = by (setting.exclusive && (taken && is_word (kind_for occasion)))
   where
-    by : (t : Bool) → proc_calls (if t then [] else told_alone (plain_setting setting) event) ≡ proc_calls (if t then [] else told_alone setting event)
+    by : (t : Bool) → proc_calls (if t then [] else told_alone (plain_setting setting) occasion) ≡ proc_calls (if t then [] else told_alone setting occasion)
     by true = refl
-    by false = told_alone-plain setting event
+    by false = told_alone-plain setting occasion
 
 has_one-proc_calls : (calls : List Entry) → has_one calls ≡ list_any (λ (c : ProcCall). is_one c.code) (map proc_call_of calls)
 has_one-proc_calls [] = refl
@@ -96,37 +105,37 @@ next_of-alike kind a b e =
 proc_calls-append : (xs ys : List Telling) → proc_calls (xs ++ ys) ≡ proc_calls xs ++ proc_calls ys
 proc_calls-append xs ys = ap (map proc_call_of) (filter_map-append called_in xs ys) ∙ map-append proc_call_of (calls_in xs) (calls_in ys)
 
--- an event, and those that follow it
-event-plain : (setting : Setting) (taken : Bool) (e : Event) (es : List Event)
-    → (let n = next_of (kind_of e.kind) (calls_in (told setting taken e)) in
+-- an occasion, and those that follow it
+occasion-plain : (setting : Setting) (taken : Bool) (e : Occasion) (es : List Occasion)
+    → (let n = next_of (kind_for e) (calls_in (told setting taken e)) in
     proc_calls (told_from (plain_setting setting) n es) ≡ proc_calls (told_from setting n es))
     → proc_calls (told (plain_setting setting) taken e
-    ++ told_from (plain_setting setting) (next_of (kind_of e.kind) (calls_in (told (plain_setting setting) taken e))) es)
-    ≡ proc_calls (told setting taken e ++ told_from setting (next_of (kind_of e.kind) (calls_in (told setting taken e))) es)
-event-plain setting taken e es rest =
+    ++ told_from (plain_setting setting) (next_of (kind_for e) (calls_in (told (plain_setting setting) taken e))) es)
+    ≡ proc_calls (told setting taken e ++ told_from setting (next_of (kind_for e) (calls_in (told setting taken e))) es)
+occasion-plain setting taken e es rest =
     let here = told (plain_setting setting) taken e in
     let there = told setting taken e in
     let first : proc_calls here ≡ proc_calls there = told-plain setting taken e in
-    let after : next_of (kind_of e.kind) (calls_in here) ≡ next_of (kind_of e.kind) (calls_in there) =
-    next_of-alike (kind_of e.kind) (calls_in here) (calls_in there) first in
-    proc_calls-append here (told_from (plain_setting setting) (next_of (kind_of e.kind) (calls_in here)) es)
-    ∙ ap (λ (cs : List ProcCall). cs ++ proc_calls (told_from (plain_setting setting) (next_of (kind_of e.kind) (calls_in here)) es)) first
+    let after : next_of (kind_for e) (calls_in here) ≡ next_of (kind_for e) (calls_in there) =
+    next_of-alike (kind_for e) (calls_in here) (calls_in there) first in
+    proc_calls-append here (told_from (plain_setting setting) (next_of (kind_for e) (calls_in here)) es)
+    ∙ ap (λ (cs : List ProcCall). cs ++ proc_calls (told_from (plain_setting setting) (next_of (kind_for e) (calls_in here)) es)) first
     ∙ ap (λ n. proc_calls there ++ proc_calls (told_from (plain_setting setting) n es)) after
     ∙ ap (λ (cs : List ProcCall). proc_calls there ++ cs) rest
-    ∙ sym (proc_calls-append there (told_from setting (next_of (kind_of e.kind) (calls_in there)) es))
+    ∙ sym (proc_calls-append there (told_from setting (next_of (kind_for e) (calls_in there)) es))
 
--- the events that follow one of this kind, which came to these calls
-told_from-plain : (setting : Setting) (kind : Kind) (calls : List Entry) (events : List Event)
-    → proc_calls (told_from (plain_setting setting) (next_of kind calls) events) ≡ proc_calls (told_from setting (next_of kind calls) events)
+-- the occasions that follow one of this kind, which came to these calls
+told_from-plain : (setting : Setting) (kind : Kind) (calls : List Entry) (occasions : List Occasion)
+    → proc_calls (told_from (plain_setting setting) (next_of kind calls) occasions) ≡ proc_calls (told_from setting (next_of kind calls) occasions)
 told_from-plain setting kind calls [] = refl
 told_from-plain setting kind calls (e ∷ es) =
     let taken = is_whole kind && not (length calls == 0) in
-    by (event-plain setting taken e es (told_from-plain setting (kind_of e.kind) (calls_in (told setting taken e)) es)) (is_raw kind && has_one calls) refl
+    by (occasion-plain setting taken e es (told_from-plain setting (kind_for e) (calls_in (told setting taken e)) es)) (is_raw kind && has_one calls) refl
   where
     by : (let taken = is_whole kind && not (length calls == 0) in
         proc_calls (told (plain_setting setting) taken e
-        ++ told_from (plain_setting setting) (next_of (kind_of e.kind) (calls_in (told (plain_setting setting) taken e))) es)
-        ≡ proc_calls (told setting taken e ++ told_from setting (next_of (kind_of e.kind) (calls_in (told setting taken e))) es))
+        ++ told_from (plain_setting setting) (next_of (kind_for e) (calls_in (told (plain_setting setting) taken e))) es)
+        ≡ proc_calls (told setting taken e ++ told_from setting (next_of (kind_for e) (calls_in (told setting taken e))) es))
         → (b : Bool) → (is_raw kind && has_one calls) ≡ b
         → proc_calls (told_from (plain_setting setting) (next_of kind calls) (e ∷ es)) ≡ proc_calls (told_from setting (next_of kind calls) (e ∷ es))
     by go true stops = rw stops refl
@@ -137,10 +146,10 @@ map-plain [] = refl
 map-plain (b ∷ binds) = ap (λ (bs : List Bind). plain b ∷ bs) (map-plain binds)
 
 -- binds that were asked for alike give the same calls
-pub told_of-alike : (setting : Setting) (xs ys : List Bind) (events : List Event) → map asked_in xs ≡ map asked_in ys
-    → proc_calls (told_of (record setting { binds = xs }) events) ≡ proc_calls (told_of (record setting { binds = ys }) events)
-told_of-alike setting xs ys events alike =
+pub told_of-alike : (setting : Setting) (xs ys : List Bind) (occasions : List Occasion) → map asked_in xs ≡ map asked_in ys
+    → proc_calls (told_of (record setting { binds = xs }) occasions) ≡ proc_calls (told_of (record setting { binds = ys }) occasions)
+told_of-alike setting xs ys occasions alike =
     let same : map plain xs ≡ map plain ys = map-plain xs ∙ ap (map (λ (x : Asked). with_number x 0)) alike ∙ sym (map-plain ys) in
-    sym (told_from-plain (record setting { binds = xs }) Raw [] events)
-    ∙ ap (λ (bs : List Bind). proc_calls (told_of (record setting { binds = bs }) events)) same
-    ∙ told_from-plain (record setting { binds = ys }) Raw [] events
+    sym (told_from-plain (record setting { binds = xs }) Raw [] occasions)
+    ∙ ap (λ (bs : List Bind). proc_calls (told_of (record setting { binds = bs }) occasions)) same
+    ∙ told_from-plain (record setting { binds = ys }) Raw [] occasions

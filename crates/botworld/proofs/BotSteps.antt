@@ -1,7 +1,9 @@
 -- What a step of one bot leaves of its link, whatever it is told.
-use Rattle.std.proofs.Common.{◌≡◌, ◌≢◌, ℕ, List, [], Option, None, Some, refl, sym, subst, arith}
+use Rattle.std.proofs.Common.{◌≡◌, ◌≢◌, ℕ, Bool, true, false, List, [], Option, None, Some, refl, ap, sym, subst, arith}
+use Rattle.bottimers.specs.declared.fault.ClockFault.{ClockFault}
+use Rattle.bottimers.specs.Seconds.{reading_fault}
 use Rattle.ircline.specs.declared.line.Line.TheVariants.{Message as a_message, Bad as a_bad_line}
-use Rattle.ircline.specs.declared.message.Message.{Message}
+use Rattle.sharewire.specs.declared.packet.Packet.{Packet}
 use Rattle.sharelink.specs.Meets.{Row, AnswerTakesMemory}
 use Rattle.sharelink.specs.declared.accepted.AcceptedChange.{AcceptedChange}
 use Rattle.sharelink.specs.declared.error.LinkFault.TheVariants.{Diverged}
@@ -12,23 +14,26 @@ use Rattle.bindtable.specs.declared.bind.Bind.{Bind as HeldBind}
 use Rattle.bindtable.specs.declared.fault.BindFault.{BindFault}
 use Rattle.bindtable.specs.Tables.{Asked, refusal}
 use Rattle.botcore.specs.declared.event.Event.{Event}
-use Rattle.botcore.specs.declared.event.Event.TheVariants.{Connect, Line, Ask, Pump, Receive, Bind, Unbind}
+use Rattle.botcore.specs.declared.event.Event.TheVariants.{Connect, Line, Ask, Pump, Receive, Clock, Bind, Unbind}
 use Rattle.botcore.specs.declared.event.OldBind.{OldBind}
 use Rattle.botcore.specs.declared.fault.Refusal.TheVariants.{Link as link_refusal}
 use Rattle.botcore.specs.declared.link.Link.{Link}
+use Rattle.botcore.specs.declared.made_call.MadeCall.{MadeCall}
 use Rattle.botcore.specs.declared.report.End.{End}
 use Rattle.botcore.specs.declared.report.End.TheVariants.{Done, Refused, NoMemory}
 use Rattle.botcore.specs.declared.report.Note.{Note}
 use Rattle.botcore.specs.declared.report.Report.{Report}
 use Rattle.botcore.specs.Bots.{Bot}
 use Rattle.botcore.specs.Calls.{Telling}
-use Rattle.botcore.specs.Lines.{after_line, asked_by}
-use Rattle.botcore.specs.Links.{link_asked, link_pumped, link_received}
+use Rattle.botcore.specs.Acting.{actions_of}
+use Rattle.botcore.specs.Happenings.{Saying, saying_of}
+use Rattle.botcore.specs.Lines.{acting_of, acting_after, after_calls, after_line}
+use Rattle.botcore.specs.Links.{link_version, link_asked, link_pumped, link_received}
 use Rattle.botcore.specs.Reports.{plain, out_of_memory}
-use Rattle.botcore.specs.Steps.{Due, connect_due, link_due, bind_due, unbind_due, bind_to_go, asked_of, Gives, TakesMessage, message_told}
-use Rattle.botcore.specs.Steps.{TakesStep}
+use Rattle.botcore.specs.Steps.{Due, connect_due, link_due, bind_due, unbind_due, bind_to_go, asked_of, Gives, TakesCalls, text_note, TakesPacket}
+use Rattle.botcore.specs.Steps.{is_stale, run_to, TakesMoment, TakesReading, TakesStep}
 use Rattle.botworld.specs.Network.{IsLinkAt, IsTrueChange, AllTaken, GrowsByNote}
-use Rattle.botworld.proofs.Links.{LinkGoes, keeps, RowGoes, link_asks, link_pumps, link_receives, asks_keep}
+use Rattle.botworld.proofs.Links.{LinkGoes, keeps, RowGoes, link_asks, link_pumps, link_receives, ActsKept, acts_keep}
 
 abbrev pub BotGoes : List AcceptedChange → ℕ → ℕ → Bot → Report → Bot → Type 0
 BotGoes all bots place old report new = LinkGoes all bots place old.link report.end report.note report.packets new.link
@@ -85,18 +90,55 @@ unbind_goes all bots place old at taken gone None = put_goes all bots place old 
 unbind_goes all bots place old at taken gone (Some bind) =
     put_goes all bots place old Done _ (unbind_due old gone (Some bind)).after at taken refl (λ e. cc) refl
 
--- a message: its asks wait, and nothing is sent
-message_goes : (code_of : List ℕ → Call → Code) (may : List ℕ → Call → List Action → Type 0) (told : List Telling)
-    (all : List AcceptedChange) (bots place : ℕ) (old : Bot) (message : Message) (report : Report) (new : Bot)
-    → IsLinkAt all bots place old.link → AllTaken all → (end : End) → report.end ≡ end → TakesMessage end code_of may told old message report new
+-- calls, whose actions are done from a bot with this link on: what goes out are texts
+calls_goes : (code_of : List ℕ → Call → Code) (may : List ℕ → Call → List Action → Type 0) (told : List Telling)
+    (all : List AcceptedChange) (bots place : ℕ) (old start : Bot) (note : Option Note) (finish : List MadeCall → Bot) (report : Report) (new : Bot)
+    → IsLinkAt all bots place old.link → AllTaken all → start.link ≡ old.link → ((calls : List MadeCall) → (finish calls).link ≡ (acting_after start calls).link)
+    → GrowsByNote place note all all → (end : End) → report.end ≡ end → TakesCalls end code_of may told old start note finish report new
     → BotGoes all bots place old report new
-message_goes code_of may told all bots place old message report new at taken Done e h =
-    let kept = asks_keep all bots place old.link (asked_by report.calls) at in
+calls_goes code_of may told all bots place old start note finish report new at taken starts ends grows Done e h =
+    let first : ActsKept all bots place (link_version old.link) (acting_of start) = record {
+      link = subst (IsLinkAt all bots place) (sym starts) at;
+      shown = ap link_version starts;
+      truth = tt;
+    } in
+    let kept = acts_keep all bots place (link_version old.link) (acting_of start) (actions_of report.calls) first in
+    let same = ends report.calls in
     rw (e, h.note, h.packets, h.after)
-    (keeps all bots place old.link Done None [] (after_line old report.calls message).link kept.0 taken tt (omega (arith, kept.1)) refl (λ e. cc))
-message_goes code_of may told all bots place old message report new at taken (Refused why) e h = absurd h
-message_goes code_of may told all bots place old message report new at taken NoMemory e h =
+    (keeps all bots place old.link Done note (acting_after start report.calls).sent (finish report.calls).link
+    (subst (IsLinkAt all bots place) (sym same) kept.link) taken kept.truth (omega (arith, ap link_version same, kept.shown)) grows (λ e. cc))
+calls_goes code_of may told all bots place old start note finish report new at taken starts ends grows (Refused why) e h = absurd h
+calls_goes code_of may told all bots place old start note finish report new at taken starts ends grows NoMemory e h =
     rw (e, h.note, h.packets, h.after) (short_goes all bots place old at taken)
+
+-- a packet: a call of the link, or a text that calls procs
+packet_goes : (code_of : List ℕ → Call → Code) (may : List ℕ → Call → List Action → Type 0) (names : List (List ℕ))
+    (all : List AcceptedChange) (bots place : ℕ) (old : Bot) (packet : Packet) (report : Report) (new : Bot)
+    → IsLinkAt all bots place old.link → AllTaken all → IsTrueChange all packet → (saying : Option Saying)
+    → TakesPacket saying code_of may names old packet report new → BotGoes all bots place old report new
+packet_goes code_of may names all bots place old packet report new at taken truth None t =
+    row_goes all bots place old at taken (link_received old.link packet) report new (link_receives all bots place old.link packet at taken truth) t
+packet_goes code_of may names all bots place old packet report new at taken truth (Some saying) t =
+    calls_goes code_of may _ all bots place old old (Some (text_note saying)) (after_calls old) report new at taken refl (λ calls. refl) refl
+    report.end refl t
+
+-- a reading of the clock
+moment_goes : (code_of : List ℕ → Call → Code) (may : List ℕ → Call → List Action → Type 0) (names : List (List ℕ))
+    (all : List AcceptedChange) (bots place : ℕ) (old : Bot) (now : ℕ) (report : Report) (new : Bot) → IsLinkAt all bots place old.link → AllTaken all
+    → (stale : Bool) → TakesMoment stale code_of may names old now report new → BotGoes all bots place old report new
+moment_goes code_of may names all bots place old now report new at taken true t =
+    same_goes all bots place old _ _ report new t.0 t.1 (put_goes all bots place old Done None old at taken refl (λ e. cc) refl)
+moment_goes code_of may names all bots place old now report new at taken false t =
+    calls_goes code_of may _ all bots place old (run_to old now) None (after_calls (run_to old now)) report new at taken refl (λ calls. refl) refl
+    report.end refl t.2
+
+reading_goes : (code_of : List ℕ → Call → Code) (may : List ℕ → Call → List Action → Type 0) (names : List (List ℕ))
+    (all : List AcceptedChange) (bots place : ℕ) (old : Bot) (now : ℕ) (report : Report) (new : Bot) → IsLinkAt all bots place old.link → AllTaken all
+    → (fault : Option ClockFault) → TakesReading fault code_of may names old now report new → BotGoes all bots place old report new
+reading_goes code_of may names all bots place old now report new at taken (Some fault) t =
+    same_goes all bots place old _ _ report new t.0 t.1 (put_goes all bots place old (Refused _) None old at taken refl (λ e. cc) refl)
+reading_goes code_of may names all bots place old now report new at taken None t =
+    moment_goes code_of may names all bots place old now report new at taken (is_stale old.clock now) t
 
 pub bot_goes : (code_of : List ℕ → Call → Code) (may : List ℕ → Call → List Action → Type 0) (names : List (List ℕ))
     (all : List AcceptedChange) (bots place : ℕ) (old : Bot) (event : Event) (report : Report) (new : Bot)
@@ -107,7 +149,7 @@ bot_goes code_of may names all bots place old Connect report new at taken truth 
     (put_goes all bots place old Done None (connect_due old).after at taken refl (λ e. cc) refl)
     report.end t
 bot_goes code_of may names all bots place old (Line (a_message message)) report new at taken truth t =
-    message_goes code_of may (message_told code_of names old message) all bots place old message report new at taken report.end refl t
+    calls_goes code_of may _ all bots place old old None (after_line old message) report new at taken refl (λ calls. refl) refl report.end refl t
 bot_goes code_of may names all bots place old (Line (a_bad_line fault)) report new at taken truth t =
     same_goes all bots place old _ _ report new t.0 t.1 (put_goes all bots place old Done _ old at taken refl (λ e. cc) refl)
 bot_goes code_of may names all bots place old (Ask change) report new at taken truth t =
@@ -115,7 +157,9 @@ bot_goes code_of may names all bots place old (Ask change) report new at taken t
 bot_goes code_of may names all bots place old Pump report new at taken truth t =
     row_goes all bots place old at taken (link_pumped old.link) report new (link_pumps all bots place old.link at taken) t
 bot_goes code_of may names all bots place old (Receive packet) report new at taken truth t =
-    row_goes all bots place old at taken (link_received old.link packet) report new (link_receives all bots place old.link packet at taken truth) t
+    packet_goes code_of may names all bots place old packet report new at taken truth (saying_of (link_received old.link packet).answer) t
+bot_goes code_of may names all bots place old (Clock now) report new at taken truth t =
+    reading_goes code_of may names all bots place old now report new at taken (reading_fault now) t
 bot_goes code_of may names all bots place old (Bind asked) report new at taken truth t =
     gives_goes all bots place old at taken _ _ report new
     (bind_goes all bots place old at taken (asked_of asked) (refusal old.binds (asked_of asked))) report.end t

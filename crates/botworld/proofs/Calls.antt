@@ -1,9 +1,17 @@
 -- Alike bots make the same calls, at any moments of a run.
-use Rattle.std.proofs.Common.{◌≡◌, ℕ, zero, suc, ◌+◌, ◌≤◌, List, [], ◌∷◌, length, map, slice_get, Option, None, Some, Result, Ok, Err}
+use Rattle.std.proofs.Common.{◌≡◌, ℕ, zero, suc, ◌+◌, ◌-◌, ◌≤◌, ◌==◌, max, Bool, true, false, if◌then◌else◌, List, [], ◌∷◌, length, map, slice_get, Option, None, Some, Result, Ok, Err}
 use Rattle.std.proofs.Common.{refl, ap, sym, subst, ◌∙◌, arith, length-append}
+use Rattle.std.proofs.lemmas.Bool.{leb-true}
+use Rattle.std.proofs.Math.Nat.{le-max_left}
+use Rattle.std.specs.List.{range_with_len}
 use Rattle.userfile.specs.Records.{Records}
+use Rattle.chanstate.specs.declared.event.Event.{Event as MessageEvent}
+use Rattle.chanstate.specs.Events.{events_of}
+use Rattle.chanstate.specs.Speech.{first_word}
+use Rattle.bottimers.specs.declared.fault.ClockFault.{ClockFault}
+use Rattle.bottimers.specs.Seconds.{reading_fault, seconds_run}
+use Rattle.sharewire.specs.declared.packet.Packet.{Packet}
 use Rattle.ircline.specs.declared.line.Line.TheVariants.{Message as a_message, Bad as a_bad_line}
-use Rattle.ircline.specs.declared.message.Message.{Message}
 use Rattle.sharelink.specs.declared.accepted.AcceptedChange.{AcceptedChange}
 use Rattle.sharelink.specs.declared.answer.Answer.{Answer}
 use Rattle.sharelink.specs.declared.error.LinkFault.{LinkFault}
@@ -14,9 +22,14 @@ use Rattle.bindtable.specs.declared.bind.Bind.{Bind as HeldBind}
 use Rattle.bindtable.specs.declared.fault.BindFault.{BindFault}
 use Rattle.bindtable.specs.Tables.{Asked, refusal}
 use Rattle.botcore.specs.declared.event.Event.{Event}
-use Rattle.botcore.specs.declared.event.Event.TheVariants.{Connect, Line, Ask, Pump, Receive, Bind, Unbind}
+use Rattle.botcore.specs.declared.event.Event.TheVariants.{Connect, Line, Ask, Pump, Receive, Clock, Bind, Unbind}
 use Rattle.botcore.specs.declared.event.OldBind.{OldBind}
+use Rattle.botcore.specs.declared.fault.Refusal.{Refusal}
+use Rattle.botcore.specs.declared.fault.Refusal.TheVariants.{Clock as clock_refusal}
 use Rattle.botcore.specs.declared.made_call.MadeCall.{MadeCall}
+use Rattle.botcore.specs.declared.occasion.Occasion.{Occasion}
+use Rattle.botcore.specs.declared.occasion.Occasion.TheVariants.{Heard, Said}
+use Rattle.botcore.specs.declared.report.Note.{Note}
 use Rattle.botcore.specs.declared.report.End.{End}
 use Rattle.botcore.specs.declared.report.End.TheVariants.{Done, Refused, NoMemory}
 use Rattle.botcore.specs.declared.report.Report.{Report as BotReport}
@@ -24,16 +37,21 @@ use Rattle.botcore.specs.Bots.{Bot, bot_setting}
 use Rattle.botcore.specs.Calls.{Telling}
 use Rattle.botcore.specs.Dispatched.{setting_of}
 use Rattle.botcore.specs.Dispatching.{Setting, told_of}
-use Rattle.botcore.specs.Links.{link_version}
+use Rattle.botcore.specs.Happenings.{Happening, Saying, saying_of, said, said_if, seconds_of, happenings_of}
+use Rattle.botcore.specs.Happenings.Happening.{Heard as heard_event, Said as said_text}
+use Rattle.botcore.specs.Links.{link_version, link_received}
 use Rattle.botcore.specs.Made.{entry_of}
-use Rattle.botcore.specs.Reports.{link_report}
-use Rattle.botcore.specs.Steps.{Due, bind_due, unbind_due, bind_to_go, asked_of, Gives, TakesMessage, TakesStep}
+use Rattle.botcore.specs.Reports.{refused, link_report}
+use Rattle.botcore.specs.Shown.{AreOccasions, AreTaken}
+use Rattle.botcore.specs.Steps.{Due, link_due, bind_due, unbind_due, bind_to_go, asked_of, Gives, TakesCalls, said_occasions, TakesPacket}
+use Rattle.botcore.specs.Steps.{is_stale, run_to, TakesMoment, TakesReading, TakesStep}
+use Rattle.botcore.proofs.Calendar.{same_occasions}
 use Rattle.botworld.specs.declared.step.Part.{Part}
 use Rattle.botworld.specs.declared.step.Step.{Step}
 use Rattle.botworld.specs.declared.outcome.Outcome.{Outcome}
 use Rattle.botworld.specs.Net.{Net, report_of, part_of, TakesPart, Comes, NetStep}
 use Rattle.botworld.specs.Network.{State, IsSound, records_of, Extends}
-use Rattle.botworld.specs.Calling.{ProcCall, proc_call, happenings, Calling, calling_done, calling_by, calling_in, calling, IsAlike}
+use Rattle.botworld.specs.Calling.{ProcCall, proc_call, Calling, calling_done, calling_by, calling_in, calling, IsAlike}
 use Rattle.botworld.specs.Standing.{Moment, Run, Past, Stands, SameCalls}
 use Rattle.botworld.proofs.History.{records_of-extended}
 use Rattle.botworld.proofs.Lawful.{due_done}
@@ -68,26 +86,104 @@ unbind_due-none : (old : Bot) (gone : OldBind) (r : Option HeldBind) → (unbind
 unbind_due-none old gone None = refl
 unbind_due-none old gone (Some bind) = refl
 
-message_calls : (code_of : List ℕ → Call → Code) (may : List ℕ → Call → List Action → Type 0) (told : List Telling) (old : Bot) (message : Message)
-    (report : BotReport) (new : Bot) (end : End) → end ≡ Done → TakesMessage end code_of may told old message report new
-    → map proc_call report.calls ≡ proc_calls told
-message_calls code_of may told old message report new Done e h = map-entry_of report.calls ∙ ap (map proc_call_of) h.calls
-message_calls code_of may told old message report new (Refused why) e h = absurd h
-message_calls code_of may told old message report new NoMemory e h = cc
+-- a done step made the calls of what happened, with some minutes for the numbers of minutes
+record AreCalled (code_of : List ℕ → Call → Code) (names : List (List ℕ)) (old : Bot) (happenings : List Happening) (calls : List ProcCall) : Type 0 where
+  occasions : List Occasion
+  are : AreOccasions happenings occasions
+  made : calls ≡ proc_calls (told_of (bot_setting code_of names old) occasions)
 
--- a done step makes the calls of its events
+-- nothing happened, and nothing was called
+none_called : (code_of : List ℕ → Call → Code) (names : List (List ℕ)) (old : Bot) (report : BotReport) → HasNone report
+    → AreCalled code_of names old [] (map proc_call report.calls)
+none_called code_of names old report none = record { occasions = []; are = tt; made = none }
+
+made_calls : (code_of : List ℕ → Call → Code) (may : List ℕ → Call → List Action → Type 0) (told : List Telling) (old start : Bot) (note : Option Note)
+    (finish : List MadeCall → Bot) (report : BotReport) (new : Bot) (end : End) → end ≡ Done → TakesCalls end code_of may told old start note finish report new
+    → map proc_call report.calls ≡ proc_calls told
+made_calls code_of may told old start note finish report new Done e h = map-entry_of report.calls ∙ ap (map proc_call_of) h.calls
+made_calls code_of may told old start note finish report new (Refused why) e h = absurd h
+made_calls code_of may told old start note finish report new NoMemory e h = cc
+
+-- the events of a message are occasions
+are_heard : (events : List MessageEvent) → AreOccasions (map heard_event events) (map Heard events)
+are_heard [] = tt
+are_heard (e ∷ events) = (refl, are_heard events)
+
+-- and so is a text
+are_said : (saying : Saying) → AreOccasions (said saying) (said_occasions saying)
+are_said saying = by (length (first_word saying.text) == 0)
+  where
+    by : (b : Bool) → AreOccasions (if b then [] else said_text saying.from saying.text ∷ []) (if b then [] else Said saying.from saying.text ∷ [])
+    by true = tt
+    by false = ((refl, refl), tt)
+
+packet_calls : (code_of : List ℕ → Call → Code) (may : List ℕ → Call → List Action → Type 0) (names : List (List ℕ)) (old : Bot) (packet : Packet)
+    (report : BotReport) (new : Bot) → report.end ≡ Done → (saying : Option Saying) → TakesPacket saying code_of may names old packet report new
+    → AreCalled code_of names old (said_if saying) (map proc_call report.calls)
+packet_calls code_of may names old packet report new done None t =
+    none_called code_of names old report
+    (none_due _ old (link_due old (link_received old.link packet)) report new done t (link_report-none (link_received old.link packet).answer))
+packet_calls code_of may names old packet report new done (Some saying) t =
+    record {
+      occasions = said_occasions saying;
+      are = are_said saying;
+      made = made_calls code_of may _ old old _ _ report new report.end done t;
+    }
+
+-- at a reading that is not above the last no second runs
+stale_none : (last : Option ℕ) (now : ℕ) → is_stale last now ≡ true → seconds_run last now ≡ []
+stale_none None now e = refl
+stale_none (Some last) now e =
+    let above : last + 1 ≤ max (last + 1) (now - 599) = le-max_left (last + 1) (now - 599) in
+    let below : now ≤ last = leb-true now last e in
+    let none : now + 1 - max (last + 1) (now - 599) ≡ 0 = omega (arith, above, below) in
+    ap (range_with_len (max (last + 1) (now - 599))) none
+
+moment_calls : (code_of : List ℕ → Call → Code) (may : List ℕ → Call → List Action → Type 0) (names : List (List ℕ)) (old : Bot) (now : ℕ)
+    (report : BotReport) (new : Bot) → report.end ≡ Done → (stale : Bool) → is_stale old.clock now ≡ stale
+    → TakesMoment stale code_of may names old now report new
+    → AreCalled code_of names old (seconds_of old.config.offset old.timers (seconds_run old.clock now)) (map proc_call report.calls)
+moment_calls code_of may names old now report new done true e t =
+    rw (stale_none old.clock now e) (none_called code_of names old report (ap (λ (r : BotReport). map proc_call r.calls) t.0))
+moment_calls code_of may names old now report new done false e t =
+    record {
+      occasions = t.0;
+      are = subst (λ (end : End). AreTaken end (seconds_of old.config.offset old.timers (seconds_run old.clock now)) t.0) done t.1;
+      made = made_calls code_of may _ old (run_to old now) _ _ report new report.end done t.2;
+    }
+
+refused_done : (report : BotReport) (why : Refusal) → report.end ≡ Done → report ≡ refused why → ⊥
+refused_done report why done is = let both = sym done ∙ ap (λ (r : BotReport). r.end) is in cc
+
+reading_calls : (code_of : List ℕ → Call → Code) (may : List ℕ → Call → List Action → Type 0) (names : List (List ℕ)) (old : Bot) (now : ℕ)
+    (report : BotReport) (new : Bot) → report.end ≡ Done → (fault : Option ClockFault) → TakesReading fault code_of may names old now report new
+    → AreCalled code_of names old (seconds_of old.config.offset old.timers (seconds_run old.clock now)) (map proc_call report.calls)
+reading_calls code_of may names old now report new done (Some fault) t = absurd (refused_done report (clock_refusal fault) done t.0)
+reading_calls code_of may names old now report new done None t = moment_calls code_of may names old now report new done (is_stale old.clock now) refl t
+
 step_calls : (code_of : List ℕ → Call → Code) (may : List ℕ → Call → List Action → Type 0) (names : List (List ℕ)) (old : Bot) (event : Event)
     (report : BotReport) (new : Bot) → report.end ≡ Done → TakesStep code_of may names old event report new
-    → map proc_call report.calls ≡ proc_calls (told_of (bot_setting code_of names old) (happenings old event))
-step_calls code_of may names old Connect report new done t = none_due _ old _ report new done t refl
-step_calls code_of may names old (Line (a_message message)) report new done t = message_calls code_of may _ old message report new report.end done t
-step_calls code_of may names old (Line (a_bad_line fault)) report new done t = ap (λ (r : BotReport). map proc_call r.calls) t.0
-step_calls code_of may names old (Ask change) report new done t = none_due _ old _ report new done t (link_report-none _)
-step_calls code_of may names old Pump report new done t = none_due _ old _ report new done t (link_report-none _)
-step_calls code_of may names old (Receive packet) report new done t = none_due _ old _ report new done t (link_report-none _)
+    → AreCalled code_of names old (happenings_of old event) (map proc_call report.calls)
+step_calls code_of may names old Connect report new done t = none_called code_of names old report (none_due _ old _ report new done t refl)
+step_calls code_of may names old (Line (a_message message)) report new done t =
+    record {
+      occasions = map Heard (events_of message old.channels);
+      are = are_heard (events_of message old.channels);
+      made = made_calls code_of may _ old old _ _ report new report.end done t;
+    }
+step_calls code_of may names old (Line (a_bad_line fault)) report new done t =
+    none_called code_of names old report (ap (λ (r : BotReport). map proc_call r.calls) t.0)
+step_calls code_of may names old (Ask change) report new done t =
+    none_called code_of names old report (none_due _ old _ report new done t (link_report-none _))
+step_calls code_of may names old Pump report new done t =
+    none_called code_of names old report (none_due _ old _ report new done t (link_report-none _))
+step_calls code_of may names old (Receive packet) report new done t =
+    packet_calls code_of may names old packet report new done (saying_of (link_received old.link packet).answer) t
+step_calls code_of may names old (Clock now) report new done t = reading_calls code_of may names old now report new done (reading_fault now) t
 step_calls code_of may names old (Bind asked) report new done t =
-    none_due _ old _ report new done t (bind_due-none old (asked_of asked) (refusal old.binds (asked_of asked)))
-step_calls code_of may names old (Unbind gone) report new done t = none_due _ old _ report new done t (unbind_due-none old gone (bind_to_go old.binds gone))
+    none_called code_of names old report (none_due _ old _ report new done t (bind_due-none old (asked_of asked) (refusal old.binds (asked_of asked))))
+step_calls code_of may names old (Unbind gone) report new done t =
+    none_called code_of names old report (none_due _ old _ report new done t (unbind_due-none old gone (bind_to_go old.binds gone)))
 
 -- what a bot's calls depend on, by its version
 abbrev setting_at : (List ℕ → Call → Code) → List (List ℕ) → List AcceptedChange → Bot → Setting
@@ -96,19 +192,21 @@ setting_at code_of names all bot = setting_of code_of names (records_of all (lin
 -- the calls are those of the bot at its version
 record IsCalled (code_of : List ℕ → Call → Code) (names : List (List ℕ)) (all : List AcceptedChange) (a : Calling) : Type 0 where
   version : link_version a.bot.link ≤ length all
-  calls : a.calls ≡ proc_calls (told_of (setting_at code_of names all a.bot) a.events)
+  occasions : List Occasion
+  are : AreOccasions a.happenings occasions
+  calls : a.calls ≡ proc_calls (told_of (setting_at code_of names all a.bot) occasions)
 
 part_calls : (code_of : List ℕ → Call → Code) (may : List ℕ → Call → List Action → Type 0) (s : State) (part : Part) (o : Outcome) (w : Net) → IsSound s
     → (t : TakesPart code_of may s.net part o w) (a : Calling) (end : End) → t.report.end ≡ end
     → calling_done end part.event (report_of part.bot (length s.net.packets + 1) t.report) t.was ≡ Some a → IsCalled code_of s.net.store s.accepted a
 part_calls code_of may s part o w sound t a Done e is =
-    let it : Calling = record { bot = t.was; events = happenings t.was part.event; calls = map proc_call t.report.calls } in
+    let it : Calling = record { bot = t.was; happenings = happenings_of t.was part.event; calls = map proc_call t.report.calls } in
     let same : it ≡ a = cc in
     let at = link_at s.accepted (length s.net.bots) part.bot t.was.link (sound.links part.bot t.was t.there) in
-    let calls = step_calls code_of may s.net.store t.was part.event t.report t.after e t.steps
-    ∙ ap (λ (r : Records). proc_calls (told_of (setting_of code_of s.net.store r.users t.was.binds.binds t.was.config.exclusive)
-    (happenings t.was part.event))) at.1 in
-    subst (IsCalled code_of s.net.store s.accepted) same (record { version = at.0; calls = calls })
+    let made = step_calls code_of may s.net.store t.was part.event t.report t.after e t.steps in
+    let calls = made.made
+    ∙ ap (λ (r : Records). proc_calls (told_of (setting_of code_of s.net.store r.users t.was.binds.binds t.was.config.exclusive) made.occasions)) at.1 in
+    subst (IsCalled code_of s.net.store s.accepted) same (record { version = at.0; occasions = made.occasions; are = made.are; calls = calls })
 part_calls code_of may s part o w sound t a (Refused why) e is = cc
 part_calls code_of may s part o w sound t a NoMemory e is = cc
 
@@ -135,8 +233,10 @@ IsCalled-extended code_of names all now a more called =
     sym (ap (λ (xs : List AcceptedChange). records_of xs v) more.1 ∙ records_of-extended all more.0 v called.version) in
     record {
       version = omega (arith, called.version, longer);
+      occasions = called.occasions;
+      are = called.are;
       calls = called.calls
-          ∙ ap (λ (r : Records). proc_calls (told_of (setting_of code_of names r.users a.bot.binds.binds a.bot.config.exclusive) a.events)) records;
+          ∙ ap (λ (r : Records). proc_calls (told_of (setting_of code_of names r.users a.bot.binds.binds a.bot.config.exclusive) called.occasions)) records;
     }
 
 abbrev AllCalled : (List ℕ → Call → Code) → List (List ℕ) → List AcceptedChange → List Moment → Type 0
@@ -163,7 +263,10 @@ alike_calls : (code_of : List ℕ → Call → Code) (names : List (List ℕ)) (
     → IsCalled code_of names all b → IsAlike a b → a.calls ≡ b.calls
 alike_calls code_of names all a b one other alike =
     let from : Setting = setting_of code_of names (records_of all (link_version b.bot.link)).users [] b.bot.config.exclusive in
-    one.calls ∙ rw (alike.events, alike.exclusive, alike.version) (told_of-alike from a.bot.binds.binds b.bot.binds.binds b.events alike.binds)
+    let same : one.occasions ≡ other.occasions =
+    same_occasions b.happenings one.occasions other.occasions (subst (λ (hs : List Happening). AreOccasions hs one.occasions) alike.happenings one.are) other.are
+    in
+    one.calls ∙ rw (same, alike.exclusive, alike.version) (told_of-alike from a.bot.binds.binds b.bot.binds.binds other.occasions alike.binds)
     ∙ sym other.calls
 
 pub same_calls : (code_of : List ℕ → Call → Code) (may : List ℕ → Call → List Action → Type 0) (w : Net) (past : Past) → Stands code_of may w past

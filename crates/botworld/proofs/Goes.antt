@@ -8,7 +8,7 @@ use Rattle.procstore.specs.declared.action.Action.{Action}
 use Rattle.procstore.specs.declared.call.Call.{Call}
 use Rattle.procstore.specs.declared.reply.Code.{Code}
 use Rattle.botcore.specs.declared.event.Event.{Event}
-use Rattle.botcore.specs.declared.event.Event.TheVariants.{Connect, Line, Ask, Pump, Receive, Bind, Unbind}
+use Rattle.botcore.specs.declared.event.Event.TheVariants.{Connect, Line, Ask, Pump, Receive, Clock, Bind, Unbind}
 use Rattle.botcore.specs.declared.link.Link.{Link}
 use Rattle.botcore.specs.declared.link.Link.TheVariants.{Hub as hub_end, Leaf as leaf_end}
 use Rattle.botcore.specs.Bots.{Bot}
@@ -92,6 +92,7 @@ unsent_is_true all Connect e = tt
 unsent_is_true all (Line line) e = tt
 unsent_is_true all (Ask change) e = tt
 unsent_is_true all Pump e = tt
+unsent_is_true all (Clock now) e = tt
 unsent_is_true all (Bind asked) e = tt
 unsent_is_true all (Unbind gone) e = tt
 

@@ -28,7 +28,8 @@ use Rattle.botcore.specs.declared.report.Note.TheVariants.{Link as link_note}
 use Rattle.botcore.specs.declared.report.Report.{Report as BotReport}
 use Rattle.botcore.specs.Bots.{Bot}
 use Rattle.botcore.specs.Links.{link_version, link_pumped, link_received}
-use Rattle.botcore.specs.Steps.{Due, link_due, Gives}
+use Rattle.botcore.specs.Happenings.{Saying, saying_of}
+use Rattle.botcore.specs.Steps.{Due, link_due, Gives, TakesPacket}
 use Rattle.botworld.specs.declared.sent.Sent.{Sent}
 use Rattle.botworld.specs.declared.step.Part.{Part}
 use Rattle.botworld.specs.declared.step.Step.{Step}
@@ -127,10 +128,12 @@ applies_next code_of may old step o new sound rule packet leaf v origin request 
     let end = leaf_of old.accepted (length old.net.bots) leaf found.0.link (sound.links (suc leaf) found.0 found.1) in
     let was : by.taken.was.link ≡ leaf_end end.0 = ap (λ (b : Bot). b.link) by.same ∙ end.1 in
     let same : end.0.version ≡ v = ap link_version (sym end.1) ∙ found.2 in
-    let row : (link_received by.taken.was.link p).after ≡ leaf_end (with_next end.0 change) = rw was
-    (ap (λ (r : Row Leaf). leaf_end r.after) (next_given old.accepted leaf end.0 v origin request change end.2 same (sound.taken v)
-    (sent-true old sound packet _ at))) in
-    let gives = due_done _ by.taken.was _ by.taken.report by.taken.after by.taken.report.end by.done by.taken.steps in
+    let given = next_given old.accepted leaf end.0 v origin request change end.2 same (sound.taken v) (sent-true old sound packet _ at) in
+    let row : (link_received by.taken.was.link p).after ≡ leaf_end (with_next end.0 change) = rw was (ap (λ (r : Row Leaf). leaf_end r.after) given) in
+    let silent : saying_of (link_received by.taken.was.link p).answer ≡ None = rw was (ap (λ (r : Row Leaf). saying_of r.answer) given) in
+    let steps : TakesPacket None code_of may old.net.store by.taken.was p by.taken.report by.taken.after =
+    subst (λ (s : Option Saying). TakesPacket s code_of may old.net.store by.taken.was p by.taken.report by.taken.after) silent by.taken.steps in
+    let gives = due_done _ by.taken.was (link_due by.taken.was (link_received by.taken.was.link p)) by.taken.report by.taken.after by.taken.report.end by.done steps in
     let link : link_version by.taken.after.link ≡ v + 1 = ap (λ (b : Bot). link_version b.link) gives.1 ∙ ap link_version row ∙ ap (λ n. n + 1) same in
     ap (option_map (λ (b : Bot). link_version b.link)) (after_at code_of may old.net _ o new.net by.taken) ∙ ap Some link
 

@@ -1,22 +1,29 @@
 -- What a call of one bot's link leaves: what the accepted changes make of the link, and true packets.
-use Rattle.std.proofs.Common.{◌≡◌, ◌≢◌, ℕ, zero, suc, ◌+◌, ◌≤◌, ◌==◌, nat_lt, nat_le, Bool, true, false, ◌||◌, if◌then◌else◌, List}
-use Rattle.std.proofs.Common.{[], ◌∷◌, ◌++◌, length, slice_get, Option, None, Some, refl, ap, sym, subst, ◌∙◌, arith, length-append, ltb-false}
+use Rattle.std.proofs.Common.{◌≡◌, ◌≢◌, ℕ, zero, suc, ◌+◌, ◌≤◌, ◌==◌, nat_lt, nat_le, Bool, true, false, not, ◌||◌, if◌then◌else◌, List}
+use Rattle.std.proofs.Common.{[], ◌∷◌, ◌++◌, length, slice_get, Option, None, Some, Result, Ok, Err, refl, ap, sym, subst, ◌∙◌, arith, length-append, ltb-false}
 use borrow.Author.Tests.{eqb-true}
 use Rattle.std.proofs.lemmas.Option.{slice_get_within}
 use Rattle.userfile.specs.Records.{Records}
 use Rattle.userfile.specs.Apply.{bad_shape, refusal, changed}
 use Rattle.userfile.specs.declared.change.Change.{Change}
 use Rattle.userfile.specs.declared.error.ChangeFault.{ChangeFault}
+use Rattle.bottimers.specs.declared.fault.ClockFault.{ClockFault}
+use Rattle.bottimers.specs.declared.timer.Timer.{Timer}
+use Rattle.bottimers.specs.declared.timer.TimerKind.TheVariants.{Minutes, Seconds}
+use Rattle.bottimers.specs.Held.{add_fault, holds}
+use Rattle.procstore.specs.declared.action.Action.{Action}
+use Rattle.procstore.specs.declared.action.Action.TheVariants.{Ask, Timer as timer_wished, Utimer, KillTimer, SendBot}
 use Rattle.sharewire.specs.declared.packet.Packet.{Packet}
-use Rattle.sharewire.specs.declared.packet.Packet.TheVariants.{Hello, Change as change_packet}
+use Rattle.sharewire.specs.declared.packet.Packet.TheVariants.{Hello, Change as change_packet, BotText}
 use Rattle.sharelink.specs.Meets.{Row, noted, refused}
 use Rattle.sharelink.specs.HubRules.{Hub, own, packet_of, served, acceptance, hello_served, ask_taken, ask_served, hub_pumped, hub_pumped_at}
-use Rattle.sharelink.specs.HubRules.{hub_received, is_no_leaf}
-use Rattle.sharelink.specs.LeafRules.{Leaf, ask_fault, leaf_pumped, with_next, next_applied, leaf_received}
+use Rattle.sharelink.specs.HubRules.{hub_received, is_no_leaf, relayed, hub_text_received}
+use Rattle.sharelink.specs.LeafRules.{Leaf, ask_fault, leaf_pumped, with_next, next_applied, leaf_received, leaf_text_received}
+use Rattle.sharelink.specs.Texts.{is_no_bot, text_by, text_fault, text_sent}
 use Rattle.sharelink.specs.declared.TheConstants.{MAX_ASKS}
 use Rattle.sharelink.specs.declared.accepted.AcceptedChange.{AcceptedChange}
 use Rattle.sharelink.specs.declared.answer.Note.{Note as LinkNote}
-use Rattle.sharelink.specs.declared.answer.Note.TheVariants.{Queued, Idle, Refused as refused_note, Old, Early, Stray}
+use Rattle.sharelink.specs.declared.answer.Note.TheVariants.{Queued, Idle, Refused as refused_note, Old, Early, Text, Stray}
 use Rattle.sharelink.specs.declared.answer.Outgoing.{Outgoing}
 use Rattle.sharelink.specs.declared.error.LinkFault.{LinkFault}
 use Rattle.sharelink.specs.declared.error.LinkFault.TheVariants.{BadChange, AsksFull, NumbersSpent, Diverged}
@@ -27,13 +34,14 @@ use Rattle.botcore.specs.declared.report.End.{End}
 use Rattle.botcore.specs.declared.report.End.TheVariants.{Refused}
 use Rattle.botcore.specs.declared.report.Note.{Note}
 use Rattle.botcore.specs.declared.report.Note.TheVariants.{Link as link_note}
-use Rattle.botcore.specs.Links.{link_version, link_row, link_asked, link_pumped, link_received}
-use Rattle.botcore.specs.Lines.{link_after}
+use Rattle.botcore.specs.Acting.{Acting, acted, acted_all, timer_of, made_unless, killed_if, sent_if}
+use Rattle.botcore.specs.Links.{link_version, link_row, link_asked, link_pumped, link_received, link_text}
 use Rattle.botcore.specs.Reports.{link_report}
 use Rattle.botworld.specs.Net.{posted}
 use Rattle.botworld.specs.Network.{records_of, IsHubAt, IsLeafAt, IsLinkAt, IsNumbered, IsTrueChange, AllTrue, AllTaken, Extends, GrowsByNote}
 use Rattle.botworld.proofs.History.{slice_get-behind, Extends-refl, records_of-extended, records_of-next}
-use Rattle.botworld.proofs.Truth.{AllTrue-to_each, last_is_true, served_are_true, AllTaken-last}
+use Rattle.botworld.proofs.Growing.{posted-append}
+use Rattle.botworld.proofs.Truth.{AllTrue-append, AllTrue-to_each, last_is_true, served_are_true, AllTaken-last}
 
 -- what the bot at a place leaves of its link, where its step ends so, with this note and these packets
 pub record LinkGoes (all : List AcceptedChange) (bots place : ℕ) (old : Link) (end : End) (note : Option Note) (sent : List Outgoing)
@@ -150,6 +158,19 @@ or_right : (a b : Bool) → (a || b) ≡ false → b ≡ false
 or_right true b e = cc
 or_right false b e = e
 
+-- it takes a text, or sends it on
+hub_hears : (all : List AcceptedChange) (bots : ℕ) (h : Hub) → IsHubAt all bots h → AllTaken all → (from to : ℕ) (text : List ℕ)
+    → HubGoes all bots h (hub_text_received h from to text)
+hub_hears all bots h at taken from to text = by (is_no_bot h.leaves from || is_no_bot h.leaves to)
+  where
+    ends : (b : Bool) → HubGoes all bots h (if b then noted (Text from text) h else relayed h from to text)
+    ends true = hub_notes all bots h at taken (Text from text) h.waiting refl
+    ends false = keeps all bots 0 (hub_end h) _ _ (text_by to from to text ∷ []) (hub_end h) at taken (tt, tt) (omega arith) refl (λ e. cc)
+
+    by : (b : Bool) → HubGoes all bots h (if b then noted Stray h else if to == 0 then noted (Text from text) h else relayed h from to text)
+    by true = hub_notes all bots h at taken Stray h.waiting refl
+    by false = ends (to == 0)
+
 hub_receives : (all : List AcceptedChange) (bots : ℕ) (h : Hub) → IsHubAt all bots h → AllTaken all → (p : Packet)
     → HubGoes all bots h (hub_received h p)
 hub_receives all bots h at taken (Hello leaf v) = by (is_no_leaf h.leaves leaf || nat_lt (length h.accepted) v) refl
@@ -157,6 +178,7 @@ hub_receives all bots h at taken (Hello leaf v) = by (is_no_leaf h.leaves leaf |
     by : (b : Bool) → (is_no_leaf h.leaves leaf || nat_lt (length h.accepted) v) ≡ b → HubGoes all bots h (if b then noted Stray h else hello_served h leaf v)
     by true e = hub_notes all bots h at taken Stray h.waiting refl
     by false e = hub_serves all bots h at taken leaf v (ltb-false (length h.accepted) v (or_right (is_no_leaf h.leaves leaf) (nat_lt (length h.accepted) v) e))
+hub_receives all bots h at taken (BotText from to text) = hub_hears all bots h at taken from to text
 hub_receives all bots h at taken other = hub_notes all bots h at taken Stray h.waiting refl
 
 -- a leaf --------------------------------------------------------------------------------------------------------------
@@ -198,6 +220,15 @@ IsNumbered-next : (xs : List AcceptedChange) (n v : ℕ) (entry : AcceptedChange
 IsNumbered-next xs zero v entry h e = absurd h
 IsNumbered-next xs (suc place) v entry h e = let same : place ≡ v = omega (arith, e) in subst (λ i. slice_get xs i ≡ Some entry) same h
 
+-- it takes a text
+leaf_hears : (all : List AcceptedChange) (bots p : ℕ) (l : Leaf) → IsLeafAt all (suc p) l → AllTaken all → (from to : ℕ) (text : List ℕ)
+    → LeafGoes all bots p l (leaf_text_received l from to text)
+leaf_hears all bots p l at taken from to text = by (is_no_bot l.leaves from || not (to == l.number))
+  where
+    by : (b : Bool) → LeafGoes all bots p l (if b then noted Stray l else noted (Text from text) l)
+    by true = leaf_notes all bots p l at taken Stray refl
+    by false = leaf_notes all bots p l at taken (Text from text) refl
+
 leaf_receives : (all : List AcceptedChange) (bots p : ℕ) (l : Leaf) → IsLeafAt all (suc p) l → AllTaken all → (packet : Packet) → IsTrueChange all packet
     → LeafGoes all bots p l (leaf_received l packet)
 leaf_receives all bots p l at taken (change_packet number origin request change) h = by (nat_le number l.version)
@@ -214,6 +245,7 @@ leaf_receives all bots p l at taken (change_packet number origin request change)
         else if number == (l.version + 1) then next_applied l change (refusal l.records change) else noted Early l)
     by true = leaf_notes all bots p l at taken Old refl
     by false = next (number == (l.version + 1)) refl
+leaf_receives all bots p l at taken (BotText from to text) h = leaf_hears all bots p l at taken from to text
 leaf_receives all bots p l at taken other h = leaf_notes all bots p l at taken Stray refl
 
 -- either --------------------------------------------------------------------------------------------------------------
@@ -264,10 +296,62 @@ ask_keeps all bots zero (leaf_end l) c at = absurd at
 ask_keeps all bots (suc p) (hub_end h) c at = absurd at
 ask_keeps all bots (suc p) (leaf_end l) c at = record { link = at; version = refl }
 
-pub asks_keep : (all : List AcceptedChange) (bots place : ℕ) (link : Link) (cs : List Change) → IsLinkAt all bots place link
-    → IsLinkAt all bots place (link_after link cs) × (link_version (link_after link cs) ≡ link_version link)
-asks_keep all bots place link [] at = (at, refl)
-asks_keep all bots place link (c ∷ cs) at =
-    let one = ask_keeps all bots place link c at in
-    let rest = asks_keep all bots place (link_asked link c).after cs one.link in
-    (rest.0, rest.1 ∙ one.version)
+-- actions one after another ---------------------------------------------------------------------------------------------
+
+-- a text that goes out says nothing of changes
+sent_true : (all : List AcceptedChange) (fault : Option LinkFault) (next from to : ℕ) (text : List ℕ) (outgoing : Outgoing)
+    → text_sent fault (text_by next from to text) ≡ Ok outgoing → IsTrueChange all outgoing.packet
+sent_true all (Some fault) next from to text outgoing e = cc
+sent_true all None next from to text outgoing e =
+    let same : text_by next from to text ≡ outgoing = cc in subst (λ (o : Outgoing). IsTrueChange all o.packet) same tt
+
+text_true : (all : List AcceptedChange) (link : Link) (to : ℕ) (text : List ℕ) (sent : ℕ) (outgoing : Outgoing) → link_text link to text sent ≡ Ok outgoing
+    → IsTrueChange all outgoing.packet
+text_true all (hub_end hub) to text sent outgoing e = sent_true all (text_fault hub.leaves 0 to text sent) to 0 to text outgoing e
+text_true all (leaf_end leaf) to text sent outgoing e = sent_true all (text_fault leaf.leaves leaf.number to text sent) 0 leaf.number to text outgoing e
+
+-- what actions change, as the accepted changes make it at the version of a link, with true packets
+pub record ActsKept (all : List AcceptedChange) (bots place version : ℕ) (acting : Acting) : Type 0 where
+  pub link : IsLinkAt all bots place acting.link
+  pub shown : link_version acting.link ≡ version
+  pub truth : AllTrue all (posted place acting.sent)
+
+timer_keeps : (all : List AcceptedChange) (bots place version : ℕ) (acting : Acting) (timer : Timer) (fault : Option ClockFault)
+    → ActsKept all bots place version acting → ActsKept all bots place version (made_unless fault acting timer).after
+timer_keeps all bots place version acting timer None kept = record { link = kept.link; shown = kept.shown; truth = kept.truth }
+timer_keeps all bots place version acting timer (Some fault) kept = kept
+
+kill_keeps : (all : List AcceptedChange) (bots place version : ℕ) (acting : Acting) (id : ℕ) (held : Bool)
+    → ActsKept all bots place version acting → ActsKept all bots place version (killed_if held acting id).after
+kill_keeps all bots place version acting id true kept = record { link = kept.link; shown = kept.shown; truth = kept.truth }
+kill_keeps all bots place version acting id false kept = kept
+
+send_keeps : (all : List AcceptedChange) (bots place version : ℕ) (acting : Acting) (to : ℕ) (text : List ℕ) (r : Result Outgoing LinkFault)
+    → link_text acting.link to text (length acting.sent) ≡ r
+    → ActsKept all bots place version acting → ActsKept all bots place version (sent_if r acting).after
+send_keeps all bots place version acting to text (Err fault) e kept = kept
+send_keeps all bots place version acting to text (Ok outgoing) e kept = record {
+  link = kept.link;
+  shown = kept.shown;
+  truth = subst (AllTrue all) (sym (posted-append place acting.sent (outgoing ∷ [])))
+      (AllTrue-append all (posted place acting.sent) (posted place (outgoing ∷ [])) kept.truth
+      (text_true all acting.link to text (length acting.sent) outgoing e, tt));
+}
+
+act_keeps : (all : List AcceptedChange) (bots place version : ℕ) (acting : Acting) (action : Action)
+    → ActsKept all bots place version acting → ActsKept all bots place version (acted acting action).after
+act_keeps all bots place version acting (Ask change) kept =
+    let asked = ask_keeps all bots place acting.link change kept.link in
+    record { link = asked.link; shown = asked.version ∙ kept.shown; truth = kept.truth }
+act_keeps all bots place version acting (timer_wished wish) kept =
+    timer_keeps all bots place version acting (timer_of acting Minutes wish) (add_fault acting.timers wish.interval acting.last) kept
+act_keeps all bots place version acting (Utimer wish) kept =
+    timer_keeps all bots place version acting (timer_of acting Seconds wish) (add_fault acting.timers wish.interval acting.last) kept
+act_keeps all bots place version acting (KillTimer id) kept = kill_keeps all bots place version acting id (holds acting.timers id) kept
+act_keeps all bots place version acting (SendBot wish) kept = send_keeps all bots place version acting wish.to wish.text _ refl kept
+
+pub acts_keep : (all : List AcceptedChange) (bots place version : ℕ) (acting : Acting) (actions : List Action)
+    → ActsKept all bots place version acting → ActsKept all bots place version (acted_all acting actions)
+acts_keep all bots place version acting [] kept = kept
+acts_keep all bots place version acting (a ∷ actions) kept =
+    acts_keep all bots place version (acted acting a).after actions (act_keeps all bots place version acting a kept)

@@ -1,18 +1,15 @@
 -- Which procs a step calls, as two bots are compared.
 use Rattle.std.specs.Prelude.{◌≡◌, ℕ, List, [], map, slice_get, Option, None, Some, Result, Ok, Err}
-use Rattle.ircline.specs.declared.line.Line.TheVariants.{Message as a_message}
-use Rattle.chanstate.specs.declared.event.Event.{Event as Happening}
-use Rattle.chanstate.specs.Events.{events_of}
 use Rattle.procstore.specs.declared.call.Call.{Call}
 use Rattle.procstore.specs.declared.reply.Code.{Code}
 use Rattle.bindtable.specs.declared.bind.Bind.{Bind}
 use Rattle.bindtable.specs.Tables.{Asked}
 use Rattle.botcore.specs.declared.event.Event.{Event}
-use Rattle.botcore.specs.declared.event.Event.TheVariants.{Line}
 use Rattle.botcore.specs.declared.made_call.MadeCall.{MadeCall}
 use Rattle.botcore.specs.declared.report.End.{End}
 use Rattle.botcore.specs.declared.report.End.TheVariants.{Done, Refused, NoMemory}
 use Rattle.botcore.specs.Bots.{Bot}
+use Rattle.botcore.specs.Happenings.{Happening, happenings_of}
 use Rattle.botcore.specs.Links.{link_version}
 use Rattle.botworld.specs.declared.step.Part.{Part}
 use Rattle.botworld.specs.declared.step.Step.{Step}
@@ -30,19 +27,15 @@ pub record ProcCall : Type 0 where
 abbrev pub proc_call : MadeCall → ProcCall
 proc_call made = record { proc = made.proc; call = made.call; code = made.reply.code }
 
--- what calls procs: the events of a message, as a bot finds them in its channel state; nothing else has any
-abbrev pub happenings : Bot → Event → List Happening
-happenings bot (Line (a_message message)) = events_of message bot.channels
-happenings bot other = []
-
--- a step that is done: the bot as it was, the events, and the calls
+-- a step that is done: the bot as it was, what happened to call procs (the events of a message, a text of another bot, or the timers
+-- and minutes of the seconds that ran), and the calls
 pub record Calling : Type 0 where
   pub bot : Bot
-  pub events : List Happening
+  pub happenings : List Happening
   pub calls : List ProcCall
 
 abbrev pub calling_done : End → Event → Report → Bot → Option Calling
-calling_done Done event report was = Some (record { bot = was; events = happenings was event; calls = map proc_call report.calls })
+calling_done Done event report was = Some (record { bot = was; happenings = happenings_of was event; calls = map proc_call report.calls })
 calling_done (Refused why) event report was = None
 calling_done NoMemory event report was = None
 
@@ -64,9 +57,9 @@ calling w step outcome = calling_in w (part_of w step) outcome
 abbrev pub asked_in : Bind → Asked
 asked_in bind = record { kind = bind.kind; flags = bind.flags; mask = bind.mask; proc = bind.proc }
 
--- bots that are alike in what calls depend on, at the same events
+-- bots that are alike in what calls depend on, to which the same happens
 pub record IsAlike (a b : Calling) : Type 0 where
-  pub events : a.events ≡ b.events
+  pub happenings : a.happenings ≡ b.happenings
   pub binds : map asked_in a.bot.binds.binds ≡ map asked_in b.bot.binds.binds
   pub exclusive : a.bot.config.exclusive ≡ b.bot.config.exclusive
   pub version : link_version a.bot.link ≡ link_version b.bot.link

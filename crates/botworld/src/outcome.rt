@@ -1,5 +1,5 @@
 // What came of steps.
-ghost use Rattle.std.specs.Prelude.{◌≡◌};
+ghost use Rattle.std.specs.Prelude.{◌≡◌, IfOk};
 ghost use Rattle.std.specs.Option.{option_copied};
 ghost use Rattle.botworld.specs.Codes.{outcome_code};
 
@@ -30,18 +30,28 @@ pub struct Report {
 
 impl TryCopy for Report {
     fn copy(&self, alloc: Global) -> Result<Report, NoMemory> {
+        let note = copy_of_note(alloc, &self.note)?;
         let calls = self.calls.copy(alloc)?;
         let faults = self.faults.copy(alloc)?;
         Ok(Report {
             bot: self.bot,
             end: self.end,
-            note: self.note,
+            note,
             calls,
             first: self.first,
             count: self.count,
             faults,
             logged: self.logged,
         })
+    }
+}
+
+fn copy_of_note(alloc: Global, note: &Option<Note>) -> Result<Option<Note>, NoMemory>
+    ensures { IfOk result (λ twin. twin ≡ note.now) }
+{
+    match note {
+        Some(note) => Ok(Some(note.copy(alloc)?)),
+        None => Ok(None),
     }
 }
 

@@ -127,8 +127,8 @@ impl<P: Promise, B: Run> World<P, B> {
         ensures same_always { (past : Past) → Stands P.code_of P.may self.new past → SameAlways past.history }
         // No version goes back.
         ensures never_back { (past : Past) → Stands P.code_of P.may self.old past → NeverBack self.old self.new }
-        // In any two steps so far, bots equal in version, binds and `exclusive` called the same procs in the same
-        // order for the same events.
+        // In any two steps so far, be they of lines, texts of other bots or readings of the clock, bots equal in version,
+        // binds and `exclusive` called the same procs in the same order for the same events.
         ensures same_calls { (past : Past) → Stands P.code_of P.may self.new past → SameCalls past.history }
     {
         self.run_all(alloc, steps)
@@ -292,6 +292,7 @@ fn is_packet(event: &Event) -> bool
         | Event::Line(_)
         | Event::Ask(_)
         | Event::Pump
+        | Event::Clock(_)
         | Event::Bind(_)
         | Event::Unbind(_) => false,
     }

@@ -7,11 +7,12 @@ ghost use Rattle.std.specs.Prelude.{◌≡◌, codes, IfOk};
 ghost use Rattle.botworld.specs.Network.{AllNew};
 ghost use Rattle.examplebot.specs.Ours.{hushed, nick_of, welcomed, Keeps};
 
+use bindtable::BindKind;
 use botcore::{Bot, Config, Event, NewBind};
 use botworld::{Outcome, Step, World};
 use bytetext::{NoMemory, Text, Texts};
 use ircline::read_line;
-use procstore::{Action, Actions, Body, Call, Code, Kind, Proc, ProcStore, Promise, Reply, Run};
+use procstore::{Action, Actions, Body, Call, Code, Proc, ProcStore, Promise, Reply, Run};
 use std::alloc::Global;
 use userfile::Change;
 
@@ -131,8 +132,8 @@ fn hub(alloc: Global) -> Result<Vec<Bot>, anyhow::Error>
 // Two binds, three lines, and a pump, which does what a proc asked for.
 fn steps(alloc: Global) -> Result<[Step; 6], NoMemory> {
     Ok([
-        at_hub(bind(alloc, Kind::Msg, b"hello", b"welcome")?),
-        at_hub(bind(alloc, Kind::Pubm, b"% *secret*", b"hush")?),
+        at_hub(bind(alloc, BindKind::Msg, b"hello", b"welcome")?),
+        at_hub(bind(alloc, BindKind::Pubm, b"% *secret*", b"hush")?),
         at_hub(line(alloc, b":egg!egg@host JOIN #egg")?),
         at_hub(line(alloc, b":ann!a@host PRIVMSG egg :hello")?),
         at_hub(line(alloc, b":ann!a@host PRIVMSG #egg :the secret word")?),
@@ -145,7 +146,7 @@ fn at_hub(event: Event) -> Step {
 }
 
 // A bind that anybody may call.
-fn bind(alloc: Global, kind: Kind, mask: &[u8], proc: &[u8]) -> Result<Event, NoMemory> {
+fn bind(alloc: Global, kind: BindKind, mask: &[u8], proc: &[u8]) -> Result<Event, NoMemory> {
     Ok(Event::Bind(NewBind {
         kind,
         flags: Text::from_slice(alloc, b"*")?,

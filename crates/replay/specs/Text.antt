@@ -10,12 +10,11 @@ use Rattle.userfile.specs.declared.channel_flags.ChannelFlags.{ChannelFlags}
 use Rattle.userfile.specs.declared.ban.Ban.{Ban}
 use Rattle.procstore.specs.declared.reply.Code.{Code}
 use Rattle.procstore.specs.declared.reply.Code.TheVariants.{Zero, One}
-use Rattle.sharelink.specs.Codes.{link_code}
 use Rattle.sharelink.specs.declared.answer.Note.{Note as LinkNote}
-use Rattle.sharelink.specs.declared.answer.Note.TheVariants.{Queued, Idle, Accepted, Refused, Served, Old, Early, Applied, Stray}
+use Rattle.sharelink.specs.declared.answer.Note.TheVariants.{Queued, Idle, Accepted, Refused, Served, Old, Early, Applied, Relayed, Text, Stray}
 use Rattle.sharewire.specs.declared.packet.Packet.{Packet}
 use Rattle.sharewire.specs.declared.packet.Packet.TheVariants.{Hello, Change as change_packet, Request, Accepted as accepted_packet, Refused as refused_packet, BotText}
-use Rattle.botcore.specs.Codes.{refusal_code}
+use Rattle.botcore.specs.Codes.{refusal_code, action_code}
 use Rattle.botcore.specs.declared.fault.Fault.{Fault}
 use Rattle.botcore.specs.declared.fault.Fault.TheVariants.{Unbound as unbound_fault, Action as action_fault}
 use Rattle.botcore.specs.declared.made_call.MadeCall.{MadeCall}
@@ -40,12 +39,12 @@ call_line bot made = codes "call " ++ decimal bot ++ codes " " ++ made.proc ++ c
 -- fault B NAME, the name being the code of a refused action, or that a proc is missing
 abbrev pub fault_text : Fault → List ℕ
 fault_text (unbound_fault unbound) = codes "Unbound " ++ unbound.proc
-fault_text (action_fault fault) = link_code fault
+fault_text (action_fault fault) = action_code fault
 
 abbrev pub fault_line : ℕ → Fault → List ℕ
 fault_line bot fault = codes "fault " ++ decimal bot ++ codes " " ++ fault_text fault ++ 10 ∷ []
 
--- the note of a call of the link, and its number or letters where it has one
+-- the note of a call of the link, and its number, its letters or its text where it has any
 abbrev pub link_note_text : LinkNote → List ℕ
 link_note_text Queued = codes "Queued"
 link_note_text Idle = codes "Idle"
@@ -55,6 +54,8 @@ link_note_text (Served count) = codes "Served " ++ decimal count
 link_note_text Old = codes "Old"
 link_note_text Early = codes "Early"
 link_note_text (Applied number) = codes "Applied " ++ decimal number
+link_note_text Relayed = codes "Relayed"
+link_note_text (Text from text) = codes "Text " ++ decimal from ++ codes " " ++ text
 link_note_text Stray = codes "Stray"
 
 -- any note; a step that is done without one is just done

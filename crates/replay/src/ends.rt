@@ -12,9 +12,9 @@ use sharelink::Note as LinkNote;
 /// # Errors
 /// `NoMemory` where room is refused, and where the step itself ended so.
 #[tactic(auto, using(std::proofs::Common::append_assoc))]
-pub fn put_end(out: &mut Vec<u8>, bot: u16, end: End, note: Option<Note>) -> Result<(), NoMemory>
+pub fn put_end(out: &mut Vec<u8>, bot: u16, end: End, note: &Option<Note>) -> Result<(), NoMemory>
     ensures made { OnOk result (end ≢ End.NoMemory) }
-    ensures added { OnOk result (out.new.items ≡ out.old.items ++ end_line bot end note) }
+    ensures added { OnOk result (out.new.items ≡ out.old.items ++ end_line bot end note.now) }
 {
     match end {
         End::Done => {
@@ -33,16 +33,16 @@ pub fn put_end(out: &mut Vec<u8>, bot: u16, end: End, note: Option<Note>) -> Res
     }
 }
 
-// A note, with its number or letters where it has one; `Done` where there is none.
+// A note, with its number, letters or text where it has any; `Done` where there is none.
 #[tactic(auto, using(std::proofs::Common::append_assoc))]
-fn put_note(out: &mut Vec<u8>, note: Option<Note>) -> Result<(), NoMemory>
-    ensures { OnOk result (out.new.items ≡ out.old.items ++ note_text note) }
+fn put_note(out: &mut Vec<u8>, note: &Option<Note>) -> Result<(), NoMemory>
+    ensures { OnOk result (out.new.items ≡ out.old.items ++ note_text note.now) }
 {
     match note {
         None => put(out, b"Done"),
         Some(Note::Link(note)) => put_link_note(out, note),
-        Some(Note::Bound(number)) => put_counted(out, b"Bound ", u64::from(number)),
-        Some(Note::Unbound(number)) => put_counted(out, b"Unbound ", u64::from(number)),
+        Some(Note::Bound(number)) => put_counted(out, b"Bound ", u64::from(*number)),
+        Some(Note::Unbound(number)) => put_counted(out, b"Unbound ", u64::from(*number)),
         Some(Note::Bad(fault)) => {
             put(out, b"Bad ")?;
             put(out, fault.code().as_bytes())
@@ -52,21 +52,27 @@ fn put_note(out: &mut Vec<u8>, note: Option<Note>) -> Result<(), NoMemory>
 
 // The note of a call of the link.
 #[tactic(auto, using(std::proofs::Common::append_assoc))]
-fn put_link_note(out: &mut Vec<u8>, note: LinkNote) -> Result<(), NoMemory>
-    ensures { OnOk result (out.new.items ≡ out.old.items ++ link_note_text note) }
+fn put_link_note(out: &mut Vec<u8>, note: &LinkNote) -> Result<(), NoMemory>
+    ensures { OnOk result (out.new.items ≡ out.old.items ++ link_note_text note.now) }
 {
     match note {
         LinkNote::Queued => put(out, b"Queued"),
         LinkNote::Idle => put(out, b"Idle"),
-        LinkNote::Accepted(number) => put_counted(out, b"Accepted ", u64::from(number)),
+        LinkNote::Accepted(number) => put_counted(out, b"Accepted ", u64::from(*number)),
         LinkNote::Refused(fault) => {
             put(out, b"Refused ")?;
             put(out, fault.code().as_bytes())
         }
-        LinkNote::Served(count) => put_counted(out, b"Served ", count as u64),
+        LinkNote::Served(count) => put_counted(out, b"Served ", *count as u64),
         LinkNote::Old => put(out, b"Old"),
         LinkNote::Early => put(out, b"Early"),
-        LinkNote::Applied(number) => put_counted(out, b"Applied ", u64::from(number)),
+        LinkNote::Applied(number) => put_counted(out, b"Applied ", u64::from(*number)),
+        LinkNote::Relayed => put(out, b"Relayed"),
+        LinkNote::Text { from, text } => {
+            put_counted(out, b"Text ", u64::from(*from))?;
+            put(out, b" ")?;
+            put(out, text.as_bytes())
+        }
         LinkNote::Stray => put(out, b"Stray"),
     }
 }

@@ -46,7 +46,7 @@ fn put_report<P: Promise, B: Run>(
     put_calls(out, report.bot, report.calls.as_slice())?;
     put_packets(out, world, report.first, report.count)?;
     put_faults(out, report.bot, report.faults.as_slice())?;
-    put_end(out, report.bot, report.end, report.note)
+    put_end(out, report.bot, report.end, &report.note)
 }
 
 // The line of each call, in order.

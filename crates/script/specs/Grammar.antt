@@ -3,15 +3,15 @@ use Rattle.std.specs.Prelude.{ℕ, ◌==◌, nat_le, List, [], ◌∷◌, Option
 use Rattle.std.specs.Str.{bytes_eq}
 use Rattle.script.specs.declared.command.Command.{Command}
 use Rattle.script.specs.declared.command.Command.TheVariants.{Steps, Show}
-use Rattle.procstore.specs.Kinds.{kind_of}
+use Rattle.bindtable.specs.Kinds.{kind_of}
 use Rattle.sharelink.specs.declared.TheConstants.{MAX_LEAVES}
 use Rattle.botcore.specs.declared.event.Event.{Event}
-use Rattle.botcore.specs.declared.event.Event.TheVariants.{Ask, Pump, Connect, Bind, Unbind}
+use Rattle.botcore.specs.declared.event.Event.TheVariants.{Ask, Pump, Connect, Bind, Unbind, Clock}
 use Rattle.botworld.specs.declared.step.Step.{Step}
 use Rattle.botworld.specs.declared.step.Step.TheVariants.{At, Deliver}
 use Rattle.script.specs.declared.saying.Verb.{Verb}
 use Rattle.script.specs.declared.saying.Verb.TheVariants.{Leaves as leaves_verb, Ask as ask_verb, Pump as pump_verb, Connect as connect_verb}
-use Rattle.script.specs.declared.saying.Verb.TheVariants.{Line as line_verb, Bind as bind_verb, Unbind as unbind_verb}
+use Rattle.script.specs.declared.saying.Verb.TheVariants.{Line as line_verb, Clock as clock_verb, Bind as bind_verb, Unbind as unbind_verb}
 use Rattle.script.specs.declared.saying.Verb.TheVariants.{Deliver as deliver_verb, Show as show_verb}
 use Rattle.script.specs.declared.saying.Saying.{Saying}
 use Rattle.script.specs.declared.saying.Saying.TheVariants.{Nothing, Leaves, Told, Wrong}
@@ -26,6 +26,10 @@ bot_of word = number_below 65536 word
 
 abbrev pub packet_of : List ℕ → Option ℕ
 packet_of word = number_below 18446744073709551616 word
+
+-- what a clock reads
+abbrev pub reading_of : List ℕ → Option ℕ
+reading_of word = number_below 18446744073709551616 word
 
 -- as many leaves as a hub may have
 abbrev pub few_leaves : ℕ → Option ℕ
@@ -62,6 +66,7 @@ verb_of word =
     else if bytes_eq word (codes "pump") then Some pump_verb
     else if bytes_eq word (codes "connect") then Some connect_verb
     else if bytes_eq word (codes "line") then Some line_verb
+    else if bytes_eq word (codes "clock") then Some clock_verb
     else if bytes_eq word (codes "bind") then Some bind_verb
     else if bytes_eq word (codes "unbind") then Some unbind_verb
     else if bytes_eq word (codes "deliver") then Some deliver_verb
@@ -77,6 +82,7 @@ two_words (Some deliver_verb) a = told (option_map delivered (packet_of a))
 two_words (Some show_verb) a = told (option_map Show (bot_of a))
 two_words (Some ask_verb) a = Wrong
 two_words (Some line_verb) a = Wrong
+two_words (Some clock_verb) a = Wrong
 two_words (Some bind_verb) a = Wrong
 two_words (Some unbind_verb) a = Wrong
 two_words None a = Wrong
@@ -89,6 +95,11 @@ asked bot name words = option_and_then (λ bot. option_map (λ change. event_at 
 abbrev pub read : Option ℕ → List (List ℕ) → Option Command
 read bot words = option_and_then (λ bot. option_map (λ text. Steps (line_steps bot text)) (rest_of words)) bot
 
+-- clock B N
+abbrev pub clocked : Option ℕ → List ℕ → List (List ℕ) → Option Command
+clocked bot word [] = option_and_then (λ bot. option_map (λ now. event_at bot (Clock now)) (reading_of word)) bot
+clocked bot word (more ∷ words) = None
+
 -- bind B TYPE FLAGS PROC MASK..
 abbrev pub bound : Option ℕ → List ℕ → List (List ℕ) → Option Command
 bound bot kind words = option_and_then (λ bot. option_map (λ bind. event_at bot (Bind bind)) (new_bind_of (kind_of kind) words)) bot
@@ -100,6 +111,7 @@ unbound bot kind words = option_and_then (λ bot. option_map (λ bind. event_at 
 abbrev pub more_words : Option Verb → List ℕ → List ℕ → List (List ℕ) → Saying
 more_words (Some ask_verb) a first words = told (asked (bot_of a) first words)
 more_words (Some line_verb) a first words = told (read (bot_of a) (first ∷ words))
+more_words (Some clock_verb) a first words = told (clocked (bot_of a) first words)
 more_words (Some bind_verb) a first words = told (bound (bot_of a) first words)
 more_words (Some unbind_verb) a first words = told (unbound (bot_of a) first words)
 more_words (Some leaves_verb) a first words = Wrong

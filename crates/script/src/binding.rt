@@ -3,9 +3,9 @@ ghost use Rattle.std.specs.Prelude.{◌≡◌, map, IfOk};
 ghost use Rattle.script.specs.Binds.{new_bind_of, old_bind_of, new_bind_by, old_bind_by};
 
 use crate::rest::rest_of;
+use bindtable::BindKind;
 use botcore::{NewBind, OldBind};
 use bytetext::{NoMemory, Text};
-use procstore::Kind;
 use std::alloc::Global;
 
 /// The bind of this kind that FLAGS PROC MASK.. spell; none where they don't, or where there is no such kind.
@@ -14,7 +14,7 @@ use std::alloc::Global;
 /// `NoMemory` where room is refused.
 pub fn new_bind(
     alloc: Global,
-    kind: Option<Kind>,
+    kind: Option<BindKind>,
     words: &[&[u8]],
 ) -> Result<Option<NewBind>, NoMemory>
     ensures { IfOk result (λ bind. bind ≡ new_bind_of kind (map (λ word. word.now) words.now)) }
@@ -31,7 +31,7 @@ pub fn new_bind(
 // The same, of its parts.
 fn new_bind_by(
     alloc: Global,
-    kind: Option<Kind>,
+    kind: Option<BindKind>,
     flags: &[u8],
     proc: &[u8],
     mask: Option<Text>,
@@ -60,7 +60,7 @@ fn new_bind_by(
 /// `NoMemory` where room is refused.
 pub fn old_bind(
     alloc: Global,
-    kind: Option<Kind>,
+    kind: Option<BindKind>,
     words: &[&[u8]],
 ) -> Result<Option<OldBind>, NoMemory>
     ensures { IfOk result (λ bind. bind ≡ old_bind_of kind (map (λ word. word.now) words.now)) }
@@ -77,7 +77,7 @@ pub fn old_bind(
 // The same, of its parts.
 fn old_bind_by(
     alloc: Global,
-    kind: Option<Kind>,
+    kind: Option<BindKind>,
     proc: &[u8],
     mask: Option<Text>,
 ) -> Result<Option<OldBind>, NoMemory>

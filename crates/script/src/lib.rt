@@ -1,14 +1,16 @@
 //! Scripts: a text of commands for a botnet, read whole before the first of them is done.
 //!
 //! A script has one command a line, and words with one space between them. Its first command is `leaves N`; then come
-//! `ask B CHANGE`, `pump B`, `connect B`, `line B TEXT`, `bind B TYPE FLAGS PROC MASK`, `unbind B TYPE PROC MASK`,
-//! `deliver K` and `show B`, in any order. Empty lines and lines that begin with `#` are no commands. [`Script::read`]
+//! `ask B CHANGE`, `pump B`, `connect B`, `line B TEXT`, `clock B N`, `bind B TYPE FLAGS PROC MASK`,
+//! `unbind B TYPE PROC MASK`, `deliver K` and `show B`, in any order. Empty lines and lines that begin with `#` are no commands. [`Script::read`]
 //! answers the number of leaves and the commands, or the first line that breaks a rule.
 //!
 //! A TEXT takes the rest of the line, spaces and all, and a bot reads it as it would from a server: a carriage return in
-//! it ends a line, so a `line` has a step for each line that its text holds. A TYPE is `raw`, `msg`, `msgm`, `notc`, `pub`
-//! or `pubm`, and a MASK takes the rest of the line. Whether there is such a bind, and whether flags and mask are of a good
-//! shape, is seen when the bot is told.
+//! it ends a line, so a `line` has a step for each line that its text holds. A `clock` has the bot read its clock, which
+//! shows N, in seconds from 1970-01-01 UTC on; whether that is a moment is seen when the bot is told. A TYPE is the word of
+//! a kind of binds ([`BindKind`](bindtable::BindKind)): `raw`, `msg`, `msgm`, `notc`, `pub`, `pubm`, `join`, `part`, `sign`,
+//! `kick`, `nick`, `mode`, `topc`, `bot`, `time` or `cron`, and a MASK takes the rest of the line. Whether there is such a
+//! bind, and whether flags and mask are of a good shape, is seen when the bot is told.
 //!
 //! A CHANGE is `adduser H`, `deluser H`, `addhost H M`, `delhost H M`, `global H F`, `bot H F`, `chan H C F`,
 //! `addban C M H E COMMENT` or `delban C M`. F is letters, or `-` for none. A ban of all channels has the channel `*`,

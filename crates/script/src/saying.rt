@@ -1,6 +1,6 @@
 // What one line says.
 ghost use Rattle.std.specs.Prelude.{◌≡◌, ◌∷◌, map, option_and_then, IfOk};
-ghost use Rattle.script.specs.Grammar.{counted, few_leaves, told, verb_of, one_step, event_at, asked, read, bound, unbound};
+ghost use Rattle.script.specs.Grammar.{counted, few_leaves, told, verb_of, one_step, event_at, asked, read, clocked, bound, unbound};
 ghost use Rattle.script.specs.Grammar.{two_words, more_words, saying_by_words, saying_of};
 
 use crate::asking::change_named;
@@ -10,10 +10,10 @@ use crate::lines::line_steps;
 use crate::numeral::{bot_number, number};
 use crate::pieces::pieces_of;
 use crate::rest::rest_of;
+use bindtable::BindKind;
 use botcore::Event;
 use botworld::Step;
 use bytetext::NoMemory;
-use procstore::Kind;
 use sharelink::MAX_LEAVES;
 use std::alloc::Global;
 
@@ -25,6 +25,7 @@ pub enum Verb {
     Pump,
     Connect,
     Line,
+    Clock,
     Bind,
     Unbind,
     Deliver,
@@ -83,6 +84,8 @@ fn verb_of(word: &[u8]) -> Option<Verb>
         Some(Verb::Connect)
     } else if word == b"line".as_slice() {
         Some(Verb::Line)
+    } else if word == b"clock".as_slice() {
+        Some(Verb::Clock)
     } else if word == b"bind".as_slice() {
         Some(Verb::Bind)
     } else if word == b"unbind".as_slice() {
@@ -118,7 +121,9 @@ fn two_words(alloc: Global, verb: &[u8], a: &[u8]) -> Result<Saying, NoMemory>
             Some(bot) => Ok(Saying::Told(Command::Show(bot))),
             None => Ok(Saying::Wrong),
         },
-        Some(Verb::Ask | Verb::Line | Verb::Bind | Verb::Unbind) | None => Ok(Saying::Wrong),
+        Some(Verb::Ask | Verb::Line | Verb::Clock | Verb::Bind | Verb::Unbind) | None => Ok(
+            Saying::Wrong,
+        ),
     }
 }
 
@@ -168,6 +173,7 @@ fn more_words(
     match verb_of(verb) {
         Some(Verb::Ask) => ask(alloc, bot_number(a), first, words),
         Some(Verb::Line) => read_lines(alloc, bot_number(a), first, words),
+        Some(Verb::Clock) => read_clock(alloc, bot_number(a), first, words),
         Some(Verb::Bind) => bind(alloc, bot_number(a), first, words),
         Some(Verb::Unbind) => unbind(alloc, bot_number(a), first, words),
         Some(Verb::Leaves | Verb::Pump | Verb::Connect | Verb::Deliver | Verb::Show) | None => {
@@ -210,6 +216,24 @@ fn read_lines(
     }
 }
 
+// N
+fn read_clock(
+    alloc: Global,
+    bot: Option<u16>,
+    word: &[u8],
+    words: &[&[u8]],
+) -> Result<Saying, NoMemory>
+    ensures { IfOk result (λ saying. saying ≡ told (clocked bot word.now (map (λ word. word.now) words.now))) }
+{
+    if !words.is_empty() {
+        return Ok(Saying::Wrong);
+    }
+    match (bot, number(word)) {
+        (Some(bot), Some(now)) => event_at(alloc, bot, Event::Clock(now)),
+        (Some(_), None) | (None, _) => Ok(Saying::Wrong),
+    }
+}
+
 // TYPE FLAGS PROC MASK..
 fn bind(alloc: Global, bot: Option<u16>, kind: &[u8], words: &[&[u8]]) -> Result<Saying, NoMemory>
     ensures { IfOk result (λ saying. saying ≡ told (bound bot kind.now (map (λ word. word.now) words.now))) }
@@ -217,7 +241,7 @@ fn bind(alloc: Global, bot: Option<u16>, kind: &[u8], words: &[&[u8]]) -> Result
     let Some(bot) = bot else {
         return Ok(Saying::Wrong);
     };
-    match new_bind(alloc, Kind::of_word(kind), words)? {
+    match new_bind(alloc, BindKind::of_word(kind), words)? {
         Some(bind) => event_at(alloc, bot, Event::Bind(bind)),
         None => Ok(Saying::Wrong),
     }
@@ -230,7 +254,7 @@ fn unbind(alloc: Global, bot: Option<u16>, kind: &[u8], words: &[&[u8]]) -> Resu
     let Some(bot) = bot else {
         return Ok(Saying::Wrong);
     };
-    match old_bind(alloc, Kind::of_word(kind), words)? {
+    match old_bind(alloc, BindKind::of_word(kind), words)? {
         Some(bind) => event_at(alloc, bot, Event::Unbind(bind)),
         None => Ok(Saying::Wrong),
     }
