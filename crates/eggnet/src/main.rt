@@ -1,25 +1,34 @@
 //! `eggnet replay` reads a script on standard input, does its commands with a botnet in memory, and prints the transcript.
-//! A script's binds may call the procs `quiet`, `stop` and `adduser`.
+//! A script's binds may call the procs `quiet`, `stop`, `adduser`, `tick` and `tell`.
+//!
+//! `eggnet serve PORT` keeps a small IRC server running on this machine, for other programs. It prints the port, which the
+//! system chooses where PORT is 0, and then serves until it is ended.
 //!
 //! It ends with status 0 when all is done; 1 for a script that breaks a rule, with its first faulty line on standard
-//! error; 2 for a command line that is not understood; 3 where reading or writing fails; 4 where memory runs out.
+//! error; 2 for a command line that is not understood; 3 where reading, writing or listening fails; 4 where memory runs
+//! out.
 #![tactic(auto)]
 
 ghost use Rattle.std.specs.Prelude.{◌≡◌, codes, IfOk};
 ghost use Rattle.procstore.specs.declared.reply.Code.TheVariants.{Zero, One};
-ghost use Rattle.eggnet.specs.Procs.{Keeps, plain, reply_of_adduser};
+ghost use Rattle.eggnet.specs.Procs.{Keeps, plain, reply_of_adduser, reply_of_tick, reply_of_tell};
 
 mod procs;
+mod serve;
+mod serve_guest;
 
-use crate::procs::{Ours, plain, reply_of_adduser, store_of};
+use crate::procs::{Ours, plain, reply_of_adduser, reply_of_tell, reply_of_tick, store_of};
+use crate::serve::{ServeError, serve};
 use bytetext::NoMemory;
 use clap::error::ErrorKind;
-use clap::{Command, Error};
+use clap::{Arg, Command, Error, value_parser};
 use procstore::{Body, Call, Code, ProcStore, Reply, Run};
 use replay::{ReplayError, replay};
 use std::alloc::{AllocError, Global};
+use std::net::Net;
 use std::process::ExitCode;
 use std::rt::Env;
+use std::time::Clock;
 use std::{env, io};
 
 /// The status of a script that breaks a rule.
@@ -63,15 +72,41 @@ fn main(rt: HostRuntime) -> ExitCode {
         Ok(body) => body,
         Err(_) => return ExitCode::from(NO_MEMORY),
     };
-    ExitCode::from(status(&rt, quiet, stop, adduser))
+    let tick: Body = match Box::new(
+        alloc,
+        move |_call: &Call| -> Result<Reply, NoMemory>
+            ensures { IfOk result (λ reply. reply ≡ reply_of_tick) }
+        { reply_of_tick(alloc) },
+    ) {
+        Ok(body) => body,
+        Err(_) => return ExitCode::from(NO_MEMORY),
+    };
+    let tell: Body = match Box::new(
+        alloc,
+        move |call: &Call| -> Result<Reply, NoMemory>
+            ensures { IfOk result (λ reply. reply ≡ reply_of_tell call.now) }
+        { reply_of_tell(alloc, call) },
+    ) {
+        Ok(body) => body,
+        Err(_) => return ExitCode::from(NO_MEMORY),
+    };
+    ExitCode::from(status(&rt, quiet, stop, adduser, tick, tell))
+}
+
+// What the program is to do.
+enum Task {
+    Replay,
+    Serve(u16),
 }
 
 // The status that the program ends with.
-fn status<R: Input + Print + Eprint + AllocGlobal + Env, B: Run>(
+fn status<R: Input + Print + Eprint + AllocGlobal + Env + Net + Clock, B: Run>(
     rt: &R,
     quiet: B,
     stop: B,
     adduser: B,
+    tick: B,
+    tell: B,
 ) -> u8
     requires quiet_runs { B.can_run quiet }
     requires quiet_keeps { Keeps (codes "quiet") (B.answers quiet) }
@@ -79,14 +114,20 @@ fn status<R: Input + Print + Eprint + AllocGlobal + Env, B: Run>(
     requires stop_keeps { Keeps (codes "stop") (B.answers stop) }
     requires adduser_runs { B.can_run adduser }
     requires adduser_keeps { Keeps (codes "adduser") (B.answers adduser) }
+    requires tick_runs { B.can_run tick }
+    requires tick_keeps { Keeps (codes "tick") (B.answers tick) }
+    requires tell_runs { B.can_run tell }
+    requires tell_keeps { Keeps (codes "tell") (B.answers tell) }
 {
     let Ok(words) = words_of(rt) else {
         return told(rt, ReplayError::NoMemory);
     };
-    if let Err(error) = parsed(rt.alloc(), words.as_slice()) {
-        return refused(rt, &error);
+    match task_of(rt.alloc(), words.as_slice()) {
+        Ok(Task::Replay) => {}
+        Ok(Task::Serve(port)) => return served(rt, port),
+        Err(error) => return refused(rt, &error),
     }
-    match store_of(rt.alloc(), quiet, stop, adduser) {
+    match store_of(rt.alloc(), quiet, stop, adduser, tick, tell) {
         Ok(store) => replayed(rt, store),
         Err(NoMemory) => told(rt, ReplayError::NoMemory),
     }
@@ -101,10 +142,13 @@ fn words_of<R: AllocGlobal + Env>(rt: &R) -> io::Result<Vec<String>> {
     Ok(words)
 }
 
-// Whether the words are `replay` after the program's name.
-fn parsed(alloc: Global, words: &[String]) -> Result<(), Error> {
-    command(alloc)?.try_get_matches_from(words)?;
-    Ok(())
+// What the words after the program's name ask for.
+fn task_of(alloc: Global, words: &[String]) -> Result<Task, Error> {
+    let matches = command(alloc)?.try_get_matches_from(words)?;
+    match matches.subcommand_matches("serve") {
+        Some(serve) => Ok(Task::Serve(serve.get_one("PORT").unwrap_or(0))),
+        None => Ok(Task::Replay),
+    }
 }
 
 // The command line.
@@ -112,10 +156,30 @@ fn command<'a>(alloc: Global) -> Result<Command<'a>, AllocError> {
     let replay = Command::new(alloc, "replay").about(
         "Do a script from standard input and print the transcript",
     );
+    let port = Arg::new(alloc, "PORT")
+        .help("The port of 127.0.0.1, or 0 for one that the system chooses")
+        .required(true)
+        .value_parser(value_parser!(u16));
+    let serve = Command::new(alloc, "serve")
+        .about("Keep a small IRC server running on this machine, for other programs")
+        .arg(port)?;
     Command::new(alloc, "eggnet")
         .about("IRC bots that share a userfile")
         .subcommand_required(true)
-        .subcommand(replay)
+        .subcommand(replay)?
+        .subcommand(serve)
+}
+
+// Serves until that can't go on.
+fn served<R: Print + Eprint + AllocGlobal + Net + Clock>(rt: &R, port: u16) -> u8 {
+    match serve(rt, port) {
+        Ok(()) => 0,
+        Err(ServeError::Socket) => {
+            let _ = eprintln!(rt; "eggnet: socket fault");
+            STREAM_FAULT
+        }
+        Err(ServeError::NoMemory) => told(rt, ReplayError::NoMemory),
+    }
 }
 
 // Prints what clap says of a command line that it doesn't take, or its help.

@@ -1,14 +1,19 @@
 // The procs of this program, and what they promise.
 ghost use Rattle.std.specs.Prelude.{◌≡◌, codes, IfOk};
-ghost use Rattle.eggnet.specs.Procs.{asked_by_adduser, is_command, last_of, plain, reply_of_adduser, Keeps};
+ghost use Rattle.eggnet.specs.Procs.{asked_by_adduser, asked_by_tick, asked_by_tell, is_command, last_of};
+ghost use Rattle.eggnet.specs.Procs.{plain, reply_of_adduser, reply_of_tick, reply_of_tell, Keeps};
 
 use bytetext::{NoMemory, Text};
-use procstore::{Action, Actions, Call, Code, Kind, Proc, ProcStore, Promise, Reply, Run};
+use procstore::{
+    Action, Actions, BotWish, Call, Code, Kind, Proc, ProcStore, Promise, Reply, Run, TimerWish,
+};
 use std::alloc::Global;
 use userfile::Change;
 
-/// What the procs of this program promise: `quiet` answers 0 and asks for nothing, `stop` answers 1 and asks for
-/// nothing, and `adduser` answers 0 and asks for a user where it is called as a command. Any of them may lack memory.
+/// What the procs of this program promise: `quiet` answers 0 and asks for nothing, and `stop` answers 1 and asks for
+/// nothing. `adduser` answers 0 and asks for a user where it is called as a command; `tick` answers 0 and asks for a
+/// call of `quiet` ten seconds on; `tell` answers 0 and tells the hub a text where it is called as a command. Any of
+/// them may lack memory.
 #[derive(Drop)]
 pub struct Ours;
 
@@ -52,13 +57,75 @@ fn asked_by_adduser(alloc: Global, call: &Call) -> Result<Actions, NoMemory>
     Actions::one(alloc, Action::Ask(Change::AddUser { handle }))
 }
 
+/// What `tick` answers.
+///
+/// # Errors
+/// `NoMemory` where room is refused.
+pub fn reply_of_tick(alloc: Global) -> Result<Reply, NoMemory>
+    ensures { IfOk result (λ reply. reply ≡ reply_of_tick) }
+{
+    let actions = asked_by_tick(alloc)?;
+    let code = Code::Zero;
+    Ok(Reply { code, actions })
+}
+
+// What `tick` asks for: a call of `quiet` ten seconds on, once.
+fn asked_by_tick(alloc: Global) -> Result<Actions, NoMemory>
+    ensures { IfOk result (λ actions. actions ≡ asked_by_tick) }
+{
+    let proc = Text::from_slice(alloc, b"quiet")?;
+    let wish = TimerWish {
+        interval: 10,
+        count: 1,
+        proc,
+    };
+    Actions::one(alloc, Action::Utimer(wish))
+}
+
+/// What `tell` answers.
+///
+/// # Errors
+/// `NoMemory` where room is refused.
+pub fn reply_of_tell(alloc: Global, call: &Call) -> Result<Reply, NoMemory>
+    ensures { IfOk result (λ reply. reply ≡ reply_of_tell call.now) }
+{
+    let actions = asked_by_tell(alloc, call)?;
+    let code = Code::Zero;
+    Ok(Reply { code, actions })
+}
+
+// What `tell` asks for: that the hub is told the text after the command.
+fn asked_by_tell(alloc: Global, call: &Call) -> Result<Actions, NoMemory>
+    ensures { IfOk result (λ actions. actions ≡ asked_by_tell call.now) }
+{
+    if !is_command(call.kind) {
+        return Ok(Actions::empty(alloc));
+    }
+    let text = Text::from_slice(alloc, last_of(call.args.as_slice()))?;
+    Actions::one(alloc, Action::SendBot(BotWish { to: 0, text }))
+}
+
 // Whether a kind's last argument is what stands behind a first word.
 fn is_command(kind: Kind) -> bool
     ensures { result ≡ is_command kind }
 {
     match kind {
         Kind::Msg | Kind::Pub => true,
-        Kind::Raw | Kind::Msgm | Kind::Notc | Kind::Pubm => false,
+        Kind::Raw
+        | Kind::Msgm
+        | Kind::Notc
+        | Kind::Pubm
+        | Kind::Join
+        | Kind::Part
+        | Kind::Sign
+        | Kind::Kick
+        | Kind::Nick
+        | Kind::Mode
+        | Kind::Topc
+        | Kind::Bot
+        | Kind::Time
+        | Kind::Cron
+        | Kind::Timer => false,
     }
 }
 
@@ -81,6 +148,8 @@ pub fn store_of<B: Run>(
     quiet: B,
     stop: B,
     adduser: B,
+    tick: B,
+    tell: B,
 ) -> Result<ProcStore<Ours, B>, NoMemory>
     requires quiet_runs { B.can_run quiet }
     requires quiet_keeps { Keeps (codes "quiet") (B.answers quiet) }
@@ -88,11 +157,17 @@ pub fn store_of<B: Run>(
     requires stop_keeps { Keeps (codes "stop") (B.answers stop) }
     requires adduser_runs { B.can_run adduser }
     requires adduser_keeps { Keeps (codes "adduser") (B.answers adduser) }
+    requires tick_runs { B.can_run tick }
+    requires tick_keeps { Keeps (codes "tick") (B.answers tick) }
+    requires tell_runs { B.can_run tell }
+    requires tell_keeps { Keeps (codes "tell") (B.answers tell) }
 {
     let mut store = ProcStore::new(alloc);
     add(alloc, &mut store, b"quiet", quiet)?;
     add(alloc, &mut store, b"stop", stop)?;
     add(alloc, &mut store, b"adduser", adduser)?;
+    add(alloc, &mut store, b"tick", tick)?;
+    add(alloc, &mut store, b"tell", tell)?;
     Ok(store)
 }
 
