@@ -1,7 +1,7 @@
 -- What goes out is sound, and letters are posted one after another.
 use Rattle.std.proofs.Common.{◌≡◌, ℕ, zero, suc, Bool, true, false, ◌&&◌, cond, List, [], ◌∷◌, ◌++◌, Option, length, take, filter, nat_le, refl, sym, ◌∙◌, ap, append_assoc, arith}
 use Rattle.std.specs.List.{list_all}
-use Rattle.std.proofs.lemmas.Bool.{le-leb}
+use Rattle.std.proofs.lemmas.Bool.{and_from, and_parts, le-leb}
 use Rattle.std.proofs.lemmas.List.{length-take, append-nil}
 use Rattle.std.proofs.lemmas.List.Folds.{list_all-append}
 use Rattle.ircline.specs.Classes.{filled, octet}
@@ -9,28 +9,17 @@ use Rattle.miniircd.specs.declared.person.Person.{Person}
 use Rattle.miniircd.specs.declared.client.Sent.{Sent}
 use Rattle.miniircd.specs.Mail.{Mail, Letter, sealed, serves, delivery, deliveries, posted, is_sound, are_sound}
 
--- ---- tests
-
-pub join : (a b : Bool) → a ≡ true → b ≡ true → (a && b) ≡ true
-join true b _ h = h
-join false b e _ = cc
-
-pub left : (a b : Bool) → (a && b) ≡ true → a ≡ true
-left true b h = refl
-left false b h = h
-
-pub right : (a b : Bool) → (a && b) ≡ true → b ≡ true
-right true b h = h
-right false b h = cc
+-- ---- lists whose items all pass
 
 list_all-take : (p : ℕ → Bool) (n : ℕ) (xs : List ℕ) → list_all p xs ≡ true → list_all p (take n xs) ≡ true
 list_all-take p zero xs h = refl
 list_all-take p (suc n) [] h = refl
 list_all-take p (suc n) (x ∷ xs) h =
-    join (p x) (list_all p (take n xs)) (left (p x) (list_all p xs) h) (list_all-take p n xs (right (p x) (list_all p xs) h))
+    let parts = and_parts (p x) (list_all p xs) h in
+    and_from (p x) (list_all p (take n xs)) parts.0 (list_all-take p n xs parts.1)
 
 list_all-kept : (p : ℕ → Bool) (x : ℕ) (xs : List ℕ) (b : Bool) → p x ≡ b → list_all p xs ≡ true → list_all p (cond b (x ∷ xs) xs) ≡ true
-list_all-kept p x xs true e h = join (p x) (list_all p xs) e h
+list_all-kept p x xs true e h = and_from (p x) (list_all p xs) e h
 list_all-kept p x xs false e h = h
 
 list_all-filter : (p : ℕ → Bool) (xs : List ℕ) → list_all p (filter p xs) ≡ true
@@ -52,10 +41,9 @@ are_sound-more clients leaver lines to text line sound is goes =
     let one : Sent = record { to = record { 0 = to }; line = line } in
     let short = ap (λ (l : List ℕ). nat_le (length l) 510) is ∙ sealed-short text in
     let octets = ap (list_all octet) is ∙ sealed-octets text in
-    let full = left (filled line) (serves clients leaver to) goes in
-    let served = right (filled line) (serves clients leaver to) goes in
+    let parts = and_parts (filled line) (serves clients leaver to) goes in
     list_all-append (is_sound clients leaver) lines (one ∷ [])
-    ∙ join _ _ sound (join _ true (join _ _ served (join _ _ full (join _ _ short octets))) refl)
+    ∙ and_from _ _ sound (and_from _ true (and_from _ _ parts.1 (and_from _ _ parts.0 (and_from _ _ short octets))) refl)
 
 -- ---- letters, one after another
 

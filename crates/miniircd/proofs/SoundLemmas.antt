@@ -1,6 +1,6 @@
 -- Lines that are sound before a change of the clients are so after it.
 use Rattle.std.proofs.Common.{◌≡◌, ◌≢◌, ◌⊎◌, ℕ, ◌<◌, Bool, true, false, not, ◌&&◌, ◌==◌, List, [], ◌∷◌, Option, Some, None, is_some, length, get_or, set, refl, sym, ◌∙◌, ap, inl, inr, arith}
-use Rattle.std.proofs.lemmas.Bool.{cases_eq}
+use Rattle.std.proofs.lemmas.Bool.{and_from, and_parts, cases_eq}
 use Rattle.std.proofs.lemmas.Bool.Decides.{nat_tests}
 use Rattle.std.proofs.lemmas.List.{get_or-set_same, get_or-set_other, get_or_past}
 use Rattle.std.specs.Prelude.{slice_set}
@@ -14,7 +14,6 @@ use Rattle.miniircd.specs.declared.change.Effect.TheVariants as effect
 use Rattle.miniircd.specs.People.{held_at}
 use Rattle.miniircd.specs.Mail.{serves, is_sound, are_sound}
 use Rattle.miniircd.specs.Server.{effected, IsSoundAfter}
-use Rattle.miniircd.proofs.MailLemmas.{join, left, right}
 
 -- ---- clients
 
@@ -24,23 +23,24 @@ within clients to held = grind (arith, get_or_past)
 serves_person : (clients : List (Option Person)) (client : ℕ) (p : Person) (to : ℕ)
     → serves clients None to ≡ true → serves (slice_set clients client (Some p)) None to ≡ true
 serves_person clients client p to served =
-    let held = left (is_some (held_at clients to)) true served in
+    let held = (and_parts (is_some (held_at clients to)) true served).0 in
     elim (cases_eq to client) [
       | inl same ↦
           let less : client < length clients = omega (arith, within clients to held, same) in
-          join _ true (ap (λ k. is_some (held_at (slice_set clients client (Some p)) k)) same
+          and_from _ true (ap (λ k. is_some (held_at (slice_set clients client (Some p)) k)) same
           ∙ ap is_some (get_or-set_same clients client (Some p) None less)) refl
-      | inr differs ↦ join _ true (ap is_some (get_or-set_other clients client to (Some p) None differs) ∙ held) refl
+      | inr differs ↦ and_from _ true (ap is_some (get_or-set_other clients client to (Some p) None differs) ∙ held) refl
     ]
 
 serves_left : (clients : List (Option Person)) (client to : ℕ)
     → serves clients (Some client) to ≡ true → serves (slice_set clients client None) None to ≡ true
 serves_left clients client to served =
-    let held = left (is_some (held_at clients to)) (not (to == client)) served in
-    let other = right (is_some (held_at clients to)) (not (to == client)) served in
+    let parts = and_parts (is_some (held_at clients to)) (not (to == client)) served in
+    let held = parts.0 in
+    let other = parts.1 in
     elim (cases_eq to client) [
       | inl same ↦ let is : (to == client) ≡ true = grind (arith, nat_tests) in let no = sym other ∙ ap not is in cc
-      | inr differs ↦ join _ true (ap is_some (get_or-set_other clients client to None None differs) ∙ held) refl
+      | inr differs ↦ and_from _ true (ap is_some (get_or-set_other clients client to None None differs) ∙ held) refl
     ]
 
 -- ---- lines
@@ -50,11 +50,9 @@ are_sound-for : (old new : List (Option Person)) (before after : Option ℕ)
     → (lines : List Sent) → are_sound old before lines ≡ true → are_sound new after lines ≡ true
 are_sound-for old new before after step [] sound = refl
 are_sound-for old new before after step (sent ∷ lines) sound =
-    let one = left (is_sound old before sent) (are_sound old before lines) sound in
-    let more = right (is_sound old before sent) (are_sound old before lines) sound in
-    let served = left (serves old before sent.to.0) _ one in
-    let formed = right (serves old before sent.to.0) _ one in
-    join _ _ (join _ _ (step sent.to.0 served) formed) (are_sound-for old new before after step lines more)
+    let both = and_parts (is_sound old before sent) (are_sound old before lines) sound in
+    let parts = and_parts (serves old before sent.to.0) _ both.0 in
+    and_from _ _ (and_from _ _ (step sent.to.0 parts.0) parts.1) (are_sound-for old new before after step lines both.1)
 
 pub sound_after : (client : ℕ) (clients : List (Option Person)) (channels : List Channel) (effect : Effect) (lines : List Sent)
     → IsSoundAfter client clients effect lines

@@ -56,7 +56,10 @@ pub(crate) fn plain(client: usize) -> Member
     }
 }
 
-// A channel that a client has just made by joining it.
+/// A channel that a client has just made by joining it, as its operator.
+///
+/// # Errors
+/// `NoMemory` where room is refused.
 pub fn opened(alloc: Global, name: &[u8], client: usize) -> Result<Channel, NoMemory>
     ensures { IfOk result (λ channel. channel ≡ opened name.now client) }
 {
@@ -73,7 +76,7 @@ pub fn opened(alloc: Global, name: &[u8], client: usize) -> Result<Channel, NoMe
     })
 }
 
-// The channel of this name.
+/// The channel of this name, by casemapping.
 pub fn channel_of<'a>(channels: &'a [Channel], name: &[u8]) -> Option<&'a Channel>
     ensures { option_copied result ≡ room name.now channels.now }
 {
@@ -82,14 +85,14 @@ pub fn channel_of<'a>(channels: &'a [Channel], name: &[u8]) -> Option<&'a Channe
         .find(|channel| is_same(name, channel.name.as_bytes()))
 }
 
-// The client as a member of these.
+/// The client as a member of these.
 pub fn member_of(members: &[Member], client: usize) -> Option<&Member>
     ensures { option_copied result ≡ member_of client members.now }
 {
     members.iter().find(|member| member.client == client)
 }
 
-// Whether the client is one of these.
+/// Whether the client is one of these.
 pub fn is_member(members: &[Member], client: usize) -> bool
     ensures { result ≡ has_member client members.now }
 {

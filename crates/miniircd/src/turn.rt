@@ -1,11 +1,12 @@
 // One message of a client: what it changes, and what is told of it.
-ghost use Rattle.std.specs.Prelude.{◌≡◌, ◌==◌, IfOk, IfSome, OnOk};
+ghost use Rattle.std.specs.Prelude.{◌≡◌, ◌==◌, drop, IfOk, IfSome, OnOk};
 ghost use Rattle.std.specs.List.{slice_split};
 ghost use Rattle.miniircd.specs.declared.change.Change.TheVariants.{Channels};
 ghost use Rattle.miniircd.specs.Mail.{readers, posted};
-ghost use Rattle.miniircd.specs.Rooms.{joined_each};
+ghost use Rattle.miniircd.specs.People.{word_at};
+ghost use Rattle.miniircd.specs.Rooms.{joined_each, room};
 ghost use Rattle.miniircd.specs.Lines.{join_letters_each};
-ghost use Rattle.miniircd.specs.Commands.{change_by, change_of};
+ghost use Rattle.miniircd.specs.Commands.{change_by, change_of, standing_in, kick_change, mode_change};
 ghost use Rattle.miniircd.specs.Talk.{exact_by, exact_of_few, exact_letters};
 
 use crate::change::Change;
@@ -47,6 +48,44 @@ fn join(
     Ok(Change::Channels(Seq::new(after)))
 }
 
+// A KICK of these parameters.
+fn kick_by(
+    alloc: Global,
+    post: &mut Post<'_>,
+    clients: &Slab<Person>,
+    channels: &[Channel],
+    me: &Sender<'_>,
+    params: &[Text],
+) -> Result<Change, NoMemory>
+    ensures change { IfOk result (λ change. change
+        ≡ kick_change (standing_in me.now.key (room (word_at 0 params.now) channels.now)) clients.now.slots (word_at 0 params.now)
+        (word_at 1 params.now) channels.now) }
+    ensures readers { OnOk result (readers post.new ≡ readers post.old) }
+{
+    let (name, nick) = (word(params, 0), word(params, 1));
+    let reason = param(params, 2);
+    kick(alloc, post, clients, channels, me, name, nick, reason)
+}
+
+// A MODE of these parameters.
+fn mode_by(
+    alloc: Global,
+    post: &mut Post<'_>,
+    clients: &Slab<Person>,
+    channels: &[Channel],
+    me: &Sender<'_>,
+    params: &[Text],
+) -> Result<Change, NoMemory>
+    ensures change { IfOk result (λ change. change
+        ≡ mode_change (standing_in me.now.key (room (word_at 0 params.now) channels.now)) clients.now.slots (word_at 0 params.now)
+        (word_at 1 params.now) (drop 2 params.now) channels.now) }
+    ensures readers { OnOk result (readers post.new ≡ readers post.old) }
+{
+    let (name, modes) = (word(params, 0), word(params, 1));
+    let arguments = params_from(params, 2);
+    mode(alloc, post, clients, channels, me, name, modes, arguments)
+}
+
 // A command that its client may send, with the parameters that it needs. A QUIT is told apart before.
 fn act(
     alloc: Global,
@@ -65,47 +104,21 @@ fn act(
         (λ letters. post.new ≡ posted letters post.old)) }
     ensures readers { OnOk result (readers post.new ≡ readers post.old) }
 {
-    let first = word(params, 0);
+    let (first, second) = (word(params, 0), word(params, 1));
     match command {
         Command::Nick => nick(alloc, post, clients, channels, me, first),
         Command::User => user(alloc, post, me, first),
         Command::Join => join(alloc, post, clients, channels, me, first),
         Command::Part => part(alloc, post, channels, me, first, param(params, 1)),
         Command::Topic => topic(alloc, post, channels, me, first, param(params, 1)),
-        Command::Kick => {
-            let reason = param(params, 2);
-            kick(
-                alloc,
-                post,
-                clients,
-                channels,
-                me,
-                first,
-                word(params, 1),
-                reason,
-            )
-        }
-        Command::Mode => {
-            let arguments = params_from(params, 2);
-            mode(
-                alloc,
-                post,
-                clients,
-                channels,
-                me,
-                first,
-                word(params, 1),
-                arguments,
-            )
-        }
+        Command::Kick => kick_by(alloc, post, clients, channels, me, params),
+        Command::Mode => mode_by(alloc, post, clients, channels, me, params),
         Command::Privmsg => {
-            let text = word(params, 1);
-            talk(alloc, post, clients, channels, me, true, first, text)?;
+            talk(alloc, post, clients, channels, me, true, first, second)?;
             Ok(Change::Same)
         }
         Command::Notice => {
-            let text = word(params, 1);
-            talk(alloc, post, clients, channels, me, false, first, text)?;
+            talk(alloc, post, clients, channels, me, false, first, second)?;
             Ok(Change::Same)
         }
         Command::Names => {
