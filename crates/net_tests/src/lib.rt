@@ -1,4 +1,5 @@
-//! Tests of the crates above the pure parts: the sharing link, the world of all bots, scripts and transcripts. What
+//! Tests of the crates above the pure parts, of what no script shows: copies, packets that nobody sent, worlds that are no
+//! world, streams that fail, and how often a body runs. Scripts and their transcripts are lines of `vectors`. What
 //! `library_tests` says of itself holds here; the tests are in two crates since each is one piece of work in the gate.
 #![tactic(auto)]
 
@@ -11,7 +12,7 @@ mod nets;
 #[cfg(test)]
 mod procs;
 #[cfg(test)]
-mod scripts;
+mod texts;
 #[cfg(test)]
 mod transcripts;
 #[cfg(test)]

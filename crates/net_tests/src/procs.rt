@@ -1,13 +1,12 @@
 // Procs for tests.
-ghost use Rattle.std.specs.Prelude.{◌≡◌, IfOk};
-ghost use Rattle.procstore.specs.declared.reply.Code.TheVariants.{Zero};
 
 use bytetext::{NoMemory, Text};
-use procstore::{Action, Actions, Call, Code, ProcStore, Promise, Reply, Run};
+use procstore::{Actions, Call, Code, Proc, ProcStore, Promise, Reply, Run};
 use std::alloc::Global;
-use userfile::Change;
+use std::cell::Cell;
+use std::rc::Rc;
 
-// Each proc answers 0; what it asks for is left open.
+/// What the procs of tests promise: each answers 0, and what it asks for is left open.
 #[derive(Drop)]
 pub struct Plain;
 
@@ -19,47 +18,49 @@ impl Promise for Plain {
     ghost may = { λ name call actions. Unit {0} };
 }
 
-// What stands for a body where a store has none.
+/// A body that counts how often it runs, answers 0 and asks for nothing.
 #[derive(Drop)]
-pub struct Nothing;
+pub struct Counted {
+    /// Where its answers are made.
+    pub alloc: Global,
+    /// How often it has run.
+    pub count: Rc<Cell<u64>>,
+}
 
-impl Run for Nothing {
-    ghost use Rattle.std.specs.Prelude.{IsErr};
+impl Run for Counted {
+    ghost use Rattle.std.specs.Prelude.{[]};
+    ghost use Rattle.procstore.specs.Promises.{IsAllowed};
+    ghost use Rattle.procstore.specs.declared.reply.Code.TheVariants.{Zero};
 
     ghost can_run = { λ body. Unit {0} };
 
-    ghost answers = { λ body call answer. IsErr answer };
+    ghost answers = { λ body call answer. IsAllowed (λ name call. Zero) (λ name call actions. Unit {0}) (λ name call. Unit {0}) [] call answer };
 
     fn run(&self, _call: &Call) -> Result<Reply, NoMemory> {
-        Err(NoMemory)
+        self.count.set(self.count.get().wrapping_add(1));
+        Ok(Reply {
+            code: Code::Zero,
+            actions: Actions::empty(self.alloc),
+        })
     }
 }
 
-// A store without procs.
-pub fn no_procs(alloc: Global) -> ProcStore<Plain, Nothing> {
+/// A store of no procs.
+pub fn no_procs(alloc: Global) -> ProcStore<Plain, Counted> {
     ProcStore::new(alloc)
 }
 
-// An answer that asks for nothing.
-pub fn quiet(alloc: Global) -> Reply
-    ensures { result.code ≡ Zero }
-{
-    Reply {
-        code: Code::Zero,
-        actions: Actions::empty(alloc),
+/// Adds a proc of this name, and says whether it was added.
+pub fn add(
+    alloc: Global,
+    store: &mut ProcStore<Plain, Counted>,
+    name: &[u8],
+    count: Rc<Cell<u64>>,
+) -> bool {
+    match Text::from_slice(alloc, name) {
+        Ok(name) => store
+            .add(alloc, Proc::new(name, Counted { alloc, count }))
+            .is_ok(),
+        Err(NoMemory) => false,
     }
-}
-
-// An answer that asks for a user by the call's last argument.
-pub fn asks_for_user(alloc: Global, call: &Call) -> Result<Reply, NoMemory>
-    ensures { IfOk result (λ reply. reply.code ≡ Zero) }
-{
-    let handle = match call.args.as_slice().last() {
-        Some(last) => Text::from_slice(alloc, last.as_bytes())?,
-        None => Text::empty(alloc),
-    };
-    Ok(Reply {
-        code: Code::Zero,
-        actions: Actions::one(alloc, Action::Ask(Change::AddUser { handle }))?,
-    })
 }

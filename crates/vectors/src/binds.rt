@@ -1,16 +1,17 @@
 // Which binds an event calls.
 use crate::sink::Sink;
 use crate::stop::{BAD_WORDS, CaseError};
-use crate::words::cut;
-use bindtable::{BindError, BindTable, Event};
+use crate::words::{cut, number};
+use bindtable::{BindError, BindKind, BindTable, Event};
+use bottimers::{CivilMinute, civil};
 use bytetext::Text;
 use flagexpr::Flags;
-use procstore::Kind;
 use std::alloc::Global;
 
 /// `binds STEP..`: what each step answers, with ` ; ` between. A step is one word: `bind KIND FLAGS PROC MASK` and `unbind
 /// KIND PROC MASK` answer a bind's number or the code, `find KIND GLOBAL CHANNEL BOT SUBJECT` the numbers of the binds that
-/// are called, and `list` `NUMBER KIND FLAGS PROC MASK` of each bind; both answer `none` where there is none.
+/// are called, where the subject of cron is a moment, and `list` `NUMBER KIND FLAGS PROC MASK` of each bind; both answer
+/// `none` where there is none.
 pub fn binds(alloc: Global, words: &[Text], out: &mut Sink) -> Result<(), CaseError> {
     let mut table = BindTable::new(alloc);
     for (i, step) in words.iter().enumerate() {
@@ -54,8 +55,8 @@ fn make(
     }
 }
 
-fn kind_of(word: &[u8]) -> Result<Kind, CaseError> {
-    match Kind::of_word(word) {
+fn kind_of(word: &[u8]) -> Result<BindKind, CaseError> {
+    match BindKind::of_word(word) {
         Some(kind) => Ok(kind),
         None => Err(BAD_WORDS),
     }
@@ -96,9 +97,11 @@ fn find(alloc: Global, table: &BindTable, rest: &[u8], out: &mut Sink) -> Result
     let (global, rest) = cut(rest, b' ');
     let (channel, rest) = cut(rest, b' ');
     let (bot, subject) = cut(rest, b' ');
+    let kind = kind_of(kind)?;
     let event = Event {
-        kind: kind_of(kind)?,
+        kind,
         subject,
+        minute: minute_of(kind, subject)?,
         global: flags_of(global)?,
         channel: flags_of(channel)?,
         bot: flags_of(bot)?,
@@ -110,6 +113,17 @@ fn find(alloc: Global, table: &BindTable, rest: &[u8], out: &mut Sink) -> Result
     }
     out.put_if(numbers.is_empty(), b"none");
     Ok(())
+}
+
+// The minute of a cron event, whose subject is a moment; none of any other.
+fn minute_of(kind: BindKind, subject: &[u8]) -> Result<Option<CivilMinute>, CaseError> {
+    if kind != BindKind::Cron {
+        return Ok(None);
+    }
+    match civil(number(subject)?, 0) {
+        Ok(minute) => Ok(Some(minute)),
+        Err(_) => Err(BAD_WORDS),
+    }
 }
 
 fn flags_of(word: &[u8]) -> Result<Flags, CaseError> {

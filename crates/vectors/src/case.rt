@@ -3,8 +3,8 @@ use crate::civil::Form;
 use crate::sink::Sink;
 use crate::stop::{CaseError, NO_SUCH_CASE};
 use crate::{
-    binds, casemapping, channels, civil, clock, cron, events, flags, frames, journals, lines,
-    masks, persons, queues, spellings, timers,
+    binds, bots, casemapping, channels, civil, clock, cron, events, flags, frames, journals, lines,
+    masks, persons, queues, scripts, spellings, timers,
 };
 use bytetext::Text;
 use std::alloc::Global;
@@ -14,10 +14,13 @@ use std::alloc::Global;
 enum Asked {
     Ban,
     Binds,
+    Bot,
     Chan,
     Change,
     Civil,
     Clock,
+    Commands,
+    Config,
     Cron,
     CronArgs,
     Events,
@@ -36,6 +39,7 @@ enum Asked {
     Record,
     Respell,
     Same,
+    Script,
     Spell,
     Stream,
     Time,
@@ -44,13 +48,16 @@ enum Asked {
     UserFlags,
 }
 
-const ASKED: [(&[u8], Asked); 30] = [
+const ASKED: [(&[u8], Asked); 34] = [
     (b"ban", Asked::Ban),
     (b"binds", Asked::Binds),
+    (b"bot", Asked::Bot),
     (b"chan", Asked::Chan),
     (b"change", Asked::Change),
     (b"civil", Asked::Civil),
     (b"clock", Asked::Clock),
+    (b"commands", Asked::Commands),
+    (b"config", Asked::Config),
     (b"cron", Asked::Cron),
     (b"cronargs", Asked::CronArgs),
     (b"events", Asked::Events),
@@ -69,6 +76,7 @@ const ASKED: [(&[u8], Asked); 30] = [
     (b"record", Asked::Record),
     (b"respell", Asked::Respell),
     (b"same", Asked::Same),
+    (b"script", Asked::Script),
     (b"spell", Asked::Spell),
     (b"stream", Asked::Stream),
     (b"time", Asked::Time),
@@ -97,10 +105,13 @@ fn answer_to(asked: Asked, alloc: Global, words: &[Text], out: &mut Sink) -> Res
     match asked {
         Asked::Ban => persons::ban(alloc, words, out),
         Asked::Binds => binds::binds(alloc, words, out),
+        Asked::Bot => bots::bot(alloc, words, out),
         Asked::Chan => channels::chan(alloc, words, out),
         Asked::Change => spellings::change(alloc, words, out),
         Asked::Civil => civil::civil(alloc, Form::Numbers, words, out),
         Asked::Clock => clock::clock(alloc, words, out),
+        Asked::Commands => scripts::commands(alloc, words, out),
+        Asked::Config => bots::config(alloc, words, out),
         Asked::Cron => cron::cron(words, out),
         Asked::CronArgs => civil::civil(alloc, Form::CronArgs, words, out),
         Asked::Events => events::events(alloc, words, out),
@@ -119,6 +130,7 @@ fn answer_to(asked: Asked, alloc: Global, words: &[Text], out: &mut Sink) -> Res
         Asked::Record => spellings::record(alloc, words, out),
         Asked::Respell => spellings::respell(alloc, words, out),
         Asked::Same => casemapping::same(words, out),
+        Asked::Script => scripts::script(alloc, words, out),
         Asked::Spell => spellings::spell(alloc, words, out),
         Asked::Stream => lines::stream(alloc, words, out),
         Asked::Time => civil::civil(alloc, Form::Time, words, out),

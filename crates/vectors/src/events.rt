@@ -62,5 +62,12 @@ fn name_of(kind: Kind) -> &'static str {
         Kind::Notc => "notc",
         Kind::Pub => "pub",
         Kind::Pubm => "pubm",
+        Kind::Join => "join",
+        Kind::Part => "part",
+        Kind::Sign => "sign",
+        Kind::Kick => "kick",
+        Kind::Nick => "nick",
+        Kind::Mode => "mode",
+        Kind::Topc => "topc",
     }
 }

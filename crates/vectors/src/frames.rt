@@ -4,10 +4,10 @@ ghost use Rattle.userfile.specs.Apply.{bad_shape};
 ghost use Rattle.sharewire.specs.Frames.{CanBeWritten};
 
 use crate::sink::Sink;
-use crate::stop::{BAD_WORDS, CaseError};
+use crate::stop::{BAD_NUMBER, BAD_WORDS, CaseError};
 use crate::values::put_change;
 use crate::words::number;
-use bytetext::{NoMemory, Text, TryCopy};
+use bytetext::{Text, TryCopy};
 use sharewire::{Feed, Packet, WireReader, is_bot_text, write_packet};
 use std::alloc::Global;
 use userfile::{Change, ChangeFault, shape};
@@ -49,37 +49,94 @@ fn packet_of(alloc: Global, kind: &[u8], words: &[Text]) -> Result<Packet, CaseE
         return Err(BAD_WORDS);
     };
     match (*kind, words) {
-        (Kind::Hello, [leaf, version]) => Ok(Packet::Hello {
-            leaf: number(leaf.as_bytes())?,
-            version: number(version.as_bytes())?,
-        }),
-        (Kind::Change, [place, origin, request, change]) => Ok(Packet::Change {
-            number: number(place.as_bytes())?,
-            origin: number(origin.as_bytes())?,
-            request: number(request.as_bytes())?,
-            change: change_of(alloc, change)?,
-        }),
-        (Kind::Request, [leaf, request, change]) => Ok(Packet::Request {
-            leaf: number(leaf.as_bytes())?,
-            request: number(request.as_bytes())?,
-            change: change_of(alloc, change)?,
-        }),
-        (Kind::Accepted, [leaf, request, place]) => Ok(Packet::Accepted {
-            leaf: number(leaf.as_bytes())?,
-            request: number(request.as_bytes())?,
-            number: number(place.as_bytes())?,
-        }),
-        (Kind::Refused, [leaf, request, code]) => Ok(Packet::Refused {
-            leaf: number(leaf.as_bytes())?,
-            request: number(request.as_bytes())?,
-            fault: fault_of(code.as_bytes())?,
-        }),
-        (Kind::Text, [from, to, text]) => Ok(Packet::BotText {
-            from: number(from.as_bytes())?,
-            to: number(to.as_bytes())?,
-            text: text_of(alloc, text)?,
-        }),
+        (Kind::Hello, [leaf, version]) => hello(leaf, version),
+        (Kind::Change, [place, origin, request, change]) => {
+            changed(place, origin, request, change_of(alloc, change)?)
+        }
+        (Kind::Request, [leaf, request, change]) => {
+            requested(leaf, request, change_of(alloc, change)?)
+        }
+        (Kind::Accepted, [leaf, request, place]) => accepted(leaf, request, place),
+        (Kind::Refused, [leaf, request, code]) => refused(leaf, request, code),
+        (Kind::Text, [from, to, text]) => bot_text(from, to, text_of(alloc, text)?),
         (_, _) => Err(BAD_WORDS),
+    }
+}
+
+fn hello(leaf: &Text, version: &Text) -> Result<Packet, CaseError>
+    ensures { IfOk result (λ packet. CanBeWritten packet) }
+{
+    let leaf = number(leaf.as_bytes())?;
+    let version = number(version.as_bytes())?;
+    Ok(Packet::Hello { leaf, version })
+}
+
+fn changed(place: &Text, origin: &Text, request: &Text, change: Change) -> Result<Packet, CaseError>
+    requires { bad_shape change ≡ None }
+    ensures { IfOk result (λ packet. CanBeWritten packet) }
+{
+    match (
+        number(place.as_bytes()),
+        number(origin.as_bytes()),
+        number(request.as_bytes()),
+    ) {
+        (Ok(number), Ok(origin), Ok(request)) => Ok(Packet::Change {
+            number,
+            origin,
+            request,
+            change,
+        }),
+        (_, _, _) => Err(BAD_NUMBER),
+    }
+}
+
+fn requested(leaf: &Text, request: &Text, change: Change) -> Result<Packet, CaseError>
+    requires { bad_shape change ≡ None }
+    ensures { IfOk result (λ packet. CanBeWritten packet) }
+{
+    match (number(leaf.as_bytes()), number(request.as_bytes())) {
+        (Ok(leaf), Ok(request)) => Ok(Packet::Request {
+            leaf,
+            request,
+            change,
+        }),
+        (_, _) => Err(BAD_NUMBER),
+    }
+}
+
+fn accepted(leaf: &Text, request: &Text, place: &Text) -> Result<Packet, CaseError>
+    ensures { IfOk result (λ packet. CanBeWritten packet) }
+{
+    let leaf = number(leaf.as_bytes())?;
+    let request = number(request.as_bytes())?;
+    let number = number(place.as_bytes())?;
+    Ok(Packet::Accepted {
+        leaf,
+        request,
+        number,
+    })
+}
+
+fn refused(leaf: &Text, request: &Text, code: &Text) -> Result<Packet, CaseError>
+    ensures { IfOk result (λ packet. CanBeWritten packet) }
+{
+    let leaf = number(leaf.as_bytes())?;
+    let request = number(request.as_bytes())?;
+    let fault = fault_of(code.as_bytes())?;
+    Ok(Packet::Refused {
+        leaf,
+        request,
+        fault,
+    })
+}
+
+fn bot_text(from: &Text, to: &Text, text: Text) -> Result<Packet, CaseError>
+    requires { CanBeWritten (Packet.BotText 0 0 text) }
+    ensures { IfOk result (λ packet. CanBeWritten packet) }
+{
+    match (number(from.as_bytes()), number(to.as_bytes())) {
+        (Ok(from), Ok(to)) => Ok(Packet::BotText { from, to, text }),
+        (_, _) => Err(BAD_NUMBER),
     }
 }
 
@@ -135,80 +192,85 @@ pub fn frames(alloc: Global, words: &[Text], out: &mut Sink) -> Result<(), CaseE
     for (i, piece) in words.iter().enumerate() {
         out.between(b" ; ", i);
         let feed = reader.feed(alloc, piece.as_bytes())?;
-        put_feed(alloc, &feed, out)?;
+        put_feed(alloc, &feed, out);
     }
     Ok(())
 }
 
-fn put_feed(alloc: Global, feed: &Feed, out: &mut Sink) -> Result<(), NoMemory> {
+fn put_feed(alloc: Global, feed: &Feed, out: &mut Sink) {
     for (i, packet) in feed.packets.as_slice().iter().enumerate() {
         out.between(b", ", i);
-        put_packet(alloc, packet, out)?;
+        put_packet(alloc, packet, out);
     }
     if let Some(fault) = feed.fault {
         out.put_if(!feed.packets.is_empty(), b", ");
         out.put(fault.code().as_bytes());
     }
     out.put_if(feed.packets.is_empty() && feed.fault.is_none(), b"none");
-    Ok(())
 }
 
 // A packet in the words that `frame` takes.
-fn put_packet(alloc: Global, packet: &Packet, out: &mut Sink) -> Result<(), NoMemory> {
+fn put_packet(alloc: Global, packet: &Packet, out: &mut Sink) {
     match packet {
-        Packet::Hello { leaf, version } => {
-            put_numbers(b"hello", &[u64::from(*leaf), u64::from(*version)], out);
-        }
+        Packet::Hello { leaf, version } => put_numbers(
+            b"hello",
+            u64::from(*leaf),
+            u64::from(*version),
+            out,
+        ),
         Packet::Change {
             number,
             origin,
             request,
             change,
         } => {
-            let numbers = [u64::from(*number), u64::from(*origin), u64::from(*request)];
-            put_numbers(b"change", &numbers, out);
+            put_numbers(b"change", u64::from(*number), u64::from(*origin), out);
+            put_number(u64::from(*request), out);
             out.put(b" ");
-            put_change(alloc, change, out)?;
+            put_change(alloc, change, out);
         }
         Packet::Request {
             leaf,
             request,
             change,
         } => {
-            put_numbers(b"request", &[u64::from(*leaf), u64::from(*request)], out);
+            put_numbers(b"request", u64::from(*leaf), u64::from(*request), out);
             out.put(b" ");
-            put_change(alloc, change, out)?;
+            put_change(alloc, change, out);
         }
         Packet::Accepted {
             leaf,
             request,
             number,
         } => {
-            let numbers = [u64::from(*leaf), u64::from(*request), u64::from(*number)];
-            put_numbers(b"accepted", &numbers, out);
+            put_numbers(b"accepted", u64::from(*leaf), u64::from(*request), out);
+            put_number(u64::from(*number), out);
         }
         Packet::Refused {
             leaf,
             request,
             fault,
         } => {
-            put_numbers(b"refused", &[u64::from(*leaf), u64::from(*request)], out);
+            put_numbers(b"refused", u64::from(*leaf), u64::from(*request), out);
             out.put(b" ");
             out.put(fault.code().as_bytes());
         }
         Packet::BotText { from, to, text } => {
-            put_numbers(b"text", &[u64::from(*from), u64::from(*to)], out);
+            put_numbers(b"text", u64::from(*from), u64::from(*to), out);
             out.put(b" ");
             out.put(text.as_bytes());
         }
     }
-    Ok(())
 }
 
-fn put_numbers(word: &[u8], numbers: &[u64], out: &mut Sink) {
+// A word, and two numbers after spaces.
+fn put_numbers(word: &[u8], first: u64, second: u64, out: &mut Sink) {
     out.put(word);
-    for number in numbers {
-        out.put(b" ");
-        out.number(*number);
-    }
+    put_number(first, out);
+    put_number(second, out);
+}
+
+fn put_number(value: u64, out: &mut Sink) {
+    out.put(b" ");
+    out.number(value);
 }

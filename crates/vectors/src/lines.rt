@@ -80,7 +80,8 @@ fn message_of(
     }
 }
 
-fn line_shown(line: &Line, out: &mut Sink) {
+/// What a line reads as, or the code of its fault.
+pub fn line_shown(line: &Line, out: &mut Sink) {
     match line {
         Line::Bad(fault) => out.put(fault.code().as_bytes()),
         Line::Message(message) => message_shown(message, out),

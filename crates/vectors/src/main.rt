@@ -19,11 +19,15 @@
 //! | `queues STEP..` | what each step answers |
 //! | `journal STEP..` | what each step answers |
 //! | `binds STEP..` | what each step answers |
+//! | `config NICK LEAVES NUMBER OFFSET CHANNEL..` | `ok`, or the code of why no bot can be made so |
+//! | `bot NUMBER EXCLUSIVE STEP..` | what each step answers |
 //! | `spell CHANGE` | the bytes that spell the change, or the code of its shape |
 //! | `change BYTES`, `record BYTES` | how many bytes spell a change or record, and what they spell, or the code |
 //! | `respell change\|record BYTES` | the bytes that spell what was read, or the code |
 //! | `frame PACKET` | the bytes that spell the packet |
 //! | `frames PIECE..` | of each piece of a stream the packets that end in it and the code of the fault, or `none` |
+//! | `script LINE..` | the transcript of the script of these lines, with ` ; ` between its lines, or the first faulty line |
+//! | `commands LINE..` | how many leaves a script of these lines has, and its commands as they are read, or the first faulty line |
 //! | `line TEXT` | what the line reads as, or the code of its fault |
 //! | `stream PIECE..` | the lines of a stream in these pieces, with ` ; ` between them |
 //! | `print PREFIX COMMAND PARAM..` | the line, or the code of why there is none |
@@ -59,8 +63,19 @@
 //! and the entries, with `, ` between, or the code.
 //!
 //! The steps of `binds` are `bind KIND FLAGS PROC MASK` and `unbind KIND PROC MASK`, which answer the bind's number or the
-//! code; `find KIND GLOBAL CHANNEL BOT SUBJECT`, which answers the numbers of the binds that are called; and `list`,
-//! which answers `NUMBER KIND FLAGS PROC MASK` of each bind. The last two answer `none` where there is none.
+//! code; `find KIND GLOBAL CHANNEL BOT SUBJECT`, which answers the numbers of the binds that are called, and where the
+//! SUBJECT of cron is a moment, whose minute is that of UTC; and `list`, which answers `NUMBER KIND FLAGS PROC MASK` of
+//! each bind. The last two answer `none` where there is none.
+//!
+//! The binds of a `script` may call the procs `quiet`, which answers 0, `stop`, which answers 1, and `adduser`, which answers
+//! 0 and asks for a user by the call's last argument. `commands` writes each step as its bot and what that is told, steps
+//! of one command with `, ` between, or `none` where there is no step.
+//!
+//! `bot` makes the bot `egg` of this number, 0 for the hub and 1 for its only leaf; EXCLUSIVE is `all` or `exclusive`. Its
+//! steps are `bind KIND FLAGS PROC MASK`, which answers the bind's number; and `line TEXT` and `clock MOMENT`, which answer
+//! each call as `BIND PROC KIND 'ARGUMENT'.. CODE`, then each fault, `Unbound PROC` or a code, and `logged` or `not logged`,
+//! with `, ` between. A step that is refused answers the code. The procs are `quiet`, `stop`, which answers 1, and
+//! `adduser`, which asks for a user named by its last argument.
 //!
 //! A PACKET is words: `hello LEAF VERSION`, `change NUMBER ORIGIN REQUEST CHANGE`, `request LEAF REQUEST CHANGE`,
 //! `accepted LEAF REQUEST NUMBER`, `refused LEAF REQUEST CODE` or `text FROM TO TEXT`.
@@ -79,6 +94,7 @@
 #![tactic(auto)]
 
 mod binds;
+mod bots;
 mod case;
 mod casemapping;
 mod changes;
@@ -93,7 +109,9 @@ mod journals;
 mod lines;
 mod masks;
 mod persons;
+mod procs;
 mod queues;
+mod scripts;
 mod sink;
 mod spellings;
 mod stop;

@@ -3,8 +3,7 @@ use crate::changes::make_all;
 use crate::sink::Sink;
 use crate::stop::{BAD_WORDS, CaseError};
 use crate::words::number;
-use bytetext::{NoMemory, Text};
-use flagexpr::Flags;
+use bytetext::Text;
 use std::alloc::Global;
 use userfile::{Ban, PersonFlags, Userfile};
 
@@ -33,7 +32,7 @@ pub fn user_flags(alloc: Global, words: &[Text], out: &mut Sink) -> Result<(), C
             alloc,
             userfile.flags_of(handle.as_bytes(), channel.as_bytes()),
             out,
-        )?,
+        ),
         Some(fault) => out.put(fault.code().as_bytes()),
     }
     Ok(())
@@ -57,17 +56,12 @@ pub fn ban(alloc: Global, words: &[Text], out: &mut Sink) -> Result<(), CaseErro
     Ok(())
 }
 
-fn three_shown(alloc: Global, flags: PersonFlags, out: &mut Sink) -> Result<(), NoMemory> {
-    flags_shown(alloc, flags.global, out)?;
+fn three_shown(alloc: Global, flags: PersonFlags, out: &mut Sink) {
+    out.flags(alloc, flags.global);
     out.put(b" ");
-    flags_shown(alloc, flags.chan, out)?;
+    out.flags(alloc, flags.chan);
     out.put(b" ");
-    flags_shown(alloc, flags.bot, out)
-}
-
-fn flags_shown(alloc: Global, flags: Flags, out: &mut Sink) -> Result<(), NoMemory> {
-    out.put(flags.text(alloc)?.as_bytes());
-    Ok(())
+    out.flags(alloc, flags.bot);
 }
 
 // CHANNEL MASK, and `*` for all channels

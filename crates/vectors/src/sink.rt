@@ -1,5 +1,6 @@
 // Where answers are written.
 use bytetext::NoMemory;
+use flagexpr::Flags;
 use itoa::Buffer;
 use std::alloc::Global;
 
@@ -46,6 +47,14 @@ impl Sink {
     pub fn hex(&mut self, bytes: &[u8]) {
         for byte in bytes {
             self.push_digits(*byte);
+        }
+    }
+
+    /// Writes flags as letters, or `-` where there is none.
+    pub fn flags(&mut self, alloc: Global, flags: Flags) {
+        match flags.text(alloc) {
+            Ok(letters) => self.put(letters.as_bytes()),
+            Err(NoMemory) => self.refused = true,
         }
     }
 

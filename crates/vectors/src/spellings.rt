@@ -35,7 +35,7 @@ pub fn change(alloc: Global, words: &[Text], out: &mut Sink) -> Result<(), CaseE
         Ok(read) => {
             out.number(read.used as u64);
             out.put(b" ");
-            put_change(alloc, &read.value, out)?;
+            put_change(alloc, &read.value, out);
             Ok(())
         }
         Err(error) => tell(error, out),
@@ -51,7 +51,7 @@ pub fn record(alloc: Global, words: &[Text], out: &mut Sink) -> Result<(), CaseE
         Ok(read) => {
             out.number(read.used as u64);
             out.put(b" ");
-            put_record(alloc, &read.value, out)?;
+            put_record(alloc, &read.value, out);
             Ok(())
         }
         Err(error) => tell(error, out),
