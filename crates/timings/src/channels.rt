@@ -4,16 +4,17 @@ use crate::crowd::{Crowd, DEEDS, PLACES, arrival, deeds, quits};
 use crate::sizes::Sizes;
 use crate::stop::Stop;
 use crate::tally::Tally;
-use crate::{netsplit, report};
+use crate::{netsplit, quits, report};
 use chanstate::ChanState;
 use std::time::Clock;
 
-/// Times lines on channels whose people are all different, on channels that all have the same people, and those of a
-/// netsplit.
+/// Times lines on channels whose people are all different, on channels that all have the same people, those of a
+/// netsplit, and the events of a QUIT.
 pub fn measure<R: AllocGlobal + Clock + Eprint>(rt: &R, sizes: &Sizes) -> Result<(), Stop> {
     crowded(rt, Crowd::Apart, sizes)?;
     crowded(rt, Crowd::Shared, sizes)?;
-    netsplit::measure(rt, sizes)
+    netsplit::measure(rt, sizes)?;
+    quits::measure(rt, sizes)
 }
 
 fn crowded<R: AllocGlobal + Clock + Eprint>(

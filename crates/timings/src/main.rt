@@ -4,7 +4,8 @@
 //! |---|---|
 //! | `persons` | who a person is, in userfiles of 500 users with 16 hostmasks each, of five shapes |
 //! | `masks` | masks on a text each, 100,000 times |
-//! | `channels` | 100,000 lines for a bot on 200 channels of 1,000 people, 1,000 who quit; 8,000 who quit and come back |
+//! | `binds` | 500 binds of four shapes on 10,000 texts each, a bot's whole lines with them, and 500 at each minute of a day |
+//! | `channels` | 100,000 lines on 200 channels of 1,000 people; 8,000 who quit and come back; 10,000 QUITs' events |
 //! | `timers` | 200 timers over ten minutes, and 500 cron masks over a day |
 //! | `lines` | a stream of about 10 MB, to its lines |
 //! | `frames` | three packets, each written 100,000 times, and the stream of these frames, which is read |
@@ -19,16 +20,20 @@
 //! can't be read; 4 where memory runs out.
 #![tactic(auto)]
 
+mod binds;
 mod channels;
 mod crowd;
 mod frames;
 mod journals;
 mod lines;
 mod masks;
+mod minutes;
 mod netsplit;
 mod persons;
+mod quits;
 mod report;
 mod sizes;
+mod steps;
 mod stop;
 mod tally;
 mod timers;
@@ -67,6 +72,7 @@ where
 enum Part {
     Persons,
     Masks,
+    Binds,
     Channels,
     Timers,
     Lines,
@@ -76,9 +82,10 @@ enum Part {
     Small,
 }
 
-const PARTS: [(&[u8], Part); 9] = [
+const PARTS: [(&[u8], Part); 10] = [
     (b"persons", Part::Persons),
     (b"masks", Part::Masks),
+    (b"binds", Part::Binds),
     (b"channels", Part::Channels),
     (b"timers", Part::Timers),
     (b"lines", Part::Lines),
@@ -99,6 +106,7 @@ where
     match *part {
         Part::Persons => persons::measure(rt, &FULL),
         Part::Masks => masks::measure(rt, &FULL),
+        Part::Binds => binds::measure(rt, &FULL),
         Part::Channels => channels::measure(rt, &FULL),
         Part::Timers => timers::measure(rt),
         Part::Lines => lines::measure(rt, &FULL),
@@ -113,6 +121,7 @@ where
 fn all<R: AllocGlobal + Clock + Eprint>(rt: &R, sizes: &Sizes) -> Result<(), Stop> {
     persons::measure(rt, sizes)?;
     masks::measure(rt, sizes)?;
+    binds::measure(rt, sizes)?;
     channels::measure(rt, sizes)?;
     timers::measure(rt)?;
     lines::measure(rt, sizes)?;

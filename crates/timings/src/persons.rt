@@ -12,16 +12,21 @@ use userfile::{Change, Userfile};
 /// The hostmasks of each user.
 const MASKS: u32 = 16;
 
-// What the hostmasks of all users look like, where `<` stands for the user's number and `>` for the mask's; a person whom
-// such a mask matches; and the words under which times are printed: of adding a mask, and of looking up nobody, the first
-// and the last user.
-struct Shape {
-    mask: &'static [u8],
-    person: &'static [u8],
-    names: [&'static str; 4],
+/// What the hostmasks of all users look like, where `<` stands for the user's number and `>` for the mask's; a person whom
+/// such a mask matches; and the words under which times are printed: of adding a mask, and of looking up nobody, the first
+/// and the last user.
+#[derive(Clone, Copy)]
+pub struct Shape {
+    /// The hostmasks.
+    pub mask: &'static [u8],
+    /// A person whom such a mask matches.
+    pub person: &'static [u8],
+    /// The words under which times are printed.
+    pub names: [&'static str; 4],
 }
 
-const SHAPES: [Shape; 5] = [
+/// The shapes that are timed. The last takes the longest to look up.
+pub const SHAPES: [Shape; 5] = [
     Shape {
         mask: b"*!*user<@*.h>.example.net",
         person: b"bob!~user<@client.h>.example.net",
@@ -103,12 +108,21 @@ fn fill<R: AllocGlobal + Clock + Eprint>(
 
 // Adds a user with all hostmasks.
 fn add_user(userfile: &mut Userfile, alloc: Global, shape: &Shape, user: u32) -> Result<(), Stop> {
-    let handle = handle(alloc, user)?;
-    userfile.apply(alloc, &Change::AddUser { handle })?;
-    for host in 0..MASKS {
-        userfile.apply(alloc, &new_mask(alloc, shape, user, host)?)?;
+    for change in changes_of_user(alloc, shape, user)? {
+        userfile.apply(alloc, &change)?;
     }
     Ok(())
+}
+
+/// The changes that add a user with all hostmasks.
+pub fn changes_of_user(alloc: Global, shape: &Shape, user: u32) -> Result<Vec<Change>, NoMemory> {
+    let mut changes = Vec::new(alloc);
+    let handle = handle(alloc, user)?;
+    changes.push(Change::AddUser { handle })?;
+    for host in 0..MASKS {
+        changes.push(new_mask(alloc, shape, user, host)?)?;
+    }
+    Ok(changes)
 }
 
 // A change that gives a user a hostmask.
@@ -122,8 +136,8 @@ fn handle(alloc: Global, user: u32) -> Result<Text, NoMemory> {
     filled(alloc, b"user<", user, 0)
 }
 
-// A text with these numbers in their places.
-fn filled(alloc: Global, text: &[u8], user: u32, host: u32) -> Result<Text, NoMemory> {
+/// A text with these numbers in the places of `<` and `>`.
+pub fn filled(alloc: Global, text: &[u8], user: u32, host: u32) -> Result<Text, NoMemory> {
     let mut filled = Vec::new(alloc);
     for byte in text {
         match *byte {

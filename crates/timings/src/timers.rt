@@ -97,8 +97,8 @@ fn masks(alloc: Global) -> Result<Vec<Cron>, Stop> {
     Ok(masks)
 }
 
-// The minutes of the first of March 2026.
-fn minutes(alloc: Global) -> Result<Vec<CivilMinute>, Stop> {
+/// The minutes of the first of March 2026.
+pub fn minutes(alloc: Global) -> Result<Vec<CivilMinute>, Stop> {
     let mut minutes = Vec::new(alloc);
     for minute in 0..MINUTES {
         minutes.push(civil(1_772_323_200 + minute * 60, 0)?)?;
