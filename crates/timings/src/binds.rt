@@ -3,7 +3,7 @@
 use crate::persons::filled;
 use crate::sizes::Sizes;
 use crate::stop::Stop;
-use crate::{minutes, report, steps};
+use crate::{minutes, report};
 use bindtable::{BindKind, BindTable, Event};
 use bytetext::{NoMemory, Text};
 use flagexpr::Flags;
@@ -16,8 +16,8 @@ const FIRST: u32 = 100;
 /// The texts that are tried by turns, so that the compiler can't make one call stand for the others.
 const TEXTS: u32 = 16;
 
-/// What the masks of all binds look like, and the subject of an event, where `<` stands for a bind's number; and the words
-/// under which times are printed: of the search alone, and of a whole line that nobody known and that someone known says.
+/// What the masks of all binds look like, and the subject of an event, where `<` stands for a bind's number; and the word
+/// under which times are printed.
 #[derive(Clone, Copy)]
 pub struct Shape {
     /// The kind of the binds.
@@ -28,8 +28,8 @@ pub struct Shape {
     pub subject: &'static [u8],
     /// How many binds there are, of which more are made than the size asks for.
     pub count: u32,
-    /// The words under which times are printed.
-    pub names: [&'static str; 3],
+    /// The word under which times are printed.
+    pub name: &'static str,
 }
 
 /// The shapes that are timed.
@@ -39,28 +39,28 @@ pub const SHAPES: [Shape; 4] = [
         mask: b"% !cmd<*",
         subject: b"#egg !cmd< the quick brown fox jumps over the lazy dog and says word< to everybody who is there",
         count: 1,
-        names: ["one", "one:line", "one:known"],
+        name: "one",
     },
     Shape {
         kind: BindKind::Pubm,
         mask: b"% !cmd<*",
         subject: b"#egg !cmd< the quick brown fox jumps over the lazy dog and says word< to everybody who is there",
         count: 500,
-        names: ["commands", "commands:line", "commands:known"],
+        name: "commands",
     },
     Shape {
         kind: BindKind::Pubm,
         mask: b"*word<*",
         subject: b"#egg !cmd< the quick brown fox jumps over the lazy dog and says word< to everybody who is there",
         count: 500,
-        names: ["words", "words:line", "words:known"],
+        name: "words",
     },
     Shape {
         kind: BindKind::Pub,
         mask: b"!cmd<",
         subject: b"!cmd<",
         count: 500,
-        names: ["keywords", "keywords:line", "keywords:known"],
+        name: "keywords",
     },
 ];
 
@@ -82,8 +82,7 @@ pub fn measure<R: AllocGlobal + Clock + Eprint>(rt: &R, sizes: &Sizes) -> Result
     for shape in &SHAPES {
         measure_shape(rt, sizes, shape)?;
     }
-    minutes::measure(rt, sizes)?;
-    steps::measure(rt, sizes)
+    minutes::measure(rt, sizes)
 }
 
 fn measure_shape<R: AllocGlobal + Clock + Eprint>(
@@ -96,7 +95,7 @@ fn measure_shape<R: AllocGlobal + Clock + Eprint>(
     let start = Instant::now(rt)?;
     let called = called(rt.alloc(), &table, shape.kind, &subjects, sizes.texts)?;
     let spent = start.elapsed(rt)?;
-    let [name, ..] = shape.names;
+    let name = shape.name;
     report::each(rt, "binds", name, u64::from(sizes.texts), spent);
     report::outcome(rt, name, called);
     Ok(())
@@ -113,7 +112,7 @@ fn table(alloc: Global, shape: &Shape, count: u32) -> Result<BindTable, Stop> {
 }
 
 /// Texts with the numbers of binds all over a table of so many.
-pub fn texts(alloc: Global, text: &[u8], count: u32) -> Result<Vec<Text>, NoMemory> {
+fn texts(alloc: Global, text: &[u8], count: u32) -> Result<Vec<Text>, NoMemory> {
     let mut texts = Vec::new(alloc);
     for number in 0..TEXTS {
         let place = number.saturating_mul(31) % count.max(1);

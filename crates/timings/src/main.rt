@@ -4,7 +4,7 @@
 //! |---|---|
 //! | `persons` | who a person is, in userfiles of 500 users with 16 hostmasks each, of five shapes |
 //! | `masks` | masks on a text each, 100,000 times |
-//! | `binds` | 500 binds of four shapes on 10,000 texts each, a bot's whole lines with them, and 500 at each minute of a day |
+//! | `binds` | 500 binds of four shapes on 10,000 texts each, and 500 at each minute of a day |
 //! | `channels` | 100,000 lines on 200 channels of 1,000 people; 8,000 who quit and come back; 10,000 QUITs' events |
 //! | `timers` | 200 timers over ten minutes, and 500 cron masks over a day |
 //! | `lines` | a stream of about 10 MB, to its lines |
@@ -33,7 +33,6 @@ mod persons;
 mod quits;
 mod report;
 mod sizes;
-mod steps;
 mod stop;
 mod tally;
 mod timers;
