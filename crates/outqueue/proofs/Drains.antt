@@ -244,6 +244,11 @@ waiting-after q now =
     ap (λ rest. take (count_at q now) (waiting q) ++ rest) (waiting-gone (count_at q now) q (max q.timer now + COST * count_at q now))
     ∙ take-append-drop (count_at q now) (waiting q)
 
+-- the room stays
+pub room-after : (q : Sending) (now : ℕ) → (after q now).room ≡ q.room
+unfolding after
+room-after q now = refl
+
 -- ---- many moments
 
 pub sent_over-order : (q : Sending) (moments : List ℕ) → sent_over q moments ++ waiting (after_over q moments) ≡ waiting q

@@ -6,6 +6,7 @@ use Rattle.outqueue.specs.declared.queue.Queue.{Queue}
 use Rattle.outqueue.specs.declared.queue.Queue.TheVariants.{Mode, Server, Help}
 use Rattle.outqueue.specs.declared.queue.Which.{Which}
 use Rattle.outqueue.specs.declared.queue.Which.TheVariants.{One, All}
+use Rattle.outqueue.specs.declared.queues.Counts.{Counts}
 use Rattle.outqueue.specs.Lanes.{first_of}
 
 -- how many lines more each queue has room for
@@ -58,6 +59,15 @@ without q (One Mode) = record q { mode = [] }
 without q (One Server) = record q { server = [] }
 without q (One Help) = record q { help = [] }
 without q All = record q { mode = []; server = []; help = [] }
+
+-- how many lines each queue holds
+abbrev pub counts_of : Sending → Counts
+counts_of q = record { mode = length q.mode; server = length q.server; help = length q.help }
+
+-- with the first so many lines of each queue alone; the timer stays
+abbrev pub with_first : Sending → Counts → Sending
+with_first q counts =
+    record q { mode = take counts.mode q.mode; server = take counts.server q.server; help = take counts.help q.help }
 
 -- what stays when the first n lines have gone and the timer stands there
 abbrev pub gone : ℕ → Sending → ℕ → Sending

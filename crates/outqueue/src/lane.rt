@@ -1,5 +1,5 @@
 // The lines of one queue, with room for more.
-ghost use Rattle.std.specs.Prelude.{◌≡◌, ◌<◌, ◌≤◌, length, [], drop, IsOk, IfOk, OnOk, OnErr};
+ghost use Rattle.std.specs.Prelude.{◌≡◌, ◌<◌, ◌≤◌, length, [], take, drop, IsOk, IfOk, OnOk, OnErr};
 ghost use Rattle.outqueue.specs.Lanes.{Filled, with_last, first_of};
 
 use crate::limits::MAX_LINES;
@@ -85,6 +85,13 @@ impl Lane {
         ensures rest { self.new ≡ record self.old { lines = drop 1 self.old.lines } }
     {
         self.queue.pop_front()
+    }
+
+    // Drops all lines but the first ones, of which this many stay.
+    pub(crate) fn keep(&mut self, count: usize)
+        ensures { self.new ≡ record self.old { lines = take count self.old.lines } }
+    {
+        self.queue.truncate(count);
     }
 
     // Drops all lines.

@@ -1,7 +1,7 @@
 // The three queues and the send timer.
 ghost use Rattle.std.specs.Prelude.{◌≡◌, ◌≢◌, ◌+◌, ◌*◌, ◌<◌, ◌≤◌, length, [], ◌++◌, IsOk, IfNone, IfOk, OnOk, OnErr, Err};
 ghost use Rattle.outqueue.specs.Lanes.{first_of};
-ghost use Rattle.outqueue.specs.Sending.{Sending, idle, lines_in, without, waiting, gone, next_line, after_line, sent, after, IsGreatest};
+ghost use Rattle.outqueue.specs.Sending.{Sending, idle, lines_in, without, counts_of, with_first, waiting, gone, next_line, after_line, sent, after, IsGreatest};
 ghost use Rattle.outqueue.specs.Sending.{room_in, with_room};
 ghost use Rattle.outqueue.specs.Refusals.{refusal, Puts, PutsReserved};
 
@@ -13,6 +13,17 @@ use crate::queue::{Queue, Which};
 use bytetext::{Failure, MOMENTS_END, NoMemory, Text, Texts, TryCopy, refuse};
 use std::alloc::Global;
 use std::marker::Model;
+
+/// How many lines each queue holds.
+#[derive(Clone, Copy, Debug)]
+pub struct Counts {
+    /// The mode queue.
+    pub mode: usize,
+    /// The server queue.
+    pub server: usize,
+    /// The help queue.
+    pub help: usize,
+}
 
 /// Lines that wait to be sent, and the send timer.
 ///
@@ -156,6 +167,29 @@ impl Queues {
         }
     }
 
+    /// How many lines each queue holds, for [`keep`](Queues::keep).
+    pub fn counts(&self) -> Counts
+        ensures { result ≡ counts_of self.now }
+    {
+        Counts {
+            mode: self.mode.len(),
+            server: self.server.len(),
+            help: self.help.len(),
+        }
+    }
+
+    /// Takes lines back: of each queue only the first so many stay, at most. The timer and the room stay. Takes no memory.
+    ///
+    /// With what [`counts`](Queues::counts) answered before, this drops just the lines that were put since, if none has
+    /// been sent or cleared.
+    pub fn keep(&mut self, counts: Counts)
+        ensures { self.new ≡ with_first self.old counts }
+    {
+        self.mode.keep(counts.mode);
+        self.server.keep(counts.server);
+        self.help.keep(counts.help);
+    }
+
     /// Drops the lines of one queue or of all, and says how many there were. The timer and the room stay.
     pub fn clear(&mut self, which: Which) -> usize
         ensures count { result ≡ length (lines_in self.old which) }
@@ -223,6 +257,7 @@ impl Queues {
         // What stays is the rest, in order.
         ensures rest { IfOk result (λ lines. waiting self.old ≡ lines ++ waiting self.new) }
         ensures err { OnErr result (self.new ≡ self.old) }
+        ensures room { self.new.room ≡ self.old.room }
         ensures nothing_waits { waiting self.old ≡ [] → IsOk result }
     {
         let mut lines = Vec::with_capacity(alloc, self.len(Which::All).min(MAX_AT_ONCE))?;

@@ -1,5 +1,6 @@
 // One thing that a proc asks its bot to do.
 use bytetext::{NoMemory, Text, TryCopy};
+use outqueue::Queue;
 use std::alloc::Global;
 use userfile::Change;
 
@@ -16,6 +17,8 @@ pub enum Action {
     KillTimer(u32),
     /// Sends a text to another bot.
     SendBot(BotWish),
+    /// Puts a line for the server into a queue.
+    Put(PutWish),
 }
 
 impl TryCopy for Action {
@@ -26,6 +29,7 @@ impl TryCopy for Action {
             Action::Utimer(wish) => Ok(Action::Utimer(wish.copy(alloc)?)),
             Action::KillTimer(id) => Ok(Action::KillTimer(*id)),
             Action::SendBot(wish) => Ok(Action::SendBot(wish.copy(alloc)?)),
+            Action::Put(wish) => Ok(Action::Put(wish.copy(alloc)?)),
         }
     }
 }
@@ -65,5 +69,24 @@ impl TryCopy for BotWish {
     fn copy(&self, alloc: Global) -> Result<BotWish, NoMemory> {
         let text = self.text.copy(alloc)?;
         Ok(BotWish { to: self.to, text })
+    }
+}
+
+/// A line for the server.
+#[derive(Debug, Drop)]
+pub struct PutWish {
+    /// The queue that it waits in.
+    pub queue: Queue,
+    /// The line, without its CR LF.
+    pub line: Text,
+}
+
+impl TryCopy for PutWish {
+    fn copy(&self, alloc: Global) -> Result<PutWish, NoMemory> {
+        let line = self.line.copy(alloc)?;
+        Ok(PutWish {
+            queue: self.queue,
+            line,
+        })
     }
 }

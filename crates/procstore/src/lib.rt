@@ -39,7 +39,7 @@ mod reply;
 mod run;
 mod store;
 
-pub use crate::action::{Action, BotWish, TimerWish};
+pub use crate::action::{Action, BotWish, PutWish, TimerWish};
 pub use crate::actions::Actions;
 pub use crate::call::Call;
 pub use crate::fault::{ActionsFault, AddError, AddFault, CallError, CallFault, PushError};

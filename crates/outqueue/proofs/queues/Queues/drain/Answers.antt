@@ -1,7 +1,7 @@
 use Rattle.std.proofs.Common.{◌<◌, ◌++◌, length, sym, ap, ◌∙◌, subst, arith}
-use Rattle.outqueue.specs.Sending.{waiting, sent, after_line, IsGreatest}
+use Rattle.outqueue.specs.Sending.{Sending, waiting, sent, after_line, IsGreatest}
 use Rattle.outqueue.proofs.Drains.{Drained, Drained_more, Drained-room, Drained-sent, Drained-after, IsGreatest-Drained}
-use Rattle.outqueue.proofs.Drains.{length-waiting-after_line, waiting-after}
+use Rattle.outqueue.proofs.Drains.{length-waiting-after_line, waiting-after, room-after}
 use Rattle.outqueue.proofs.queues.Queues.drain.Goals as goal
 
 pub push_reserved-requires : goal.push_reserved-requires
@@ -46,3 +46,6 @@ returns-clause-rest c =
     sym (ap (λ lines. lines ++ waiting c.take.new.self) (returns-clause-lines c)
     ∙ ap (λ q. sent c.args.self.now c.args.now ++ waiting q) (returns-clause-after c)
     ∙ waiting-after c.args.self.now c.args.now)
+
+pub returns-clause-room : goal.returns-clause-room
+returns-clause-room c = ap (λ (q : Sending). q.room) (returns-clause-after c) ∙ room-after c.args.self.now c.args.now
