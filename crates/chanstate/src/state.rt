@@ -52,8 +52,8 @@ impl ChanState {
         self.channels.holds(channel)
     }
 
-    // The name of a channel, as the bot spells it.
-    pub(crate) fn held(&self, channel: &[u8]) -> Option<&[u8]>
+    /// The name of a channel as the bot spells it; none where the bot isn't on the channel. Takes no memory.
+    pub fn held(&self, channel: &[u8]) -> Option<&[u8]>
         ensures { option_copied result ≡ option_map (λ c. c.name) (channel_in channel.now self.now) }
     {
         match self.channels.find(channel) {
