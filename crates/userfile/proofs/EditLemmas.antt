@@ -1,21 +1,22 @@
 -- What an edit leaves of a user.
-use Rattle.std.proofs.Common.{◌≡◌, refl, ap, ◌∙◌, Result, Ok, Err, OnOk, OnErr}
+use Rattle.std.proofs.Common.{◌≡◌, List, ℕ, refl, ap, Result, Ok, Err, OnOk, OnErr}
 use Rattle.bytetext.specs.declared.memory.NoMemory.{NoMemory}
+use Rattle.userfile.specs.Apply.{with_mask}
 use Rattle.userfile.specs.declared.user.User.{User}
 use Rattle.userfile.specs.declared.edits.Edit.{Edit}
-use Rattle.userfile.specs.declared.edits.Edit.TheVariants.{AddMask, DelMask, SetGlobal, SetChannel, SetBot}
+use Rattle.userfile.specs.declared.edits.Edit.TheVariants.{DelMask, SetGlobal, DelChannel, SetChannels, SetBot}
 use Rattle.userfile.specs.Edits.{edited}
 
 -- an edit keeps the handle
 pub handle-edited : (edit : Edit) (user : User) → (edited edit user).handle ≡ user.handle
-handle-edited (AddMask m) user = refl
 handle-edited (DelMask m) user = refl
 handle-edited (SetGlobal f) user = refl
-handle-edited (SetChannel c f) user = refl
+handle-edited (DelChannel c) user = refl
+handle-edited (SetChannels es) user = refl
 handle-edited (SetBot f) user = refl
 
--- and so it does where it finds no memory
-pub handle_kept : (r : Result (Unit {0}) NoMemory) (edit : Edit) (old new : User) → OnOk r (new ≡ edited edit old) → OnErr r (new ≡ old)
+-- one more mask does, and so does one for which there is no memory
+pub handle-with_mask : (r : Result (Unit {0}) NoMemory) (m : List ℕ) (old new : User) → OnOk r (new ≡ with_mask m old) → OnErr r (new ≡ old)
     → new.handle ≡ old.handle
-handle_kept (Ok _) edit old new ok err = ap (λ (u : User). u.handle) ok ∙ handle-edited edit old
-handle_kept (Err _) edit old new ok err = ap (λ (u : User). u.handle) err
+handle-with_mask (Ok _) m old new ok err = ap (λ (u : User). u.handle) ok
+handle-with_mask (Err _) m old new ok err = ap (λ (u : User). u.handle) err

@@ -153,3 +153,16 @@ position-long h (x ∷ xs) i long keyed =
     let short : length x.1.handle ≤ MAX_HANDLE = keyed.1 in
     ap (λ b. cond b (Some i) (position_from (λ (u : User). is_same h u.handle) (i + 1) (values_of xs))) (is_same-length h x.1.handle (omega arith))
     ∙ position-long h xs (i + 1) long keyed.2
+
+-- two edits that make the same of the user of the handle
+pub with_user-like : (h : List ℕ) (f g : User → User) (us : List User) (u : User) → user_of h us ≡ Some u → f u ≡ g u
+    → with_user h f us ≡ with_user h g us
+with_user-like h f g [] u found same = refl
+with_user-like h f g (x ∷ xs) u found same = by (is_same h x.handle) found (with_user-like h f g xs u)
+  where
+    by : (b : Bool) → cond b (Some x) (user_of h xs) ≡ Some u → (user_of h xs ≡ Some u → f u ≡ g u → with_user h f xs ≡ with_user h g xs)
+        → cond b (f x ∷ xs) (x ∷ with_user h f xs) ≡ cond b (g x ∷ xs) (x ∷ with_user h g xs)
+    by true here rest =
+        let user : x ≡ u = cc in
+        ap (λ v. v ∷ xs) (ap f user ∙ same ∙ sym (ap g user))
+    by false later rest = ap (λ us. x ∷ us) (rest later same)

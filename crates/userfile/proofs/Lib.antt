@@ -11,3 +11,4 @@ pub mod GatherLemmas
 pub mod DeciderLemmas
 pub mod RepeatLemmas
 pub mod SoundLemmas
+pub mod PlanLemmas

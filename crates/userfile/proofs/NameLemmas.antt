@@ -1,6 +1,6 @@
 -- Each listing of the index is that of a mask of its user, before and after each change.
 use Rattle.std.proofs.Common.{◌≡◌, ℕ, zero, suc, ◌+◌, ◌-◌, ◌<◌, ◌≤◌, ◌==◌, nat_eq, nat_lt, inl, inr, Bool, true, false, cond, not, ◌||◌, ◌&&◌}
-use Rattle.std.proofs.Common.{List, [], ◌∷◌, ◌++◌, length, refl, sym, ap, subst, ◌∙◌, arith, None, Some, Result, Ok, Err, OnOk, OnErr, slice_get}
+use Rattle.std.proofs.Common.{List, [], ◌∷◌, ◌++◌, length, refl, sym, ap, subst, ◌∙◌, arith, None, Some, slice_get}
 use Rattle.std.proofs.Common.{get_or, slice_index, true≢false, ltb-true, ltb-false}
 use Rattle.std.specs.List.{position_from}
 use Rattle.std.specs.Cmp.Lexicographic.{pointwise, bytes_decides}
@@ -12,7 +12,7 @@ use Rattle.userfile.specs.declared.user.User.{User}
 use Rattle.userfile.specs.declared.index.Listing.{Listing}
 use Rattle.userfile.specs.declared.index.TailIndex.{TailIndex}
 use Rattle.userfile.specs.declared.edits.Edit.{Edit}
-use Rattle.userfile.specs.declared.edits.Edit.TheVariants.{AddMask, DelMask, SetGlobal, SetChannel, SetBot}
+use Rattle.userfile.specs.declared.edits.Edit.TheVariants.{DelMask, SetGlobal, DelChannel, SetChannels, SetBot}
 use Rattle.userfile.specs.Apply.{with_mask, without_mask}
 use Rattle.userfile.specs.Edits.{edited, is_of_masks}
 use Rattle.userfile.specs.Held.{with_user, users_without}
@@ -129,19 +129,13 @@ IsIndexOf-edited index h edit same us is = record {
   names = Names-users index us (with_user h edit us) (masks_at-same h edit same us) is.names;
 }
 
-edited_same : (index : TailIndex) (h : List ℕ) (edit : Edit) → is_of_masks edit ≡ false → (us : List User) → IsIndexOf index us
+pub edited_same : (index : TailIndex) (h : List ℕ) (edit : Edit) → is_of_masks edit ≡ false → (us : List User) → IsIndexOf index us
     → IsIndexOf index (with_user h (edited edit) us)
-edited_same index h (AddMask m) other us is = absurd (true≢false other)
 edited_same index h (DelMask m) other us is = absurd (true≢false other)
 edited_same index h (SetGlobal f) other us is = IsIndexOf-edited index h (edited (SetGlobal f)) (λ u. refl) us is
-edited_same index h (SetChannel c f) other us is = IsIndexOf-edited index h (edited (SetChannel c f)) (λ u. refl) us is
+edited_same index h (DelChannel c) other us is = IsIndexOf-edited index h (edited (DelChannel c)) (λ u. refl) us is
+edited_same index h (SetChannels es) other us is = IsIndexOf-edited index h (edited (SetChannels es)) (λ u. refl) us is
 edited_same index h (SetBot f) other us is = IsIndexOf-edited index h (edited (SetBot f)) (λ u. refl) us is
-
--- and so it is whatever an edit answers
-pub IsIndexOf-made : {E : Type 0} (result : Result (Unit {0}) E) (index : TailIndex) (h : List ℕ) (edit : Edit) (old new : List User)
-    → is_of_masks edit ≡ false → OnOk result (new ≡ with_user h (edited edit) old) → OnErr result (new ≡ old) → IsIndexOf index old → IsIndexOf index new
-IsIndexOf-made (Ok _) index h edit old new other ok err is = subst (IsIndexOf index) (sym ok) (edited_same index h edit other old is)
-IsIndexOf-made (Err _) index h edit old new other ok err is = subst (IsIndexOf index) (sym err) is
 
 pub IsIndexOf-push : (index : TailIndex) (us : List User) (u : User) → u.masks ≡ [] → IsIndexOf index us → IsIndexOf index (us ++ u ∷ [])
 IsIndexOf-push index us u none is = record {

@@ -1,6 +1,6 @@
 -- A change that isn't refused leaves records that stand together and are of good shape.
 use Rattle.std.proofs.Common.{◌≡◌, ℕ, suc, ◌+◌, ◌≤◌, ◌==◌, nat_eq, nat_lt, Bool, true, false, cond, not, ◌&&◌, ◌||◌, List, [], ◌∷◌}
-use Rattle.std.proofs.Common.{◌++◌, length, filter, Option, None, Some, is_some, Result, Ok, Err, OnOk, OnErr, refl, ap, sym, subst, ◌∙◌, arith}
+use Rattle.std.proofs.Common.{◌++◌, length, filter, Option, None, Some, is_some, refl, ap, sym, subst, ◌∙◌, arith}
 use Rattle.std.proofs.Common.{ltb-false, ltb-true, le-ltb, length-append}
 use Rattle.std.specs.List.{list_any, list_all}
 use Rattle.std.specs.Cmp.Lexicographic.{pointwise}
@@ -388,9 +388,3 @@ keeps_parts r (DelBan ch m) p shape taken =
 pub changed-sound : (r : Records) (c : Change) → AreSound r → refusal r c ≡ None → AreSound (changed r c)
 changed-sound r c s free = sound_of (changed r c)
     (keeps_parts r c (parts_of r.users r.bans s.users s.bans s.together) (first_none free).0 (first_none free).1)
-
--- and so is what making a change leaves, whatever it answers
-pub made-sound : {E : Type 0} (result : Result (Unit {0}) E) (old new : Records) (c : Change) → AreSound old → refusal old c ≡ None
-    → OnOk result (new ≡ changed old c) → OnErr result (new ≡ old) → AreSound new
-made-sound (Ok _) old new c s free ok err = subst AreSound (sym ok) (changed-sound old c s free)
-made-sound (Err _) old new c s free ok err = subst AreSound (sym err) s

@@ -5,6 +5,8 @@ pub mod Records
 pub mod Held
 pub mod Apply
 pub mod Edits
+pub mod Plans
+pub mod Updates
 pub mod Versions
 pub mod Persons
 pub mod Keys

@@ -46,7 +46,7 @@ impl Model for ChannelEntries {
 }
 
 impl ChannelEntries {
-    ghost use Rattle.std.specs.Prelude.{◌≡◌, ◌≢◌, [], ◌∷◌, ◌++◌, OnOk, OnErr, length};
+    ghost use Rattle.std.specs.Prelude.{◌≡◌, ◌≢◌, [], ◌∷◌, ◌++◌, IfOk, length};
     ghost use Rattle.std.specs.Option.{option_copied};
     ghost use Rattle.userfile.specs.Held.{entry_of, entries_without, with_entry};
     ghost use Rattle.userfile.specs.Apply.{set_channel};
@@ -93,23 +93,27 @@ impl ChannelEntries {
         entry_of(self.items.as_slice(), channel)
     }
 
-    // Sets the flags on a channel; without flags its entry goes.
-    pub(crate) fn set(
-        &mut self,
+    // Copies of these entries, with some flags set on a channel.
+    pub(crate) fn with(
+        &self,
         alloc: Global,
-        channel: &[u8],
+        channel: &Text,
         flags: Flags,
-    ) -> Result<(), NoMemory>
-        ensures ok { OnOk result (self.new ≡ set_channel channel.now flags self.old) }
-        ensures err { OnErr result (self.new ≡ self.old) }
-        ensures memory { OnErr result (flags ≢ 0) }
+    ) -> Result<ChannelEntries, NoMemory>
+        requires { flags ≢ 0 }
+        ensures { IfOk result (λ entries. entries ≡ set_channel channel.now flags self.now) }
     {
-        if flags.is_empty() {
-            keep_others(&mut self.items, channel);
-            return Ok(());
-        }
-        let channel = Text::from_slice(alloc, channel)?;
-        put(&mut self.items, ChannelFlags { channel, flags })
+        let channel = channel.copy(alloc)?;
+        let mut items = copies_of(alloc, self.items.as_slice())?;
+        put(&mut items, ChannelFlags { channel, flags })?;
+        Ok(ChannelEntries { items })
+    }
+
+    // Takes out the entry of a channel.
+    pub(crate) fn remove(&mut self, channel: &[u8])
+        ensures { self.new ≡ entries_without channel.now self.old }
+    {
+        keep_others(&mut self.items, channel);
     }
 }
 

@@ -2,9 +2,10 @@
 ghost use Rattle.std.specs.Prelude.{◌≡◌, true, IfOk, IfErr, OnOk, OnErr};
 ghost use Rattle.bytetext.specs.declared.failure.Failure.TheVariants.{NoMemory as no_memory};
 ghost use Rattle.userfile.specs.Shapes.{is_hostmask};
-ghost use Rattle.userfile.specs.Apply.{add_mask_fault, del_mask_fault, set_channel_fault};
-ghost use Rattle.userfile.specs.Edits.{edited, edit_grows};
+ghost use Rattle.userfile.specs.Apply.{add_mask_fault, del_mask_fault, set_channel_fault, with_mask};
+ghost use Rattle.userfile.specs.Edits.{edited};
 
+use crate::channel_flags::ChannelEntries;
 use crate::error::{ChangeError, ChangeFault};
 use crate::hostmask::Hostmask;
 use crate::limits::{MAX_CHANNELS, MAX_MASKS};
@@ -43,35 +44,40 @@ pub(crate) fn set_channel_fault(channel: &[u8], flags: Flags, user: &User) -> Op
     )
 }
 
-// An edit of one user.
+// An edit of one user that takes no memory.
 #[derive(Drop)]
 pub(crate) enum Edit<'a> {
-    // Puts the mask after the others.
-    AddMask(Hostmask),
     // Takes out the mask of this text.
     DelMask(&'a [u8]),
     // Sets the flags that hold everywhere.
     SetGlobal(Flags),
-    // Sets the flags on a channel; without flags its entry goes.
-    SetChannel(&'a [u8], Flags),
+    // Takes out the entry of a channel.
+    DelChannel(&'a [u8]),
+    // Puts these entries in the place of those before.
+    SetChannels(ChannelEntries),
     // Sets the flags as a bot.
     SetBot(Flags),
 }
 
 // Makes an edit.
-pub(crate) fn make_edit(user: &mut User, alloc: Global, edit: Edit<'_>) -> Result<(), NoMemory>
-    ensures ok { OnOk result (user.new ≡ edited edit.entry user.old) }
-    ensures err { OnErr result (user.new ≡ user.old) }
-    ensures memory { IfErr result (λ _. edit_grows edit.entry ≡ true) }
+pub(crate) fn make_edit(user: &mut User, edit: Edit<'_>)
+    ensures { user.new ≡ edited edit.entry user.old }
 {
     match edit {
-        Edit::AddMask(mask) => user.masks.push(mask)?,
         Edit::DelMask(mask) => user.masks.remove(mask),
         Edit::SetGlobal(flags) => user.global = flags,
-        Edit::SetChannel(channel, flags) => user.channels.set(alloc, channel, flags)?,
+        Edit::DelChannel(channel) => user.channels.remove(channel),
+        Edit::SetChannels(entries) => user.channels = entries,
         Edit::SetBot(flags) => user.bot = flags,
     }
-    Ok(())
+}
+
+// Puts a mask after the user's others.
+pub(crate) fn give_mask(user: &mut User, mask: Hostmask) -> Result<(), NoMemory>
+    ensures ok { OnOk result (user.new ≡ with_mask mask user.old) }
+    ensures err { OnErr result (user.new ≡ user.old) }
+{
+    user.masks.push(mask)
 }
 
 // The hostmask of a text that is one.

@@ -1,9 +1,9 @@
 // The map of the users, whose keys are the lower cases of their handles.
-ghost use Rattle.std.specs.Prelude.{◌≡◌, [], ◌∷◌, ◌++◌, not, true, false, None, IfErr, OnOk, OnErr};
+ghost use Rattle.std.specs.Prelude.{◌≡◌, [], ◌∷◌, ◌++◌, not, true, false, None, OnOk, OnErr};
 ghost use Rattle.std.specs.Option.{option_copied};
 ghost use Rattle.rfccase.specs.Casemapping.{is_same};
-ghost use Rattle.userfile.specs.Apply.{new_user};
-ghost use Rattle.userfile.specs.Edits.{edited, edit_grows, is_of_masks};
+ghost use Rattle.userfile.specs.Apply.{new_user, with_mask};
+ghost use Rattle.userfile.specs.Edits.{edited, is_of_masks};
 ghost use Rattle.userfile.specs.Index.{IsIndexOf};
 ghost use Rattle.userfile.specs.declared.index.TailIndex.{TailIndex};
 ghost use Rattle.userfile.specs.Held.{user_of, users_without, with_user};
@@ -11,7 +11,8 @@ ghost use Rattle.userfile.specs.Shapes.{is_handle};
 ghost use Rattle.userfile.specs.Keys.{IsKeyed};
 ghost use Rattle.indexmap.specs.IndexMap.{values};
 
-use crate::edits::{Edit, make_edit};
+use crate::edits::{Edit, give_mask, make_edit};
+use crate::hostmask::Hostmask;
 use crate::limits::MAX_HANDLE;
 use crate::texts::is_same;
 use crate::user::User;
@@ -65,24 +66,35 @@ pub(crate) fn keep_other_users(users: &mut IndexMap<Vec<u8>, User>, handle: &[u8
 }
 
 // Makes an edit of the user with the handle.
-pub(crate) fn edit_user(
+pub(crate) fn edit_user(users: &mut IndexMap<Vec<u8>, User>, handle: &[u8], edit: Edit<'_>)
+    requires keyed { IsKeyed users.old.entries }
+    ensures keyed { IsKeyed users.new.entries }
+    ensures edited { values users.new ≡ with_user handle.now (edited edit.entry) (values users.old) }
+    ensures index { (index : TailIndex) → is_of_masks edit.entry ≡ false → IsIndexOf index (values users.old) → IsIndexOf index (values users.new) }
+{
+    if let Some(lower) = ShortFold::<MAX_HANDLE>::new(handle) {
+        if let Some(user) = users.get_mut(lower.as_bytes()) {
+            make_edit(user, edit);
+        }
+    }
+}
+
+// Puts a hostmask after those of the user with the handle.
+pub(crate) fn push_mask(
     users: &mut IndexMap<Vec<u8>, User>,
-    alloc: Global,
     handle: &[u8],
-    change: Edit<'_>,
+    mask: Hostmask,
 ) -> Result<(), NoMemory>
     requires keyed { IsKeyed users.old.entries }
     ensures keyed { IsKeyed users.new.entries }
-    ensures ok { OnOk result (values users.new ≡ with_user handle.now (edited change.entry) (values users.old)) }
+    ensures ok { OnOk result (values users.new ≡ with_user handle.now (with_mask mask) (values users.old)) }
     ensures err { OnErr result (values users.new ≡ values users.old) }
-    ensures index { (index : TailIndex) → is_of_masks change.entry ≡ false → IsIndexOf index (values users.old) → IsIndexOf index (values users.new) }
-    ensures memory { IfErr result (λ _. edit_grows change.entry ≡ true) }
 {
     let Some(lower) = ShortFold::<MAX_HANDLE>::new(handle) else {
         return Ok(());
     };
     match users.get_mut(lower.as_bytes()) {
-        Some(user) => make_edit(user, alloc, change),
+        Some(user) => give_mask(user, mask),
         None => Ok(()),
     }
 }

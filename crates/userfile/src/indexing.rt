@@ -12,7 +12,7 @@ ghost use Rattle.userfile.specs.Keys.{IsKeyed};
 ghost use Rattle.userfile.specs.Together.{repeats_handle};
 
 use crate::edits::Edit;
-use crate::entries::{edit_user, keep_other_users};
+use crate::entries::{edit_user, keep_other_users, push_mask};
 use crate::hostmask::Hostmask;
 use crate::index::{TailIndex, add_listing, keep_masks, listing_of, new_index, remove_user};
 use crate::limits::MAX_HANDLE;
@@ -73,7 +73,7 @@ fn add_host_at(
     ensures err { OnErr result (values users.new ≡ values users.old) }
 {
     add_mask(index, alloc, &mask, place)?;
-    match edit_user(users, alloc, handle, Edit::AddMask(mask)) {
+    match push_mask(users, handle, mask) {
         Ok(()) => Ok(()),
         Err(NoMemory) => {
             tidy(users, index, place);
@@ -86,23 +86,20 @@ fn add_host_at(
 pub(crate) fn del_host(
     users: &mut IndexMap<Vec<u8>, User>,
     index: &mut TailIndex,
-    alloc: Global,
     handle: &[u8],
     mask: &[u8],
-) -> Result<(), NoMemory>
+)
     requires keyed { IsKeyed users.old.entries }
     requires index { IsIndexOf index.old (values users.old) }
     ensures keyed { IsKeyed users.new.entries }
     ensures index { IsIndexOf index.new (values users.new) }
-    ensures ok { OnOk result (values users.new ≡ with_user handle.now (without_mask mask.now) (values users.old)) }
-    ensures never { OnErr result ⊥ }
+    ensures edited { values users.new ≡ with_user handle.now (without_mask mask.now) (values users.old) }
 {
     let place = place_of(users, handle);
-    edit_user(users, alloc, handle, Edit::DelMask(mask))?;
+    edit_user(users, handle, Edit::DelMask(mask));
     if let Some(place) = place {
         tidy(users, index, place);
     }
-    Ok(())
 }
 
 // Keeps of the listings of the user at a place those of the user's masks.

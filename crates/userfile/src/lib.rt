@@ -4,6 +4,10 @@
 //! [`Userfile::apply`] either makes the change whole or answers the first refusal that holds and leaves the userfile as
 //! it was. The same changes in the same order give the same records on every bot.
 //!
+//! Who has to write a change down before it is made calls the two halves of `apply`: [`Userfile::ready`] takes all memory
+//! that the change needs, or is refused, and then [`Update::commit`] makes the change without memory, or
+//! [`Update::cancel`] gives it up where it could not be written.
+//!
 //! Handles, hostmasks and channels are compared by casemapping (RFC 2812 section 2.2) and kept as they were given.
 //! [`Userfile::handle_of`] says who a person is, written as `nick!user@host`: of all hostmasks that match, the one with
 //! most literals decides, then the earlier user, then the earlier mask. [`Userfile::flags_of`] gives a user's flags, and
@@ -14,6 +18,13 @@
 //! userfile.apply(alloc, &Change::AddUser { handle })?;
 //! userfile.apply(alloc, &Change::AddHost { handle, mask })?;
 //! userfile.handle_of(b"nick!user@host")
+//!
+//! let update = userfile.ready(alloc, &change)?;   // all that the change takes
+//! if let Err(refused) = journal.append(entry) {   // what has to be written first
+//!     update.cancel();                            // the userfile is as before
+//!     return Err(refused.into());
+//! }
+//! update.commit();                                // takes none
 //! ```
 #![tactic(auto)]
 
@@ -32,10 +43,12 @@ mod index;
 mod indexing;
 mod limits;
 mod persons;
+mod plan;
 mod refusals;
 mod shapes;
 mod texts;
 mod together;
+mod update;
 mod user;
 mod userfile;
 
@@ -47,8 +60,10 @@ pub use crate::expiry::expires_at;
 pub use crate::flags::PersonFlags;
 pub use crate::hostmask::{Hostmask, Hostmasks};
 pub use crate::limits::{MAX_BANS, MAX_CHANNELS, MAX_COMMENT, MAX_HANDLE, MAX_MASKS, MAX_USERS};
+pub use crate::plan::Plan;
 pub use crate::refusals::shape;
 pub use crate::shapes::{is_ban_channel, is_comment, is_handle, is_hostmask, is_one_line};
 pub use crate::together::{are_bans, are_users, is_ban, is_user};
+pub use crate::update::Update;
 pub use crate::user::User;
 pub use crate::userfile::Userfile;

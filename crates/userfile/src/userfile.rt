@@ -1,24 +1,17 @@
 // The userfile.
-ghost use Rattle.std.specs.Prelude.{◌≡◌, None, true, false, IfErr, OnOk, OnErr};
-ghost use Rattle.bytetext.specs.declared.failure.Failure.TheVariants.{NoMemory as no_memory};
-ghost use Rattle.userfile.specs.Apply.{refusal, changed, grows};
-ghost use Rattle.userfile.specs.Keys.{IsKeyed, records_of};
-ghost use Rattle.userfile.specs.Index.{IsIndexOf};
-ghost use Rattle.userfile.specs.Together.{repeats_handle};
-ghost use Rattle.std.specs.Map.{values_of};
-
 use crate::ban::Ban;
-use crate::bans::{ban_of, has_ban, keep_other_bans};
+use crate::bans::has_ban;
 use crate::change::Change;
-use crate::edits::{Edit, add_mask_fault, del_mask_fault, hostmask_of, set_channel_fault};
-use crate::entries::{add_user, edit_user, find_user};
+use crate::edits::{Edit, add_mask_fault, del_mask_fault, set_channel_fault};
+use crate::entries::{edit_user, find_user};
 use crate::error::{ChangeError, ChangeFault};
 use crate::flags::PersonFlags;
 use crate::gather::{map_of, user_copies};
 use crate::index::{TailIndex, new_index};
-use crate::indexing::{add_host, del_host, del_user, index_of};
+use crate::indexing::index_of;
 use crate::limits::{MAX_BANS, MAX_USERS};
 use crate::persons::user_for;
+use crate::plan::{Plan, plan_for, take_back, take_in};
 use crate::refusals::{fault_if, fault_unless, first_of_two, shape};
 use crate::together::records_fault;
 use crate::user::User;
@@ -52,12 +45,13 @@ impl Model for Userfile {
 }
 
 impl Userfile {
-    ghost use Rattle.std.specs.Prelude.{◌≡◌, true, Err, IsTrue, length, slice_get};
+    ghost use Rattle.std.specs.Prelude.{◌≡◌, true, None, Err, IsTrue, IfOk, IfErr, OnErr, length, slice_get};
     ghost use Rattle.std.specs.List.{list_all};
     ghost use Rattle.std.specs.Option.{option_copied};
     ghost use Rattle.userfile.specs.Together.{is_user, is_good_ban, AreSound, Gathers};
     ghost use Rattle.userfile.specs.Records.{no_records};
     ghost use Rattle.userfile.specs.Apply.{Applies, refusal, not_taken, grows};
+    ghost use Rattle.userfile.specs.Plans.{IsPlanFor, Suits, before, after};
     ghost use Rattle.bytetext.specs.declared.failure.Failure.TheVariants.{NoMemory as no_memory};
     ghost use Rattle.userfile.specs.Held.{user_of};
     ghost use Rattle.userfile.specs.Persons.{ban_for, flags_of, handle_of, IsHandleFor};
@@ -230,7 +224,7 @@ impl Userfile {
         }
     }
 
-    /// Makes a change.
+    /// Makes a change: [`ready`](Userfile::ready), and then [`commit`](crate::Update::commit).
     ///
     /// # Errors
     /// `Refused` with the first fault that holds, or `NoMemory`; both leave the userfile as it was.
@@ -238,14 +232,55 @@ impl Userfile {
         ensures applies { Applies self.old change.now result self.new }
         ensures memory { result ≡ Err no_memory → grows change.now ≡ true }
     {
-        refuse(self.refusal_of(change))?;
-        make(
+        let update = self.ready(alloc, change)?;
+        update.commit();
+        Ok(())
+    }
+
+    // Makes what a change asks for that isn't refused.
+    pub(crate) fn plan(&mut self, alloc: Global, change: &Change) -> Result<Plan, ChangeError>
+        requires { refusal self.old change.now ≡ None }
+        ensures ready { IfOk result (λ plan. IsPlanFor plan change.now self.old self.new) }
+        ensures err { OnErr result (self.new ≡ self.old) }
+        ensures memory { IfErr result (λ e. (e ≡ no_memory) × (grows change.now ≡ true)) }
+    {
+        plan_for(
             &mut self.users,
             &mut self.index,
             &mut self.bans,
             alloc,
             change,
         )
+    }
+
+    // Makes a change for which this plan was made.
+    pub(crate) fn settle(&mut self, change: &Change, plan: Plan)
+        requires { Suits plan change.now self.old }
+        ensures { self.new ≡ after plan change.now self.old }
+    {
+        match plan {
+            Plan::Later => take_in(&mut self.users, &mut self.index, &mut self.bans, change),
+            Plan::Added => {}
+            Plan::Channels(handle, entries) => {
+                edit_user(
+                    &mut self.users,
+                    handle.as_bytes(),
+                    Edit::SetChannels(entries),
+                );
+            }
+        }
+    }
+
+    // Takes out what was added by this plan for a change.
+    pub(crate) fn take_back(&mut self, change: &Change, plan: Plan)
+        requires { Suits plan change.now self.old }
+        ensures { self.new ≡ before plan change.now self.old }
+    {
+        match plan {
+            Plan::Later => {}
+            Plan::Added => take_back(&mut self.users, &mut self.index, &mut self.bans, change),
+            Plan::Channels(_, _) => {}
+        }
     }
 }
 
@@ -257,62 +292,4 @@ impl TryCopy for Userfile {
         let bans = copies_of(alloc, self.bans.as_slice())?;
         Ok(Userfile { users, index, bans })
     }
-}
-
-// Makes a change that isn't refused.
-fn make(
-    users: &mut IndexMap<Vec<u8>, User>,
-    index: &mut TailIndex,
-    bans: &mut Vec<Ban>,
-    alloc: Global,
-    change: &Change,
-) -> Result<(), ChangeError>
-    requires keyed { IsKeyed users.old.entries }
-    requires apart { repeats_handle (values_of users.old.entries) ≡ false }
-    requires index { IsIndexOf index.old (values_of users.old.entries) }
-    requires taken { refusal (records_of users.old.entries bans.old.items) change.now ≡ None }
-    ensures keyed { IsKeyed users.new.entries }
-    ensures index { IsIndexOf index.new (values_of users.new.entries) }
-    ensures ok { OnOk result (records_of users.new.entries bans.new.items ≡ changed (records_of users.old.entries bans.old.items) change.now) }
-    ensures err { OnErr result (records_of users.new.entries bans.new.items ≡ records_of users.old.entries bans.old.items) }
-    ensures memory { IfErr result (λ e. (e ≡ no_memory) × (grows change.now ≡ true)) }
-{
-    match change {
-        Change::AddUser { handle } => add_user(users, alloc, handle)?,
-        Change::DelUser { handle } => del_user(users, index, handle.as_bytes()),
-        Change::AddHost { handle, mask } => {
-            let mask = hostmask_of(alloc, mask)?;
-            add_host(users, index, alloc, handle.as_bytes(), mask)?;
-        }
-        Change::DelHost { handle, mask } => {
-            del_host(users, index, alloc, handle.as_bytes(), mask.as_bytes())?;
-        }
-        Change::SetGlobal { handle, flags } => {
-            edit_user(users, alloc, handle.as_bytes(), Edit::SetGlobal(*flags))?;
-        }
-        Change::SetChan {
-            handle,
-            channel,
-            flags,
-        } => {
-            let edit = Edit::SetChannel(channel.as_bytes(), *flags);
-            edit_user(users, alloc, handle.as_bytes(), edit)?;
-        }
-        Change::SetBot { handle, flags } => {
-            edit_user(users, alloc, handle.as_bytes(), Edit::SetBot(*flags))?;
-        }
-        Change::AddBan {
-            channel,
-            mask,
-            creator,
-            expires,
-            comment,
-        } => {
-            bans.push(ban_of(alloc, channel, mask, creator, *expires, comment)?)?;
-        }
-        Change::DelBan { channel, mask } => {
-            keep_other_bans(bans, channel.as_bytes(), mask.as_bytes());
-        }
-    }
-    Ok(())
 }

@@ -1,0 +1,195 @@
+// What is made of a change before it is made, so that making it takes no memory.
+ghost use Rattle.std.specs.Prelude.{◌≡◌, ◌≢◌, None, true, false, IfOk, IfErr, OnErr};
+ghost use Rattle.std.specs.Map.{values_of};
+ghost use Rattle.bytetext.specs.declared.failure.Failure.TheVariants.{NoMemory as no_memory};
+ghost use Rattle.indexmap.specs.IndexMap.{values};
+ghost use Rattle.userfile.specs.Apply.{refusal, changed, grows, with_channel};
+ghost use Rattle.userfile.specs.Edits.{with_channels};
+ghost use Rattle.userfile.specs.Held.{with_user};
+ghost use Rattle.userfile.specs.Index.{IsIndexOf};
+ghost use Rattle.userfile.specs.Keys.{IsKeyed, records_of};
+ghost use Rattle.userfile.specs.Plans.{IsPlanFor, taken_back, adds};
+ghost use Rattle.userfile.specs.Together.{repeats_handle};
+
+use crate::ban::Ban;
+use crate::bans::{ban_of, keep_other_bans};
+use crate::change::Change;
+use crate::channel_flags::ChannelEntries;
+use crate::edits::{Edit, hostmask_of};
+use crate::entries::{add_user, edit_user, find_user};
+use crate::error::ChangeError;
+use crate::index::TailIndex;
+use crate::indexing::{add_host, del_host, del_user};
+use crate::user::User;
+use bytetext::{NoMemory, Text, TryCopy};
+use flagexpr::Flags;
+use indexmap::IndexMap;
+use std::alloc::Global;
+
+/// What is made of a change before it is made, by what it asks for.
+#[derive(Drop)]
+pub enum Plan {
+    /// Nothing: the change takes no memory.
+    Later,
+    /// The user, the hostmask or the ban that it adds, which stands with the others already. To take it out again takes
+    /// no memory.
+    Added,
+    /// The entries that the user of a handle will have.
+    Channels(Text, ChannelEntries),
+}
+
+// Makes what a change asks for that isn't refused.
+pub(crate) fn plan_for(
+    users: &mut IndexMap<Vec<u8>, User>,
+    index: &mut TailIndex,
+    bans: &mut Vec<Ban>,
+    alloc: Global,
+    change: &Change,
+) -> Result<Plan, ChangeError>
+    requires keyed { IsKeyed users.old.entries }
+    requires index { IsIndexOf index.old (values_of users.old.entries) }
+    requires taken { refusal (records_of users.old.entries bans.old.items) change.now ≡ None }
+    ensures keyed { IsKeyed users.new.entries }
+    ensures index { IsIndexOf index.new (values_of users.new.entries) }
+    ensures ready { IfOk result (λ plan. IsPlanFor plan change.now
+        (records_of users.old.entries bans.old.items) (records_of users.new.entries bans.new.items)) }
+    ensures err { OnErr result (records_of users.new.entries bans.new.items ≡ records_of users.old.entries bans.old.items) }
+    ensures memory { IfErr result (λ e. (e ≡ no_memory) × (grows change.now ≡ true)) }
+{
+    match change {
+        Change::AddUser { handle } => {
+            add_user(users, alloc, handle)?;
+            Ok(Plan::Added)
+        }
+        Change::AddHost { handle, mask } => {
+            let mask = hostmask_of(alloc, mask)?;
+            add_host(users, index, alloc, handle.as_bytes(), mask)?;
+            Ok(Plan::Added)
+        }
+        Change::AddBan {
+            channel,
+            mask,
+            creator,
+            expires,
+            comment,
+        } => {
+            bans.push(ban_of(alloc, channel, mask, creator, *expires, comment)?)?;
+            Ok(Plan::Added)
+        }
+        Change::SetChan {
+            handle,
+            channel,
+            flags,
+        } => {
+            if flags.is_empty() {
+                return Ok(Plan::Later);
+            }
+            let entries = entries_with(users, alloc, handle.as_bytes(), channel, *flags)?;
+            Ok(Plan::Channels(handle.copy(alloc)?, entries))
+        }
+        Change::DelUser { .. } => Ok(Plan::Later),
+        Change::DelHost { .. } => Ok(Plan::Later),
+        Change::SetGlobal { .. } => Ok(Plan::Later),
+        Change::SetBot { .. } => Ok(Plan::Later),
+        Change::DelBan { .. } => Ok(Plan::Later),
+    }
+}
+
+// The entries that the user of a handle has with some flags on a channel.
+fn entries_with(
+    users: &IndexMap<Vec<u8>, User>,
+    alloc: Global,
+    handle: &[u8],
+    channel: &Text,
+    flags: Flags,
+) -> Result<ChannelEntries, NoMemory>
+    requires keyed { IsKeyed users.now.entries }
+    requires some { flags ≢ 0 }
+    ensures { IfOk result (λ entries. with_user handle.now (with_channels entries) (values users.now)
+        ≡ with_user handle.now (with_channel channel.now flags) (values users.now)) }
+{
+    match find_user(users, handle) {
+        Some(user) => user.channels.with(alloc, channel, flags),
+        None => Ok(ChannelEntries::empty(alloc)),
+    }
+}
+
+// Makes a change that takes no memory.
+pub(crate) fn take_in(
+    users: &mut IndexMap<Vec<u8>, User>,
+    index: &mut TailIndex,
+    bans: &mut Vec<Ban>,
+    change: &Change,
+)
+    requires keyed { IsKeyed users.old.entries }
+    requires apart { repeats_handle (values_of users.old.entries) ≡ false }
+    requires index { IsIndexOf index.old (values_of users.old.entries) }
+    requires no_growth { grows change.now ≡ false }
+    ensures keyed { IsKeyed users.new.entries }
+    ensures index { IsIndexOf index.new (values_of users.new.entries) }
+    ensures changed { records_of users.new.entries bans.new.items ≡ changed (records_of users.old.entries bans.old.items) change.now }
+{
+    match change {
+        Change::DelUser { handle } => del_user(users, index, handle.as_bytes()),
+        Change::DelHost { handle, mask } => {
+            del_host(users, index, handle.as_bytes(), mask.as_bytes());
+        }
+        Change::SetGlobal { handle, flags } => {
+            edit_user(users, handle.as_bytes(), Edit::SetGlobal(*flags));
+        }
+        Change::SetChan {
+            handle,
+            channel,
+            ..
+        } => {
+            edit_user(
+                users,
+                handle.as_bytes(),
+                Edit::DelChannel(channel.as_bytes()),
+            );
+        }
+        Change::SetBot { handle, flags } => {
+            edit_user(users, handle.as_bytes(), Edit::SetBot(*flags));
+        }
+        Change::DelBan { channel, mask } => {
+            keep_other_bans(bans, channel.as_bytes(), mask.as_bytes());
+        }
+        // These take memory.
+        Change::AddUser { .. } => {}
+        Change::AddHost { .. } => {}
+        Change::AddBan { .. } => {}
+    }
+}
+
+// Takes out what a change has added.
+pub(crate) fn take_back(
+    users: &mut IndexMap<Vec<u8>, User>,
+    index: &mut TailIndex,
+    bans: &mut Vec<Ban>,
+    change: &Change,
+)
+    requires keyed { IsKeyed users.old.entries }
+    requires apart { repeats_handle (values_of users.old.entries) ≡ false }
+    requires index { IsIndexOf index.old (values_of users.old.entries) }
+    requires added { adds change.now ≡ true }
+    ensures keyed { IsKeyed users.new.entries }
+    ensures index { IsIndexOf index.new (values_of users.new.entries) }
+    ensures changed { records_of users.new.entries bans.new.items ≡ changed (records_of users.old.entries bans.old.items) (taken_back change.now) }
+{
+    match change {
+        Change::AddUser { handle } => del_user(users, index, handle.as_bytes()),
+        Change::AddHost { handle, mask } => {
+            del_host(users, index, handle.as_bytes(), mask.as_bytes());
+        }
+        Change::AddBan { channel, mask, .. } => {
+            keep_other_bans(bans, channel.as_bytes(), mask.as_bytes());
+        }
+        // These add nothing.
+        Change::DelUser { .. } => {}
+        Change::DelHost { .. } => {}
+        Change::SetGlobal { .. } => {}
+        Change::SetChan { .. } => {}
+        Change::SetBot { .. } => {}
+        Change::DelBan { .. } => {}
+    }
+}
