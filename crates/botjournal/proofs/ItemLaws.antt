@@ -1,50 +1,15 @@
 -- Items one after the other, and their count before them.
-use Rattle.std.proofs.Common.{◌≡◌, ℕ, suc, ◌+◌, ◌-◌, ◌<◌, ◌^◌, List, [], ◌∷◌, ◌++◌, length, Ok, Err, refl, sym, ap, subst, ◌∙◌, append_assoc, arith}
+use Rattle.std.proofs.Common.{◌≡◌, ℕ, ◌<◌, ◌^◌, List, [], ◌++◌, length, Ok, sym, ap, subst, ◌∙◌, append_assoc, arith}
 use Rattle.std.specs.Int.{w16}
-use Rattle.std.specs.List.{flat_map, AllByRecursion}
-use Rattle.bytetext.specs.declared.failure.Failure.{Failure}
-use Rattle.bytetext.specs.declared.failure.Failure.TheVariants.{Refused, NoMemory}
-use Rattle.usercodec.specs.declared.fault.CodecFault.{CodecFault}
-use Rattle.usercodec.specs.Answers.{Tells, MayTell}
+use Rattle.std.specs.List.{flat_map}
 use Rattle.usercodec.specs.Fields.{number, Reading, ◌>>=◌, number_at}
 use Rattle.usercodec.specs.Records.{items_at}
 use Rattle.usercodec.proofs.Steps.{IsBytes, bind_ok, Takes, Takes-then}
-use Rattle.botjournal.specs.Whole.{Fails}
 use Rattle.botjournal.specs.Bases.{listed, listed_at, AreListed}
 use Rattle.usercodec.proofs.PartLaws.{IsPart}
 use Rattle.usercodec.proofs.ReaderLaws.{u16_part}
-use Rattle.usercodec.proofs.ItemLaws.{AllGood, items_take, items_again}
-
--- each item read by itself
-abbrev pub alone : {A : Type 0} → (List ℕ → Reading A) → List A → List ℕ → Reading A
-alone item_at held bytes = item_at bytes
-
-pub fails_told : {A : Type 0} (error : Failure CodecFault) (reading : Reading A) → Tells error reading → Fails error reading
-fails_told (Refused fault) reading told = told
-fails_told NoMemory reading told = tt
-
-pub fails_may : {A : Type 0} (error : Failure CodecFault) (reading : Reading A) → MayTell error reading → Fails error reading
-fails_may (Refused fault) reading told = told
-fails_may NoMemory reading told = tt
-
-pub fails : {A : Type 0} (item_at : List A → List ℕ → Reading A) (error : Failure CodecFault) (count i : ℕ) (held : List A) (bytes : List ℕ) (total : Reading
-    (List A))
-    → i < count → Fails error (item_at held bytes) → items_at item_at (count - i) held bytes ≡ total → Fails error total
-unfolding items_at
-fails item_at NoMemory count i held bytes total lt told so_far = tt
-fails item_at (Refused fault) count i held bytes total lt told so_far =
-    let k : count - i ≡ suc (count - (i + 1)) = omega arith in
-    let one : items_at item_at (count - i) held bytes ≡ Err fault = rw (k, told) refl in
-    sym so_far ∙ one
-
--- items that are each good by itself
-all_good : {A : Type 0} (IsGood : A → Type 0) (held xs : List A) → AllGood (λ before. IsGood) held xs → AllByRecursion IsGood xs
-all_good IsGood held [] good = tt
-all_good IsGood held (x ∷ xs) good = (good.0, all_good IsGood (held ++ x ∷ []) xs good.1)
-
-good_all : {A : Type 0} (IsGood : A → Type 0) (held xs : List A) → AllByRecursion IsGood xs → AllGood (λ before. IsGood) held xs
-good_all IsGood held [] good = tt
-good_all IsGood held (x ∷ xs) good = (good.0, good_all IsGood (held ++ x ∷ []) xs good.1)
+use Rattle.usercodec.proofs.ItemSteps.{alone}
+use Rattle.usercodec.proofs.ItemLaws.{items_take, items_again, all_good, good_all}
 
 pub listed_part : {A : Type 0} {item_at : List ℕ → Reading A} {spelling : A → List ℕ} {IsGood : A → Type 0} → IsPart item_at spelling IsGood
     → IsPart (listed_at item_at) (listed spelling) (AreListed IsGood)

@@ -16,7 +16,7 @@ use Rattle.botjournal.specs.declared.base.Base.{Base}
 use Rattle.botjournal.specs.declared.entry.Entry.{Entry}
 use Rattle.botjournal.specs.Bases.{base_bytes, base_in, IsGoodBase}
 use Rattle.botjournal.specs.Entries.{entry_bytes, entry_in, IsGoodEntry}
-use Rattle.botjournal.specs.Contents.{Contents, added, rebased, before_others, entries_in, with_base, typed}
+use Rattle.botjournal.specs.Contents.{added, rebased, before_others, entries_in, with_base, typed}
 use Rattle.botjournal.specs.Journal.{IsEither, IsSound, Appends, Rebases, contents_of}
 use Rattle.botjournal.proofs.EntryLaws.{entry_again}
 use Rattle.botjournal.proofs.BaseLaws.{base_again}

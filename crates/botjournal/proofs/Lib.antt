@@ -7,3 +7,4 @@ pub mod MeaningLaws
 pub mod JournalLaws
 pub mod OpenLaws
 pub mod RecoveryLaws
+pub mod LedgerLaws

@@ -1,5 +1,5 @@
 -- A bot's journal over many calls and crashes.
-use Rattle.std.proofs.Common.{◌≡◌, ⊎_elim, Bool, true, false, ℕ, Option, None, Some, List, Result, Ok, Err, refl, sym, subst}
+use Rattle.std.proofs.Common.{◌≡◌, ⊎_elim, Bool, true, false, ℕ, Option, List, Result, Ok, Err, refl, sym, subst}
 use Rattle.std.specs.Prelude.{IsSome, option_map}
 use Rattle.bytetext.specs.declared.failure.Failure.{Failure}
 use Rattle.bytetext.specs.declared.failure.Failure.TheVariants.{Refused, NoMemory}
@@ -8,10 +8,10 @@ use Rattle.bytejournal.specs.declared.fault.JournalFault.{JournalFault}
 use Rattle.bytejournal.specs.declared.fault.JournalFault.TheVariants.{DiskFault, NotAJournal, Spent, GenerationsSpent}
 use Rattle.bytejournal.specs.declared.journal.Journal.{Journal as OfTexts}
 use Rattle.bytejournal.specs.declared.opening.Returned.{Returned}
-use Rattle.bytejournal.specs.Journal.{HoldsOne, EachMoment, AnyMoment, first_disk, second_disk, contents_of as texts_of}
+use Rattle.bytejournal.specs.Journal.{HoldsOne, AnyMoment, first_disk, second_disk, contents_of as texts_of}
 use Rattle.bytejournal.specs.Opening.{Untouched}
 use Rattle.bytejournal.specs.Recovery.{Stage, first_of, second_of, Lives, IsRecoverable, IsIntact}
-use Rattle.bytejournal.specs.Recovery.Stage.{InProgram, OnDisks}
+use Rattle.bytejournal.specs.Recovery.Stage.{InProgram}
 use Rattle.bytejournal.proofs.Pairs.{either_comm, pair}
 use Rattle.bytejournal.proofs.Appending.{nothing_happens}
 use Rattle.bytejournal.proofs.Lasting.{HasLaws, Stays, StageStays, IsStageKept, Callable, seen_journal, after_moments, no_moments, untouched, reopened, opened_again, all_kept}

@@ -4,3 +4,5 @@ pub mod Bases
 pub mod Contents
 pub mod Journal
 pub mod Recovery
+pub mod Ledger
+pub mod Stores

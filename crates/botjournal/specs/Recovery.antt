@@ -1,6 +1,6 @@
 -- A bot's journal over many calls and crashes. Each call is what the clauses of `Journal` say of it; stages, crashes and
 -- what a crash leaves are those of the journal of texts.
-use Rattle.std.specs.Prelude.{◌≡◌, ◌≢◌, false, true, Option, List, ℕ, IsSome, option_map, Result, Ok, Err}
+use Rattle.std.specs.Prelude.{◌≡◌, ◌≢◌, false, true, List, ℕ, IsSome, option_map, Result, Ok, Err}
 use Rattle.bytetext.specs.declared.failure.Failure.{Failure}
 use Rattle.bytetext.specs.declared.failure.Failure.TheVariants.{Refused}
 use Rattle.storage.specs.State.{State, IsSettled}

@@ -3,7 +3,7 @@ ghost use Rattle.std.specs.Prelude.{◌≡◌, ◌++◌, IfOk, OnOk, None};
 ghost use Rattle.std.specs.Int.{w16, w32};
 ghost use Rattle.userfile.specs.Apply.{bad_shape};
 ghost use Rattle.botjournal.specs.declared.base.Base.{Base};
-ghost use Rattle.botjournal.specs.Whole.{Finds};
+ghost use Rattle.usercodec.specs.Answers.{Finds};
 ghost use Rattle.botjournal.specs.Bases.{base_bytes, out_bytes, base_in, IsGoodBase, HasShapes, HasShapeOut, IsBaseOf};
 ghost use Rattle.botjournal.specs.Bases.{FindsBase, is_of_its_bot};
 ghost use Rattle.botjournal.specs.Bases.{out_at, out_from, parts_at, base_at};

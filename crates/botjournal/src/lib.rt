@@ -17,23 +17,39 @@
 //! spelling of none, on the disk that counts or on the other one. It never comes from disks that `create` made and only
 //! this journal wrote, whatever crashes came: [`laws_of_journals`] says so of any number of calls. After a disk's fault
 //! the journal is spent: what was being written counts or doesn't, and opening it again tells.
+//!
+//! A [`Ledger`] is a journal that stays with its owner through such faults. It has the disks in its hands at all times, in
+//! a journal or, where a restart could not open one, without; and what contracts see of it is plain: what is kept, what is
+//! in doubt, whether it is down, and how often its disks have failed.
+//!
+//! ```text
+//! let mut ledger = Ledger::create(alloc, first, second, &base)?;
+//! if ledger.append(alloc, &entry).is_err() && ledger.is_down() {
+//!     let found = ledger.restart(alloc)?;  // found.base and found.entries: with the entry, or without it
+//! }
+//! ```
 #![tactic(auto)]
 
 mod base;
 mod bases;
 mod entries;
 mod entry;
+mod found;
 mod journal;
 mod laws;
+mod ledger;
 mod lists;
 mod opening;
 mod reply;
+mod store;
 
 pub use crate::base::Base;
 pub use crate::bases::{read_base, write_base};
 pub use crate::entries::{read_entry, write_entry};
 pub use crate::entry::Entry;
+pub use crate::found::{Found, LedgerError, RebaseError, RebaseFault};
 pub use crate::journal::Journal;
 pub use crate::laws::{laws_of_bases, laws_of_entries, laws_of_journals};
+pub use crate::ledger::Ledger;
 pub use crate::opening::Opened;
 pub use crate::reply::{Answer, Reply};

@@ -2,10 +2,9 @@
 ghost use Rattle.std.specs.Prelude.{◌≡◌, ◌++◌, ◌<◌, ◌^◌, OnOk, [], length, true};
 ghost use Rattle.std.specs.List.{AllByRecursion, flat_map};
 ghost use Rattle.std.specs.Int.{w16, w32};
-ghost use Rattle.usercodec.specs.Answers.{Gives};
+ghost use Rattle.usercodec.specs.Answers.{Gives, Finds};
 ghost use Rattle.usercodec.specs.Fields.{number};
-ghost use Rattle.usercodec.specs.Records.{record_bytes, HasShape, items_at, record_at};
-ghost use Rattle.botjournal.specs.Whole.{Finds};
+ghost use Rattle.usercodec.specs.Records.{record_bytes, HasShape, items_at};
 ghost use Rattle.botjournal.specs.Bases.{listed, answer_bytes, reply_bytes, are_rising, rises_from};
 ghost use Rattle.botjournal.specs.Bases.{answer_at, answer_from, reply_at, records_at, replies_at, replies_listed_at};
 
@@ -13,8 +12,7 @@ use crate::reply::{Answer, Reply};
 use bytetext::{Failure, NoMemory, Seq};
 use std::alloc::Global;
 use usercodec::{
-    CodecError, CodecFault, Reader, Record, byte_of_fault, fault_of_byte, put_record, put_u16,
-    put_u32,
+    CodecError, CodecFault, Reader, Record, byte_of_fault, fault_of_byte, put_u16, put_u32,
 };
 
 // ---- written
@@ -25,10 +23,7 @@ pub(crate) fn put_records(out: &mut Vec<u8>, records: &[Record]) -> Result<(), N
     ensures { OnOk result (out.new.items ≡ out.old.items ++ listed record_bytes records.now) }
 {
     put_u16(out, records.len() as u16)?;
-    for value in records {
-        put_record(out, value)?;
-    }
-    Ok(())
+    usercodec::put_records(out, records)
 }
 
 pub(crate) fn put_replies(out: &mut Vec<u8>, replies: &[Reply]) -> Result<(), NoMemory>
@@ -72,26 +67,8 @@ pub(crate) fn records(alloc: Global, reader: &mut Reader<'_>) -> Result<Seq<Reco
     ensures { Finds (λ records. (records, reader.new)) result (records_at reader.old) }
 {
     let count = reader.u16()?;
-    let records = so_many_records(alloc, reader, count)?;
+    let records = reader.records(alloc, count as usize)?;
     Ok(Seq::new(records))
-}
-
-fn so_many_records(
-    alloc: Global,
-    reader: &mut Reader<'_>,
-    count: u16,
-) -> Result<Vec<Record>, CodecError>
-    ensures { Finds (λ records. (records.items, reader.new)) result
-        (items_at (λ held bytes. record_at bytes) count [] reader.old) }
-{
-    let mut records = Vec::new(alloc);
-    for _ in 0..count {
-        match reader.record(alloc) {
-            Ok(value) => records.push(value)?,
-            Err(error) => return Err(error),
-        }
-    }
-    Ok(records)
 }
 
 #[tactic(auto, unfolding(crate::specs::Bases::replies_at))]

@@ -1,6 +1,6 @@
 -- Items one after the other, each read in view of those before it, and the count before them.
 use Rattle.std.proofs.Common.{◌≡◌, ℕ, zero, suc, ◌<◌, nat_le, true, List, [], ◌∷◌, ◌++◌, length, Ok, refl, sym, ap, subst, ◌∙◌, append_assoc, arith}
-use Rattle.std.specs.List.{flat_map}
+use Rattle.std.specs.List.{flat_map, AllByRecursion}
 use Rattle.std.proofs.lemmas.Bool.Decides.{nat_tests}
 use Rattle.std.proofs.lemmas.List.{append-nil}
 use Rattle.std.proofs.lemmas.List.Concat.{flat_map-cons}
@@ -9,6 +9,7 @@ use Rattle.usercodec.specs.Laws.{Stays}
 use Rattle.usercodec.specs.Records.{items_at, counted_at}
 use Rattle.usercodec.proofs.Steps.{IsBytes, bind_ok, ok_is, Takes, Takes-then, stays_bind, NoTag, no_tag_bind}
 use Rattle.usercodec.proofs.PartLaws.{IsPart}
+use Rattle.usercodec.proofs.ItemSteps.{alone}
 use Rattle.usercodec.proofs.FieldLaws.{IsField, byte_field, checked_field}
 
 -- each item is good in view of those before it
@@ -98,29 +99,40 @@ pub record AreCounted {A : Type 0} (IsGood : List A → A → Type 0) (most : �
   pub few : nat_le (length items) most ≡ true
   pub good : AllGood IsGood [] items
 
+module _ {A : Type 0} (item_at : List A → List ℕ → Reading A) (spelling : A → List ℕ) (IsGood : List A → A → Type 0)
+    (part : (held : List A) → IsPart (item_at held) spelling (IsGood held)) (most : ℕ) (small : most < 256) where
+  counted_takes : (bytes : List ℕ) (x : List A) (rest : List ℕ) → IsBytes bytes → counted_at most item_at bytes ≡ Ok (x, rest)
+      → Takes bytes (counted spelling x) rest × AreCounted IsGood most x
+  counted_takes bytes x rest fits e =
+      let a = bind_ok (count_at most bytes) (λ count. items_at item_at count.0 [] count.1) (x, rest) e in
+      let t = (count_field most small).laws.part.takes bytes a.0.0 a.0.1 fits a.1 in
+      let u = items_take item_at spelling IsGood part a.0.0 [] a.0.1 x rest t.0.rest_fits a.2 in
+      let whole : Takes bytes (counted spelling u.later) rest =
+      subst (λ (n : ℕ). Takes bytes (n ∷ flat_map spelling u.later) rest) (sym u.so_many)
+      (Takes-then bytes (a.0.0 ∷ []) a.0.1 (flat_map spelling u.later) rest t.0 u.front) in
+      let few : nat_le (length u.later) most ≡ true = ap (λ (n : ℕ). nat_le n most) u.so_many ∙ t.1 in
+      subst (λ (y : List A). Takes bytes (counted spelling y) rest × AreCounted IsGood most y) (sym u.all_are)
+      (whole, record { few = few; good = u.good })
+
+  counted_again : (x : List A) (rest : List ℕ) → AreCounted IsGood most x → counted_at most item_at (counted spelling x ++ rest) ≡ Ok (x, rest)
+  counted_again x rest good =
+      ap (λ r. r >>= λ count. items_at item_at count.0 [] count.1) ((count_field most small).laws.part.again (length x) (flat_map spelling x ++ rest) good.few)
+      ∙ items_again item_at spelling IsGood part [] x rest good.good
+
 pub counted_field : {A : Type 0} (item_at : List A → List ℕ → Reading A) (spelling : A → List ℕ) (IsGood : List A → A → Type 0)
     → ((held : List A) → IsField (item_at held) spelling (IsGood held))
     → (most : ℕ) → most < 256 → IsField (counted_at most item_at) (counted spelling) (AreCounted IsGood most)
-counted_field {A = A} item_at spelling IsGood field most small = record { laws = record { part = record { takes = takes; again = again }; stays = stays }; no_tag = no_tag }
+counted_field {A = A} item_at spelling IsGood field most small = record {
+  laws = record {
+    part = record {
+      takes = counted_takes item_at spelling IsGood (λ held. (field held).laws.part) most small;
+      again = counted_again item_at spelling IsGood (λ held. (field held).laws.part) most small;
+    };
+    stays = stays;
+  };
+  no_tag = no_tag;
+}
   where
-    takes : (bytes : List ℕ) (x : List A) (rest : List ℕ) → IsBytes bytes → counted_at most item_at bytes ≡ Ok (x, rest)
-        → Takes bytes (counted spelling x) rest × AreCounted IsGood most x
-    takes bytes x rest fits e =
-        let a = bind_ok (count_at most bytes) (λ count. items_at item_at count.0 [] count.1) (x, rest) e in
-        let t = (count_field most small).laws.part.takes bytes a.0.0 a.0.1 fits a.1 in
-        let u = items_take item_at spelling IsGood (λ held. (field held).laws.part) a.0.0 [] a.0.1 x rest t.0.rest_fits a.2 in
-        let whole : Takes bytes (counted spelling u.later) rest =
-        subst (λ (n : ℕ). Takes bytes (n ∷ flat_map spelling u.later) rest) (sym u.so_many)
-        (Takes-then bytes (a.0.0 ∷ []) a.0.1 (flat_map spelling u.later) rest t.0 u.front) in
-        let few : nat_le (length u.later) most ≡ true = ap (λ (n : ℕ). nat_le n most) u.so_many ∙ t.1 in
-        subst (λ (y : List A). Takes bytes (counted spelling y) rest × AreCounted IsGood most y) (sym u.all_are)
-        (whole, record { few = few; good = u.good })
-
-    again : (x : List A) (rest : List ℕ) → AreCounted IsGood most x → counted_at most item_at (counted spelling x ++ rest) ≡ Ok (x, rest)
-    again x rest good =
-        ap (λ r. r >>= λ count. items_at item_at count.0 [] count.1) ((count_field most small).laws.part.again (length x) (flat_map spelling x ++ rest) good.few)
-        ∙ items_again item_at spelling IsGood (λ held. (field held).laws.part) [] x rest good.good
-
     stays : (bytes more : List ℕ) → Stays (counted_at most item_at bytes) (counted_at most item_at (bytes ++ more)) more
     stays bytes more =
         stays_bind (count_at most bytes) _ _ more ((count_field most small).laws.stays bytes more)
@@ -130,3 +142,30 @@ counted_field {A = A} item_at spelling IsGood field most small = record { laws =
     no_tag bytes =
         no_tag_bind (count_at most bytes) _ ((count_field most small).no_tag bytes)
         (λ count. items_no_tag item_at spelling IsGood field count.0 [] count.1)
+
+-- ---- items that are each good by itself, for callers
+
+pub all_good : {A : Type 0} (IsGood : A → Type 0) (held xs : List A) → AllGood (λ before. IsGood) held xs → AllByRecursion IsGood xs
+all_good IsGood held [] good = tt
+all_good IsGood held (x ∷ xs) good = (good.0, all_good IsGood (held ++ x ∷ []) xs good.1)
+
+pub good_all : {A : Type 0} (IsGood : A → Type 0) (held xs : List A) → AllByRecursion IsGood xs → AllGood (λ before. IsGood) held xs
+good_all IsGood held [] good = tt
+good_all IsGood held (x ∷ xs) good = (good.0, good_all IsGood (held ++ x ∷ []) xs good.1)
+
+pub counted_part : {A : Type 0} {item_at : List ℕ → Reading A} {spelling : A → List ℕ} {IsGood : A → Type 0} → IsPart item_at spelling IsGood
+    → (most : ℕ) → most < 256
+    → IsPart (counted_at most (alone item_at)) (counted spelling) (λ items. (nat_le (length items) most ≡ true) × AllByRecursion IsGood items)
+counted_part {A = A} {item_at = item_at} {spelling = spelling} {IsGood = IsGood} part most small = record { takes = takes; again = again }
+  where
+    takes : (bytes : List ℕ) (x : List A) (rest : List ℕ) → IsBytes bytes → counted_at most (alone item_at) bytes ≡ Ok (x, rest)
+        → Takes bytes (counted spelling x) rest × ((nat_le (length x) most ≡ true) × AllByRecursion IsGood x)
+    takes bytes x rest fits e =
+        let t = counted_takes (alone item_at) spelling (λ before. IsGood) (λ before. part) most small bytes x rest fits e in
+        (t.0, (t.1.few, all_good IsGood [] x t.1.good))
+
+    again : (x : List A) (rest : List ℕ) → ((nat_le (length x) most ≡ true) × AllByRecursion IsGood x)
+        → counted_at most (alone item_at) (counted spelling x ++ rest) ≡ Ok (x, rest)
+    again x rest good =
+        counted_again (alone item_at) spelling (λ before. IsGood) (λ before. part) most small x rest
+        (record { few = good.0; good = good_all IsGood [] x good.1 })

@@ -3,7 +3,7 @@ use Rattle.std.proofs.Common.{◌≡◌, ℕ, suc, ◌-◌, ◌+◌, ◌≤◌, 
 use Rattle.bytetext.specs.declared.failure.Failure.{Failure}
 use Rattle.bytetext.specs.declared.failure.Failure.TheVariants.{Refused, NoMemory}
 use Rattle.usercodec.specs.declared.fault.CodecFault.{CodecFault}
-use Rattle.usercodec.specs.Answers.{Tells}
+use Rattle.usercodec.specs.Answers.{Tells, MayTell, Fails}
 use Rattle.usercodec.specs.Fields.{Reading}
 use Rattle.usercodec.specs.Records.{items_at}
 
@@ -35,4 +35,27 @@ unfolding items_at
 is_done item_at count i held bytes total le so_far =
     let k : count - i ≡ 0 = omega arith in
     let one : items_at item_at (count - i) held bytes ≡ Ok (held, bytes) = rw k refl in
+    sym so_far ∙ one
+
+-- ---- items that are copied
+
+-- each item read by itself
+abbrev pub alone : {A : Type 0} → (List ℕ → Reading A) → List A → List ℕ → Reading A
+alone item_at held bytes = item_at bytes
+
+pub fails_told : {A : Type 0} (error : Failure CodecFault) (reading : Reading A) → Tells error reading → Fails error reading
+fails_told (Refused fault) reading told = told
+fails_told NoMemory reading told = tt
+
+pub fails_may : {A : Type 0} (error : Failure CodecFault) (reading : Reading A) → MayTell error reading → Fails error reading
+fails_may (Refused fault) reading told = told
+fails_may NoMemory reading told = tt
+
+pub fails : {A : Type 0} (item_at : List A → List ℕ → Reading A) (error : Failure CodecFault) (count i : ℕ) (held : List A) (bytes : List ℕ)
+    (total : Reading (List A)) → i < count → Fails error (item_at held bytes) → items_at item_at (count - i) held bytes ≡ total → Fails error total
+unfolding items_at
+fails item_at NoMemory count i held bytes total lt told so_far = tt
+fails item_at (Refused fault) count i held bytes total lt told so_far =
+    let k : count - i ≡ suc (count - (i + 1)) = omega arith in
+    let one : items_at item_at (count - i) held bytes ≡ Err fault = rw (k, told) refl in
     sym so_far ∙ one

@@ -11,3 +11,4 @@ pub mod NewLaws
 pub mod RecordLaws
 pub mod TagLaws
 pub mod ReaderLaws
+pub mod RecordLengths

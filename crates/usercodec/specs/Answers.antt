@@ -24,6 +24,15 @@ abbrev pub Makes : {A B : Type 0} → (A → B) → Result A (Failure CodecFault
 Makes view (Ok x) reading = reading ≡ Ok (view x)
 Makes view (Err failure) reading = MayTell failure reading
 
+-- a reader that copies one value after another may run out of memory before it comes to a fault
+abbrev pub Fails : {A : Type 0} → Failure CodecFault → Result A CodecFault → Type 0
+Fails (Refused fault) reading = reading ≡ Err fault
+Fails NoMemory reading = Unit {0}
+
+abbrev pub Finds : {A B : Type 0} → (A → B) → Result A (Failure CodecFault) → Result B CodecFault → Type 0
+Finds view (Ok x) reading = reading ≡ Ok (view x)
+Finds view (Err failure) reading = Fails failure reading
+
 -- what reading a whole value from some bytes answers: the value and how many bytes spell it, or the first fault
 abbrev pub Decodes : {A : Type 0} → List ℕ → Result (Decoded A) (Failure CodecFault) → Reading A → Type 0
 Decodes bytes (Ok read) reading = (read.used ≤ length bytes) × (reading ≡ Ok (read.value, drop read.used bytes))

@@ -107,3 +107,7 @@ unfoldable pub record_at : List ℕ → Reading Record
 record_at bytes = do
   tag ← byte_at bytes
   record_fields_at tag.0 tag.1
+
+-- so many records, one after the other
+abbrev pub so_many_records_at : ℕ → List ℕ → Reading (List Record)
+so_many_records_at count bytes = items_at (λ held after. record_at after) count [] bytes

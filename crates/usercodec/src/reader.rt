@@ -4,6 +4,7 @@ ghost use Rattle.std.specs.Prelude.{◌≡◌};
 use crate::change_fields::change;
 use crate::fault::{CodecError, CodecFault};
 use crate::fault_byte::fault_of_byte;
+use crate::record_lists::tagged_records;
 use crate::records::{Record, tagged_record};
 use bytetext::Failure;
 use flagexpr::Flags;
@@ -15,7 +16,8 @@ use userfile::{Change, ChangeFault, is_ban_channel, is_comment, is_handle, is_ho
 /// Reads fields from the front of some bytes, one after the other. Contracts see the bytes that are still to be read.
 ///
 /// Each call steps over the field that it answers; where it answers an error, the reader is as before. Numbers have
-/// their most significant byte first. Only [`change`](Reader::change) and [`record`](Reader::record) take memory.
+/// their most significant byte first. Only [`change`](Reader::change), [`record`](Reader::record) and
+/// [`records`](Reader::records) take memory.
 ///
 /// ```text
 /// let mut reader = Reader::new(b"\x00\x02\x07alice");
@@ -40,11 +42,11 @@ impl<'a> Model for Reader<'a> {
 impl<'a> Reader<'a> {
     ghost use Rattle.std.specs.Prelude.{◌≡◌, ◌↔◌, [], length, IfOk, OnErr, IsTrue};
     ghost use Rattle.std.specs.Int.{w16, w32};
-    ghost use Rattle.usercodec.specs.Answers.{Gives, Makes};
+    ghost use Rattle.usercodec.specs.Answers.{Gives, Makes, Finds};
     ghost use Rattle.usercodec.specs.Fields.{byte_at, bytes_at, number_at};
     ghost use Rattle.usercodec.specs.FaultBytes.{fault_at};
     ghost use Rattle.usercodec.specs.Changes.{change_at};
-    ghost use Rattle.usercodec.specs.Records.{record_at};
+    ghost use Rattle.usercodec.specs.Records.{record_at, so_many_records_at};
 
     /// A reader at the begin of some bytes.
     pub fn new(bytes: &'a [u8]) -> Reader<'a>
@@ -171,6 +173,21 @@ impl<'a> Reader<'a> {
         let value = tagged_record(alloc, &mut ahead)?;
         self.rest = ahead.rest;
         Ok(value)
+    }
+
+    /// So many records, one after the other.
+    ///
+    /// # Errors
+    /// `Refused` with the first fault of the bytes from the left. `NoMemory` where room for a record is refused: a fault
+    /// may then follow.
+    pub fn records(&mut self, alloc: Global, count: usize) -> Result<Vec<Record>, CodecError>
+        ensures value { Finds (λ records. (records.items, self.new)) result (so_many_records_at count self.old) }
+        ensures unchanged { OnErr result (self.new ≡ self.old) }
+    {
+        let mut ahead = Reader { rest: self.rest };
+        let records = tagged_records(alloc, &mut ahead, count)?;
+        self.rest = ahead.rest;
+        Ok(records)
     }
 }
 

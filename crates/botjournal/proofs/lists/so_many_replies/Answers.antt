@@ -2,7 +2,7 @@ use Rattle.std.proofs.Common.{[], refl}
 use Rattle.usercodec.specs.Records.{items_at}
 use Rattle.botjournal.specs.Bases.{reply_at}
 use Rattle.usercodec.proofs.ItemSteps.{goes_on, is_done}
-use Rattle.botjournal.proofs.ItemLaws.{alone, fails, fails_told}
+use Rattle.usercodec.proofs.ItemSteps.{alone, fails, fails_told}
 use Rattle.botjournal.proofs.lists.so_many_replies.Goals as goal
 
 pub returns-in-Err : goal.returns-in-Err

@@ -1,4 +1,4 @@
-use Rattle.std.proofs.Common.{◌≡◌, ◌<◌, ◌^◌, List, ℕ, length, refl, sym, ◌∙◌, subst}
+use Rattle.std.proofs.Common.{◌<◌, ◌^◌, List, ℕ, length, refl, sym, ◌∙◌, subst}
 use Rattle.std.specs.Prelude.{option_map}
 use Rattle.bytejournal.specs.Meaning.{rebased as rebased_text}
 use Rattle.bytejournal.specs.Journal.{HoldsOne, contents_of as texts_of}

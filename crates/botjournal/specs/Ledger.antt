@@ -1,0 +1,138 @@
+-- A ledger as contracts see it, and what its calls answer. What is said of the disks in its hands is its invariant.
+use Rattle.std.specs.Prelude.{◌≡◌, ◌≢◌, ◌⊎◌, ◌-◌, ◌^◌, ℕ, Bool, true, false, Option, None, Some, List, Result, Ok, Err}
+use Rattle.bytetext.specs.declared.failure.Failure.{Failure}
+use Rattle.bytetext.specs.declared.failure.Failure.TheVariants.{Refused, NoMemory}
+use Rattle.std.specs.List.{AllByRecursion}
+use Rattle.storage.specs.declared.disk.DiskFault.{DiskFault}
+use Rattle.storage.specs.State.{State, Rose}
+use Rattle.bytejournal.specs.declared.fault.JournalFault.{JournalFault}
+use Rattle.bytejournal.specs.declared.fault.JournalFault.TheVariants.{DiskFault as DiskFailed, NotAJournal, Spent, GenerationsSpent as NoMoreLeft}
+use Rattle.bytejournal.specs.declared.opening.Returned.{Returned}
+use Rattle.bytejournal.specs.Opening.{CannotCreate, Untouched}
+use Rattle.botjournal.specs.declared.base.Base.{Base}
+use Rattle.botjournal.specs.declared.entry.Entry.{Entry}
+use Rattle.botjournal.specs.declared.found.Found.{Found}
+use Rattle.botjournal.specs.declared.found.RebaseFault.{RebaseFault}
+use Rattle.botjournal.specs.declared.found.RebaseFault.TheVariants.{GenerationsSpent, DiskFault as AnyDiskFailed}
+use Rattle.botjournal.specs.Bases.{IsGoodBase}
+use Rattle.botjournal.specs.Entries.{IsGoodEntry}
+use Rattle.botjournal.specs.Contents.{Contents, added, rebased, new_contents, meaning}
+use Rattle.botjournal.specs.Journal.{IsEither}
+use Rattle.botjournal.specs.Recovery.{IsJournal}
+
+-- ---- what a ledger is
+
+-- what was being written when a disk failed: an entry more, or another base
+pub data Pending : Type 0 where
+  Adding : (entry : Entry) → Pending
+  Rebasing : (base : Base) → Pending
+
+-- what is kept, what is in doubt, and whether nothing is taken but a restart
+pub record Account : Type 0 where
+  pub contents : Contents
+  pub doubt : Option Pending
+  pub down : Bool
+
+-- how often each of the two disks has failed
+pub record Failures : Type 0 where
+  pub first : ℕ
+  pub second : ℕ
+
+pub record Ledger : Type 0 where
+  pub account : Account
+  pub failures : Failures
+
+-- the contents once this is written
+abbrev pub written : Pending → Contents → Contents
+written (Adding entry) contents = added entry contents
+written (Rebasing base) contents = rebased base contents
+
+abbrev pub written_if : Option Pending → Contents → Contents
+written_if None contents = contents
+written_if (Some pending) contents = written pending contents
+
+-- what is kept if what is in doubt counts
+abbrev pub counted : Account → Contents
+counted account = written_if account.doubt account.contents
+
+-- these contents, and nothing in doubt
+abbrev pub settled : Contents → Account
+settled contents = record { contents = contents; doubt = None; down = false }
+
+-- a disk failed between the one and the other
+abbrev pub Failed : Failures → Failures → Type 0
+Failed before now = Rose before.first now.first ⊎ Rose before.second now.second
+
+-- a disk failed while this was written
+abbrev pub FailsAt : Pending → Ledger → Ledger → Type 0
+FailsAt pending old new =
+    (new.account ≡ record { contents = old.account.contents; doubt = Some pending; down = true }) × Failed old.failures new.failures
+
+-- this was written
+abbrev pub Writes : Pending → Ledger → Ledger → Type 0
+Writes pending old new =
+    new.account ≡ record { contents = written pending old.account.contents; doubt = old.account.doubt; down = old.account.down }
+
+-- ---- what the calls answer
+
+-- Appending an entry, by cases on the answer.
+abbrev pub Appends : Ledger → Entry → Result (Unit {0}) (Failure DiskFault) → Ledger → Type 0
+Appends old entry (Ok _) new = Writes (Adding entry) old new
+Appends old entry (Err (Refused _)) new = FailsAt (Adding entry) old new
+Appends old entry (Err NoMemory) new = new ≡ old
+
+-- Putting another base in place, by cases on the answer.
+abbrev pub Rebases : Ledger → Base → Result (Unit {0}) (Failure RebaseFault) → Ledger → Type 0
+Rebases old base (Ok _) new = Writes (Rebasing base) old new
+Rebases old base (Err (Refused GenerationsSpent)) new = (old.account.contents.generation ≡ 2 ^ 32 - 1) × (new ≡ old)
+Rebases old base (Err (Refused AnyDiskFailed)) new = FailsAt (Rebasing base) old new
+Rebases old base (Err NoMemory) new = (old.account.contents.generation ≢ 2 ^ 32 - 1) × (new ≡ old)
+
+-- what was found is the base and entries of these contents
+abbrev pub IsFound : Found → Contents → Type 0
+IsFound found contents = (found.base ≡ contents.base) × (found.entries ≡ contents.entries)
+
+-- all stays, but nothing is taken until the next restart
+abbrev pub StaysDown : Ledger → Ledger → Type 0
+StaysDown old new = new.account ≡ record { contents = old.account.contents; doubt = old.account.doubt; down = true }
+
+-- A restart, by cases on the answer.
+abbrev pub Restarts : Ledger → Result Found (Failure DiskFault) → Ledger → Type 0
+Restarts old (Ok found) new =
+    ((new.account ≡ settled old.account.contents) ⊎ (new.account ≡ settled (counted old.account))) × IsFound found new.account.contents
+Restarts old (Err (Refused _)) new = StaysDown old new × Failed old.failures new.failures
+Restarts old (Err NoMemory) new = StaysDown old new
+
+-- ---- disks that are given and handed back
+
+module _ {D : Type 0} (state : D → State) where
+  -- whatever a crash leaves on the disks means what is kept, or that with what is in doubt, and all gates are there
+  abbrev pub Leaves : D → D → Account → Type 0
+  Leaves first second account = (x y : List ℕ) → (state first).may_leave x → (state second).may_leave y
+      → IsEither (Some account.contents) (Some (counted account)) x y
+
+  -- Making a ledger, by cases on the answer.
+  abbrev pub Creates : D → D → Base → Result Ledger (Returned D) → Type 0
+  Creates first second base (Ok ledger) = ledger.account ≡ settled (new_contents base)
+  Creates first second base (Err returned) =
+      CannotCreate (state first) (state second) returned.error (state returned.disks.first) (state returned.disks.second)
+
+  -- why a ledger wasn't opened
+  abbrev pub Refuses : D → D → Failure JournalFault → D → D → Type 0
+  Refuses first second (Refused DiskFailed) first' second' =
+      Rose (state first).failed (state first').failed ⊎ Rose (state second).failed (state second').failed
+  Refuses first second (Refused NotAJournal) first' second' = IsJournal (state first).seen (state second).seen → ⊥
+  Refuses first second (Refused Spent) first' second' = ⊥
+  Refuses first second (Refused NoMoreLeft) first' second' = ⊥
+  Refuses first second NoMemory first' second' = Unit {0}
+
+  -- Opening a ledger, by cases on the answer.
+  abbrev pub Opens : D → D → Result (Ledger × Found) (Returned D) → Type 0
+  Opens first second (Ok opened) = (meaning (state first).seen (state second).seen ≡ Some opened.0.account.contents)
+      × (opened.0.account ≡ settled opened.0.account.contents) × IsFound opened.1 opened.0.account.contents
+  Opens first second (Err returned) = Refuses first second returned.error returned.disks.first returned.disks.second
+      × Untouched (state first) (state returned.disks.first) × Untouched (state second) (state returned.disks.second)
+
+-- what was found has spellings, and may be written again
+abbrev pub IsGoodFound : Found → Type 0
+IsGoodFound found = IsGoodBase found.base × AllByRecursion IsGoodEntry found.entries

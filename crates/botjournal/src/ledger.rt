@@ -1,0 +1,247 @@
+// A bot's journal that outlives a fault of its disks.
+ghost use Rattle.std.specs.Prelude.{◌≡◌, ◌↔◌, ◌-◌, ◌^◌, IsTrue, IfOk, false};
+ghost use Rattle.storage.specs.State.{IsSettled};
+ghost use Rattle.botjournal.specs.Bases.{IsGoodBase};
+ghost use Rattle.botjournal.specs.Entries.{IsGoodEntry};
+ghost use Rattle.botjournal.specs.Ledger.{Creates, Opens, Appends, Rebases, Restarts, Leaves, IsGoodFound, settled};
+ghost use Rattle.botjournal.specs.Journal.{IsAtRest, IsGoodOpened, contents_of};
+ghost use Rattle.botjournal.specs.Stores.{OpensAgain, read_error, shown};
+
+use crate::base::Base;
+use crate::entry::Entry;
+use crate::found::{Found, LedgerError, RebaseError, RebaseFault};
+use crate::journal::Journal;
+use crate::opening::Opened;
+use crate::store::{Doubt, Store};
+use bytejournal::{Disks, JournalError, JournalFault, Returned};
+use bytetext::Failure;
+use std::alloc::Global;
+use std::marker::Model;
+use std::mem;
+use std::snapshot::Snapshot;
+use storage::{Disk, DiskFault};
+
+/// A bot's base and the entries appended since, on two disks that may fail.
+#[derive(Drop)]
+pub struct Ledger<D: Disk> {
+    store: Store<D>,
+    /// The journal as it last was at rest, for contracts alone.
+    rested: Snapshot<Journal<D>>,
+    doubt: Option<Doubt>,
+    down: bool,
+}
+
+impl<D: Disk> Model for Ledger<D> {
+    ghost use Rattle.botjournal.specs.Ledger.{Ledger};
+
+    ghost Value = { Ledger };
+
+    ghost use Rattle.botjournal.specs.Stores.{Stands, account_of, failures_of};
+
+    ghost view = { λ l. record {
+      account = account_of D.state l.rested.value l.doubt l.down;
+      failures = failures_of D.state l.store;
+    } };
+
+    ghost invariant = { λ l. Stands D.state l.down l.store (account_of D.state l.rested.value l.doubt l.down) };
+}
+
+impl<D: Disk> Ledger<D> {
+    /// Makes a ledger with this base and no entry, in generation 1. What the disks held is lost.
+    ///
+    /// # Errors
+    /// With the disks: `NoMemory` where room is refused: nothing was written. `DiskFault` where a disk failed: what the
+    /// disks hold is then unknown.
+    pub fn create(alloc: Global, first: D, second: D, base: &Base) -> Result<Ledger<D>, Returned<D>>
+        requires first_settled { IsSettled (D.state first) }
+        requires second_settled { IsSettled (D.state second) }
+        requires good { IsGoodBase base.now }
+        ensures row { Creates D.state first second base.now result }
+    {
+        match Journal::create(alloc, first, second, base) {
+            Ok(journal) => Ok(Ledger::at_rest(journal)),
+            Err(returned) => Err(returned),
+        }
+    }
+
+    /// Opens the ledger on two disks. Nothing is written.
+    ///
+    /// # Errors
+    /// With the disks as they were: `DiskFault` where a read failed; `NotAJournal` where the disks don't hold a journal,
+    /// or one of its gates is missing, which no disk lacks that `create` made; `NoMemory` where room for what they hold
+    /// is refused.
+    pub fn open(alloc: Global, first: D, second: D) -> Result<(Ledger<D>, Found), Returned<D>>
+        requires first_settled { IsSettled (D.state first) }
+        requires second_settled { IsSettled (D.state second) }
+        ensures row { Opens D.state first second result }
+        // What it holds may be appended and put in place again.
+        ensures good { IfOk result (λ opened. IsGoodFound opened.1) }
+    {
+        match Journal::open(alloc, first, second) {
+            Ok(opened) => {
+                if !opened.whole {
+                    return Err(Returned {
+                        error: Failure::Refused(JournalFault::NotAJournal),
+                        disks: opened.journal.into_disks(),
+                    });
+                }
+                let found = Found {
+                    base: opened.base,
+                    entries: opened.entries,
+                };
+                Ok((Ledger::at_rest(opened.journal), found))
+            }
+            Err(returned) => Err(returned),
+        }
+    }
+
+    fn at_rest(journal: Journal<D>) -> Ledger<D>
+        requires going { journal.spent ≡ false }
+        requires rest { IsAtRest D.state journal }
+        ensures shows { result.account ≡ settled (shown (contents_of D.state journal)) }
+    {
+        Ledger {
+            rested: Snapshot::of(&journal),
+            store: Store::Open(journal),
+            doubt: None,
+            down: false,
+        }
+    }
+
+    /// Appends an entry. At `Ok` it is kept: from then on each crash leaves it.
+    ///
+    /// # Errors
+    /// `NoMemory` where room is refused: nothing was written. `DiskFault` where a disk failed in this call: the ledger is
+    /// down, and the entry in doubt until a restart tells.
+    pub fn append(&mut self, alloc: Global, entry: &Entry) -> Result<(), LedgerError>
+        requires up { self.old.account.down ≡ false }
+        requires good { IsGoodEntry entry.now }
+        ensures row { Appends self.old entry.now result self.new }
+    {
+        let Store::Open(journal) = &mut self.store else {
+            unreachable!();
+        };
+        match journal.append(alloc, entry) {
+            Ok(()) => {
+                self.rested = Snapshot::of(journal);
+                Ok(())
+            }
+            Err(Failure::NoMemory) => Err(Failure::NoMemory),
+            Err(Failure::Refused(_)) => {
+                self.doubt = Some(Doubt::Adding(Snapshot::of(entry)));
+                self.down = true;
+                Err(Failure::Refused(DiskFault))
+            }
+        }
+    }
+
+    /// Puts a base in the place of the base and its entries, in the next generation. At `Ok` it is kept.
+    ///
+    /// # Errors
+    /// `GenerationsSpent` where the generations are used up: nothing was written. `NoMemory` where room is refused:
+    /// nothing was written. `DiskFault` where a disk failed in this call: the ledger is down, and the base in doubt until
+    /// a restart tells.
+    pub fn rebase(&mut self, alloc: Global, base: &Base) -> Result<(), RebaseError>
+        requires up { self.old.account.down ≡ false }
+        requires good { IsGoodBase base.now }
+        ensures row { Rebases self.old base.now result self.new }
+    {
+        let Store::Open(journal) = &mut self.store else {
+            unreachable!();
+        };
+        if journal.generations_spent() {
+            return Err(Failure::Refused(RebaseFault::GenerationsSpent));
+        }
+        match journal.rebase(alloc, base) {
+            Ok(()) => {
+                self.rested = Snapshot::of(journal);
+                Ok(())
+            }
+            Err(Failure::NoMemory) => Err(Failure::NoMemory),
+            Err(Failure::Refused(_)) => {
+                self.doubt = Some(Doubt::Rebasing(Snapshot::of(base)));
+                self.down = true;
+                Err(Failure::Refused(RebaseFault::DiskFault))
+            }
+        }
+    }
+
+    /// Whether the generation is the last one, so that `rebase` would be refused for it. Where the ledger is down
+    /// nothing is said of the answer.
+    pub fn generations_spent(&self) -> bool
+        ensures { self.now.account.down ≡ false → IsTrue result ↔ (self.now.account.contents.generation ≡ 2 ^ 32 - 1) }
+    {
+        match &self.store {
+            Store::Open(journal) => journal.generations_spent(),
+            Store::Shut(_) | Store::InHand => false,
+        }
+    }
+
+    /// Crashes both disks, as where the program that used them ended, and opens what that left. A ledger that is down is
+    /// up again at `Ok`, and nothing is in doubt any more.
+    ///
+    /// # Errors
+    /// `DiskFault` where a read failed, `NoMemory` where room for what the disks hold is refused. The ledger is down, and
+    /// what was in doubt still is.
+    pub fn restart(&mut self, alloc: Global) -> Result<Found, LedgerError>
+        ensures row { Restarts self.old result self.new }
+        // What it holds may be appended and put in place again.
+        ensures good { IfOk result IsGoodFound }
+    {
+        let disks = mem::replace(&mut self.store, Store::InHand).into_disks();
+        match open_again(alloc, disks) {
+            Ok(opened) => {
+                self.rested = Snapshot::of(&opened.journal);
+                self.store = Store::Open(opened.journal);
+                self.doubt = None;
+                self.down = false;
+                Ok(Found {
+                    base: opened.base,
+                    entries: opened.entries,
+                })
+            }
+            Err(returned) => {
+                self.store = Store::Shut(returned.disks);
+                self.down = true;
+                Err(read_error(returned.error))
+            }
+        }
+    }
+
+    /// The two disks, in the order in which they were given.
+    pub fn into_disks(self) -> Disks<D>
+        // A crash leaves on them what is kept, or that with what is in doubt.
+        ensures left { Leaves D.state result.first result.second self.account }
+    {
+        self.store.into_disks()
+    }
+
+    /// Whether nothing is taken but a restart.
+    pub fn is_down(&self) -> bool
+        ensures { result ≡ self.now.account.down }
+    {
+        self.down
+    }
+}
+
+// Crashes both disks, and opens the journal on what that left.
+fn open_again<D: Disk>(alloc: Global, disks: Disks<D>) -> Result<Opened<D>, Returned<D>>
+    ensures row { OpensAgain D.state disks.first disks.second result }
+    ensures good { IfOk result IsGoodOpened }
+{
+    let mut first = disks.first;
+    let mut second = disks.second;
+    first.reopen();
+    second.reopen();
+    Journal::open(alloc, first, second)
+}
+
+// Why the disks could not be read.
+fn read_error(error: JournalError) -> LedgerError
+    ensures { result ≡ read_error error }
+{
+    match error {
+        Failure::Refused(_) => Failure::Refused(DiskFault),
+        Failure::NoMemory => Failure::NoMemory,
+    }
+}

@@ -1,0 +1,7 @@
+use Rattle.std.proofs.Common.{◌≡◌, ◌-◌}
+use Rattle.usercodec.specs.Records.{items_at, record_at, so_many_records_at}
+use Rattle.usercodec.proofs.record_lists.tagged_records.Given as goal
+
+-- those so far and those that are left are all of them
+abbrev pub invariant-loop : goal.invariant-loop
+invariant-loop l = items_at (λ held bytes. record_at bytes) (l.count - l.counter) l.records.items l.reader ≡ so_many_records_at l.count l.fn.reader

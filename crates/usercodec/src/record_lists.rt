@@ -1,0 +1,42 @@
+// Several records, one after the other.
+ghost use Rattle.std.specs.Prelude.{◌≡◌, ◌++◌, OnOk};
+ghost use Rattle.std.specs.List.{AllByRecursion, flat_map};
+ghost use Rattle.usercodec.specs.Answers.{Finds};
+ghost use Rattle.usercodec.specs.Records.{record_bytes, HasShape, so_many_records_at};
+
+use crate::fault::CodecError;
+use crate::reader::Reader;
+use crate::records::{Record, put_record, tagged_record};
+use bytetext::NoMemory;
+use std::alloc::Global;
+
+/// Writes the one spelling of each record after some bytes, one after the other. How many there are is not written.
+///
+/// # Errors
+/// `NoMemory` where room for them is refused; a part of them may then stand after the bytes.
+pub fn put_records(out: &mut Vec<u8>, records: &[Record]) -> Result<(), NoMemory>
+    requires { AllByRecursion HasShape records.now }
+    ensures { OnOk result (out.new.items ≡ out.old.items ++ flat_map record_bytes records.now) }
+{
+    for value in records {
+        put_record(out, value)?;
+    }
+    Ok(())
+}
+
+pub(crate) fn tagged_records(
+    alloc: Global,
+    reader: &mut Reader<'_>,
+    count: usize,
+) -> Result<Vec<Record>, CodecError>
+    ensures { Finds (λ records. (records.items, reader.new)) result (so_many_records_at count reader.old) }
+{
+    let mut records = Vec::new(alloc);
+    for _ in 0..count {
+        match tagged_record(alloc, reader) {
+            Ok(value) => records.push(value)?,
+            Err(error) => return Err(error),
+        }
+    }
+    Ok(records)
+}
