@@ -25,7 +25,7 @@ pub data Packet : Type 0 where
   -- the part of this number, of so many, of the records at a version
   Part : (version part count : ℕ) → List Record → Packet
 
--- the packet that has this frame; a part has none as yet
+-- the packet that has this frame
 abbrev pub from_wire : WirePacket → Packet
 from_wire (wire.Hello leaf version) = Hello leaf version
 from_wire (wire.Change number origin request change) = Change number origin request change
@@ -33,6 +33,7 @@ from_wire (wire.Request leaf request change) = Request leaf request change
 from_wire (wire.Accepted leaf request number) = Accepted leaf request number
 from_wire (wire.Refused leaf request fault) = Refused leaf request fault
 from_wire (wire.BotText from to text) = BotText from to text
+from_wire (wire.Part version part count records) = Part version part count records
 
 -- a packet, and the bot that it goes to
 pub record Outgoing : Type 0 where

@@ -175,7 +175,8 @@ impl HubLink {
             Packet::Change { .. }
             | Packet::Request { .. }
             | Packet::Accepted { .. }
-            | Packet::Refused { .. } => Ok(Answer::only(alloc, Note::Stray)),
+            | Packet::Refused { .. }
+            | Packet::Part { .. } => Ok(Answer::only(alloc, Note::Stray)),
         }
     }
 

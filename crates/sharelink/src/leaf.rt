@@ -124,7 +124,8 @@ impl LeafLink {
             Packet::Hello { .. }
             | Packet::Request { .. }
             | Packet::Accepted { .. }
-            | Packet::Refused { .. } => Ok(Answer::only(alloc, Note::Stray)),
+            | Packet::Refused { .. }
+            | Packet::Part { .. } => Ok(Answer::only(alloc, Note::Stray)),
         }
     }
 

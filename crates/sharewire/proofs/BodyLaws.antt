@@ -1,22 +1,24 @@
 -- Bodies of each kind: what is read is spelled so, and what is spelled so is read.
-use Rattle.std.proofs.Common.{◌≡◌, ℕ, ◌^◌, ◌<◌, true, List, [], ◌∷◌, ◌++◌, Some, Ok, Err, refl, sym, ap, subst, ◌∙◌}
+use Rattle.std.proofs.Common.{◌≡◌, ℕ, ◌^◌, ◌<◌, true, List, [], ◌∷◌, ◌++◌, Some, Ok, Err, refl, sym, ap, subst, ◌∙◌, arith}
 use Rattle.std.specs.Int.{w16, w32}
 use Rattle.std.proofs.lemmas.List.{append-nil}
 use Rattle.usercodec.specs.declared.fault.CodecFault.{CodecFault}
-use Rattle.usercodec.specs.Fields.{number, Reading, number_at}
+use Rattle.usercodec.specs.Fields.{number, counted, Reading, byte_at, number_at}
+use Rattle.usercodec.specs.Records.{record_bytes}
+use Rattle.usercodec.proofs.ItemLaws.{counted_part}
 use Rattle.usercodec.specs.Changes.{both, made, change_at, change_bytes, IsGoodChange}
 use Rattle.usercodec.proofs.Steps.{IsBytes, bind_ok, ok_is, Takes}
 use Rattle.sharewire.specs.declared.kind.Kind.{Kind}
-use Rattle.sharewire.specs.declared.kind.Kind.TheVariants.{Hello as hello, Change as change, Request as request, Accepted as accepted, Refused as refused, BotText as bot_text}
+use Rattle.sharewire.specs.declared.kind.Kind.TheVariants.{Hello as hello, Change as change, Part as part, Request as request, Accepted as accepted, Refused as refused, BotText as bot_text}
 use Rattle.sharewire.specs.declared.packet.Packet.{Packet}
-use Rattle.sharewire.specs.declared.packet.Packet.TheVariants.{Hello, Change, Request, Accepted, Refused, BotText}
+use Rattle.sharewire.specs.declared.packet.Packet.TheVariants.{Hello, Change, Part, Request, Accepted, Refused, BotText}
 use Rattle.sharewire.specs.Kinds.{kind_byte, kind_from, kind_of}
 use Rattle.usercodec.specs.FaultBytes.{fault_byte, fault_at}
 use Rattle.sharewire.specs.Texts.{is_bot_text}
-use Rattle.sharewire.specs.Frames.{long_text, body_of, inside, IsGoodPacket}
-use Rattle.sharewire.specs.Bodies.{bot_text_at, hello_at, change_packet_at, request_at, accepted_at, refused_at, bot_text_packet_at, body_at}
+use Rattle.sharewire.specs.Frames.{long_text, body_of, inside, HoldsPart, IsGoodPacket}
+use Rattle.sharewire.specs.Bodies.{bot_text_at, part_records_at, hello_at, change_packet_at, part_at, request_at, accepted_at, refused_at, bot_text_packet_at, body_at}
 use Rattle.usercodec.proofs.PartLaws.{IsPart, both_part}
-use Rattle.usercodec.proofs.ReaderLaws.{u16_part, u32_part, change_part, fault_part, some_is}
+use Rattle.usercodec.proofs.ReaderLaws.{byte_part, u16_part, u32_part, record_part, change_part, fault_part, some_is}
 use Rattle.sharewire.proofs.LongTextLaws.{bot_text_part}
 
 -- ---- the fields of each kind
@@ -27,6 +29,15 @@ hello_part = both_part u16_part u32_part
 request_part : IsPart (both (number_at w16) (both (number_at w32) change_at)) (λ x. number w16 x.0 ++ (number w32 x.1.0 ++ change_bytes x.1.1))
     (λ x. (x.0 < 2 ^ 16) × ((x.1.0 < 2 ^ 32) × IsGoodChange x.1.1))
 request_part = both_part u16_part (both_part u32_part change_part)
+
+part_records_part : IsPart part_records_at (counted record_bytes) HoldsPart
+unfolding part_records_at
+part_records_part = counted_part record_part 8 (omega arith)
+
+part_part : IsPart (both (number_at w32) (both byte_at (both byte_at part_records_at)))
+    (λ x. number w32 x.0 ++ ((x.1.0 ∷ []) ++ ((x.1.1.0 ∷ []) ++ counted record_bytes x.1.1.1)))
+    (λ x. (x.0 < 2 ^ 32) × ((x.1.0 < 2 ^ 8) × ((x.1.1.0 < 2 ^ 8) × HoldsPart x.1.1.1)))
+part_part = both_part u32_part (both_part byte_part (both_part byte_part part_records_part))
 
 change_packet_part : IsPart (both (number_at w32) (both (number_at w16) (both (number_at w32) change_at)))
     (λ x. number w32 x.0 ++ (number w16 x.1.0 ++ (number w32 x.1.1.0 ++ change_bytes x.1.1.1)))
@@ -57,19 +68,21 @@ made_takes : {A : Type 0} {read : List ℕ → Reading A} {spelling : A → List
     → IsPart read spelling IsGood → ((x : A) → body_of (packet_of x) ≡ spelling x) → ((x : A) → IsGood x → IsGoodPacket (packet_of x))
     → ((x : A) → kind_of (packet_of x) ≡ kind)
     → (bytes : List ℕ) (packet : Packet) (rest : List ℕ) → IsBytes bytes → made packet_of (read bytes) ≡ Ok (packet, rest) → IsTaken kind bytes packet rest
-made_takes {read = read} packet_of kind part spelled good kinds bytes packet rest fits e =
+made_takes {read = read} packet_of kind fields spelled good kinds bytes packet rest fits e =
     let a = bind_ok (read bytes) (λ x. Ok (packet_of x.0, x.1)) (packet, rest) e in
-    let t = part.takes bytes a.0.0 a.0.1 fits a.1 in
+    let t = fields.takes bytes a.0.0 a.0.1 fits a.1 in
     let same = ok_is (packet_of a.0.0, a.0.1) (packet, rest) a.2 in
     let took : Takes bytes (body_of (packet_of a.0.0)) a.0.1 = subst (λ (b : List ℕ). Takes bytes b a.0.1) (sym (spelled a.0.0)) t.0 in
     subst (λ (p : Packet × List ℕ). IsTaken kind bytes p.0 p.1) same (record { took = took; good = good a.0.0 t.1; of_kind = kinds a.0.0 })
 
 pub body_takes : (kind : Kind) (bytes : List ℕ) (packet : Packet) (rest : List ℕ) → IsBytes bytes → body_at kind bytes ≡ Ok (packet, rest)
     → IsTaken kind bytes packet rest
-unfolding hello_at change_packet_at request_at accepted_at refused_at bot_text_packet_at
+unfolding hello_at change_packet_at part_at request_at accepted_at refused_at bot_text_packet_at
 body_takes hello bytes packet rest fits e = made_takes (λ x. Hello x.0 x.1) hello hello_part (λ x. refl) (λ x g. g) (λ x. refl) bytes packet rest fits e
 body_takes change bytes packet rest fits e =
     made_takes (λ x. Change x.0 x.1.0 x.1.1.0 x.1.1.1) change change_packet_part (λ x. refl) (λ x g. g) (λ x. refl) bytes packet rest fits e
+body_takes part bytes packet rest fits e =
+    made_takes (λ x. Part x.0 x.1.0 x.1.1.0 x.1.1.1) part part_part (λ x. refl) (λ x g. g) (λ x. refl) bytes packet rest fits e
 body_takes request bytes packet rest fits e =
     made_takes (λ x. Request x.0 x.1.0 x.1.1) request request_part (λ x. refl) (λ x g. g) (λ x. refl) bytes packet rest fits e
 body_takes accepted bytes packet rest fits e =
@@ -80,10 +93,12 @@ body_takes bot_text bytes packet rest fits e =
     made_takes (λ x. BotText x.0 x.1.0 x.1.1) bot_text bot_text_packet_part (λ x. refl) (λ x g. g) (λ x. refl) bytes packet rest fits e
 
 pub body_again : (packet : Packet) (rest : List ℕ) → IsGoodPacket packet → body_at (kind_of packet) (body_of packet ++ rest) ≡ Ok (packet, rest)
-unfolding hello_at change_packet_at request_at accepted_at refused_at bot_text_packet_at
+unfolding hello_at change_packet_at part_at request_at accepted_at refused_at bot_text_packet_at
 body_again (Hello leaf version) rest good = ap (made (λ x. Hello x.0 x.1)) (hello_part.again (leaf, version) rest good)
 body_again (Change n origin r c) rest good =
     ap (made (λ x. Change x.0 x.1.0 x.1.1.0 x.1.1.1)) (change_packet_part.again (n, (origin, (r, c))) rest good)
+body_again (Part version n count records) rest good =
+    ap (made (λ x. Part x.0 x.1.0 x.1.1.0 x.1.1.1)) (part_part.again (version, (n, (count, records))) rest good)
 body_again (Request leaf r c) rest good = ap (made (λ x. Request x.0 x.1.0 x.1.1)) (request_part.again (leaf, (r, c)) rest good)
 body_again (Accepted leaf r n) rest good = ap (made (λ x. Accepted x.0 x.1.0 x.1.1)) (accepted_part.again (leaf, (r, n)) rest good)
 body_again (Refused leaf r fault) rest good =
@@ -95,6 +110,7 @@ body_again (BotText from to text) rest good = ap (made (λ x. BotText x.0 x.1.0 
 pub kind_from-byte : (kind : Kind) → kind_from (kind_byte kind) ≡ Some kind
 kind_from-byte hello = refl
 kind_from-byte change = refl
+kind_from-byte part = refl
 kind_from-byte request = refl
 kind_from-byte accepted = refl
 kind_from-byte refused = refl

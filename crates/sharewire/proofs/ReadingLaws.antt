@@ -12,7 +12,7 @@ use Rattle.sharewire.specs.declared.limits.TheConstants.{MAX_LENGTH}
 use Rattle.sharewire.specs.declared.fault.WireFault.{WireFault}
 use Rattle.sharewire.specs.declared.fault.WireFault.TheVariants.{BadLength, BadKind, BadBody}
 use Rattle.sharewire.specs.declared.kind.Kind.{Kind}
-use Rattle.sharewire.specs.declared.kind.Kind.TheVariants.{Hello as hello, Change as change, Request as request, Accepted as accepted, Refused as refused, BotText as bot_text}
+use Rattle.sharewire.specs.declared.kind.Kind.TheVariants.{Hello as hello, Change as change, Part as part, Request as request, Accepted as accepted, Refused as refused, BotText as bot_text}
 use Rattle.sharewire.specs.declared.packet.Packet.{Packet}
 use Rattle.sharewire.specs.Kinds.{kind_byte, kind_from}
 use Rattle.sharewire.specs.Frames.{inside, frame, IsGoodPacket}
@@ -36,19 +36,23 @@ kind_byte-from byte x e =
           elim (chosen (eqb byte 2) _ _ _ p.1) [
             | inl p ↦ byte_is byte 2 change x p.0 p.1 refl
             | inr p ↦
-                elim (chosen (eqb byte 4) _ _ _ p.1) [
-                  | inl p ↦ byte_is byte 4 request x p.0 p.1 refl
+                elim (chosen (eqb byte 3) _ _ _ p.1) [
+                  | inl p ↦ byte_is byte 3 part x p.0 p.1 refl
                   | inr p ↦
-                      elim (chosen (eqb byte 5) _ _ _ p.1) [
-                        | inl p ↦ byte_is byte 5 accepted x p.0 p.1 refl
+                      elim (chosen (eqb byte 4) _ _ _ p.1) [
+                        | inl p ↦ byte_is byte 4 request x p.0 p.1 refl
                         | inr p ↦
-                            elim (chosen (eqb byte 6) _ _ _ p.1) [
-                              | inl p ↦ byte_is byte 6 refused x p.0 p.1 refl
+                            elim (chosen (eqb byte 5) _ _ _ p.1) [
+                              | inl p ↦ byte_is byte 5 accepted x p.0 p.1 refl
                               | inr p ↦
-                                  elim (chosen (eqb byte 7) _ _ _ p.1) [
-                                    | inl p ↦ byte_is byte 7 bot_text x p.0 p.1 refl
+                                  elim (chosen (eqb byte 6) _ _ _ p.1) [
+                                    | inl p ↦ byte_is byte 6 refused x p.0 p.1 refl
                                     | inr p ↦
-                                        absurd (none_is x p.1)
+                                        elim (chosen (eqb byte 7) _ _ _ p.1) [
+                                          | inl p ↦ byte_is byte 7 bot_text x p.0 p.1 refl
+                                          | inr p ↦
+                                              absurd (none_is x p.1)
+                                        ]
                                   ]
                             ]
                       ]

@@ -7,7 +7,7 @@ use Rattle.usercodec.proofs.Steps.{ok_is}
 use Rattle.sharewire.specs.declared.fault.WireFault.{WireFault}
 use Rattle.sharewire.specs.declared.fault.WireFault.TheVariants.{BadLength, BadKind, BadBody, Failed}
 use Rattle.sharewire.specs.declared.packet.Packet.{Packet}
-use Rattle.sharewire.specs.declared.packet.Packet.TheVariants.{Hello, Change, Request, Accepted, Refused, BotText}
+use Rattle.sharewire.specs.declared.packet.Packet.TheVariants.{Hello, Change, Part, Request, Accepted, Refused, BotText}
 use Rattle.sharewire.specs.Kinds.{kind_from, kind_of}
 use Rattle.sharewire.specs.Frames.{body_of, inside, frame, CanBeWritten, IsGoodPacket}
 use Rattle.sharewire.specs.Streams.{kind_in, IsLength, IsUnfinished, HasFault, Ending, Ends, Tells}
@@ -53,6 +53,7 @@ one_ending (Err a) (Err b) rest p q = ap (λ (f : WireFault). Err f) (one_fault 
 good_can : (packet : Packet) → IsGoodPacket packet → CanBeWritten packet
 good_can (Hello leaf version) good = tt
 good_can (Change n origin r c) good = good.1.1.1.shape
+good_can (Part version n count records) good = good.1.1.1
 good_can (Request leaf r c) good = good.1.1.shape
 good_can (Accepted leaf r n) good = tt
 good_can (Refused leaf r fault) good = tt

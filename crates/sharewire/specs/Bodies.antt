@@ -1,12 +1,15 @@
 -- What reading a packet's body answers.
 use Rattle.std.specs.Prelude.{ℕ, List}
 use Rattle.std.specs.Int.{w16, w32}
-use Rattle.usercodec.specs.Fields.{Reading, ◌>>=◌, checked, bytes_at, number_at}
+use Rattle.usercodec.specs.Fields.{Reading, ◌>>=◌, checked, byte_at, bytes_at, number_at}
+use Rattle.usercodec.specs.declared.records.Record.{Record}
+use Rattle.usercodec.specs.Records.{counted_at, record_at}
+use Rattle.sharewire.specs.declared.limits.TheConstants.{MAX_PART_RECORDS}
 use Rattle.usercodec.specs.Changes.{both, made, change_at}
 use Rattle.sharewire.specs.declared.kind.Kind.{Kind}
-use Rattle.sharewire.specs.declared.kind.Kind.TheVariants.{Hello as hello, Change as change, Request as request, Accepted as accepted, Refused as refused, BotText as bot_text}
+use Rattle.sharewire.specs.declared.kind.Kind.TheVariants.{Hello as hello, Change as change, Part as part, Request as request, Accepted as accepted, Refused as refused, BotText as bot_text}
 use Rattle.sharewire.specs.declared.packet.Packet.{Packet}
-use Rattle.sharewire.specs.declared.packet.Packet.TheVariants.{Hello, Change, Request, Accepted, Refused, BotText}
+use Rattle.sharewire.specs.declared.packet.Packet.TheVariants.{Hello, Change, Part, Request, Accepted, Refused, BotText}
 use Rattle.usercodec.specs.FaultBytes.{fault_at}
 use Rattle.sharewire.specs.Texts.{is_bot_text}
 
@@ -20,6 +23,10 @@ long_text_at bytes = do
 unfoldable pub bot_text_at : List ℕ → Reading (List ℕ)
 bot_text_at bytes = checked is_bot_text (long_text_at bytes)
 
+-- the records of one part, after their count
+unfoldable pub part_records_at : List ℕ → Reading (List Record)
+part_records_at bytes = counted_at MAX_PART_RECORDS (λ held after. record_at after) bytes
+
 -- ---- bodies
 
 unfoldable pub hello_at : List ℕ → Reading Packet
@@ -28,6 +35,10 @@ hello_at bytes = made (λ x. Hello x.0 x.1) (both (number_at w16) (number_at w32
 unfoldable pub change_packet_at : List ℕ → Reading Packet
 change_packet_at bytes =
     made (λ x. Change x.0 x.1.0 x.1.1.0 x.1.1.1) (both (number_at w32) (both (number_at w16) (both (number_at w32) change_at)) bytes)
+
+unfoldable pub part_at : List ℕ → Reading Packet
+part_at bytes =
+    made (λ x. Part x.0 x.1.0 x.1.1.0 x.1.1.1) (both (number_at w32) (both byte_at (both byte_at part_records_at)) bytes)
 
 unfoldable pub request_at : List ℕ → Reading Packet
 request_at bytes = made (λ x. Request x.0 x.1.0 x.1.1) (both (number_at w16) (both (number_at w32) change_at) bytes)
@@ -45,6 +56,7 @@ bot_text_packet_at bytes = made (λ x. BotText x.0 x.1.0 x.1.1) (both (number_at
 abbrev pub body_at : Kind → List ℕ → Reading Packet
 body_at hello bytes = hello_at bytes
 body_at change bytes = change_packet_at bytes
+body_at part bytes = part_at bytes
 body_at request bytes = request_at bytes
 body_at accepted bytes = accepted_at bytes
 body_at refused bytes = refused_at bytes

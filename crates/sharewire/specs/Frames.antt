@@ -1,12 +1,16 @@
 -- The one spelling of a packet: a frame, which is the length of kind and body, the kind, and the body (our own choice
 -- throughout; numbers have their most significant byte first).
-use Rattle.std.specs.Prelude.{◌≡◌, ◌<◌, ◌^◌, true, ℕ, List, [], ◌∷◌, ◌++◌, length, None}
+use Rattle.std.specs.Prelude.{◌≡◌, ◌<◌, ◌^◌, nat_le, true, ℕ, List, [], ◌∷◌, ◌++◌, length, None}
 use Rattle.std.specs.Int.{w16, w32}
 use Rattle.userfile.specs.Apply.{bad_shape}
-use Rattle.usercodec.specs.Fields.{number}
+use Rattle.std.specs.List.{AllByRecursion}
+use Rattle.usercodec.specs.declared.records.Record.{Record}
+use Rattle.usercodec.specs.Fields.{number, counted}
+use Rattle.usercodec.specs.Records.{record_bytes, IsGoodRecord}
+use Rattle.sharewire.specs.declared.limits.TheConstants.{MAX_PART_RECORDS}
 use Rattle.usercodec.specs.Changes.{change_bytes, IsGoodChange}
 use Rattle.sharewire.specs.declared.packet.Packet.{Packet}
-use Rattle.sharewire.specs.declared.packet.Packet.TheVariants.{Hello, Change, Request, Accepted, Refused, BotText}
+use Rattle.sharewire.specs.declared.packet.Packet.TheVariants.{Hello, Change, Part, Request, Accepted, Refused, BotText}
 use Rattle.sharewire.specs.Kinds.{kind_byte, kind_of}
 use Rattle.usercodec.specs.FaultBytes.{fault_byte}
 use Rattle.sharewire.specs.Texts.{is_bot_text}
@@ -18,6 +22,7 @@ long_text bytes = number w16 (length bytes) ++ bytes
 abbrev pub body_of : Packet → List ℕ
 body_of (Hello leaf version) = number w16 leaf ++ number w32 version
 body_of (Change n origin request change) = number w32 n ++ (number w16 origin ++ (number w32 request ++ change_bytes change))
+body_of (Part version part count records) = number w32 version ++ part ∷ count ∷ counted record_bytes records
 body_of (Request leaf request change) = number w16 leaf ++ (number w32 request ++ change_bytes change)
 body_of (Accepted leaf request n) = number w16 leaf ++ (number w32 request ++ number w32 n)
 body_of (Refused leaf request fault) = number w16 leaf ++ (number w32 request ++ fault_byte fault ∷ [])
@@ -30,10 +35,15 @@ inside packet = kind_byte (kind_of packet) ∷ body_of packet
 abbrev pub frame : Packet → List ℕ
 frame packet = number w16 (length (inside packet)) ++ inside packet
 
--- what a packet must hold to be written: a change of good shape, a text that may be told
+-- the records of one part: few, each one that has a spelling
+abbrev pub HoldsPart : List Record → Type 0
+HoldsPart records = (nat_le (length records) MAX_PART_RECORDS ≡ true) × AllByRecursion IsGoodRecord records
+
+-- what a packet must hold to be written: a change of good shape, the records of one part, a text that may be told
 abbrev pub CanBeWritten : Packet → Type 0
 CanBeWritten (Hello leaf version) = Unit {0}
 CanBeWritten (Change n origin request change) = bad_shape change ≡ None
+CanBeWritten (Part version part count records) = HoldsPart records
 CanBeWritten (Request leaf request change) = bad_shape change ≡ None
 CanBeWritten (Accepted leaf request n) = Unit {0}
 CanBeWritten (Refused leaf request fault) = Unit {0}
@@ -43,6 +53,7 @@ CanBeWritten (BotText from to text) = is_bot_text text ≡ true
 abbrev pub IsGoodPacket : Packet → Type 0
 IsGoodPacket (Hello leaf version) = (leaf < 2 ^ 16) × (version < 2 ^ 32)
 IsGoodPacket (Change n origin request change) = (n < 2 ^ 32) × ((origin < 2 ^ 16) × ((request < 2 ^ 32) × IsGoodChange change))
+IsGoodPacket (Part version part count records) = (version < 2 ^ 32) × ((part < 2 ^ 8) × ((count < 2 ^ 8) × HoldsPart records))
 IsGoodPacket (Request leaf request change) = (leaf < 2 ^ 16) × ((request < 2 ^ 32) × IsGoodChange change)
 IsGoodPacket (Accepted leaf request n) = (leaf < 2 ^ 16) × ((request < 2 ^ 32) × (n < 2 ^ 32))
 IsGoodPacket (Refused leaf request fault) = (leaf < 2 ^ 16) × (request < 2 ^ 32)

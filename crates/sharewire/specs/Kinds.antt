@@ -1,13 +1,14 @@
--- The byte of each kind of packet (our own choice; 3 is kept for a part of a snapshot).
+-- The byte of each kind of packet (our own choice).
 use Rattle.std.specs.Prelude.{ℕ, ◌==◌, Option, Some, None, if◌then◌else◌}
 use Rattle.sharewire.specs.declared.kind.Kind.{Kind}
-use Rattle.sharewire.specs.declared.kind.Kind.TheVariants.{Hello as hello, Change as change, Request as request, Accepted as accepted, Refused as refused, BotText as bot_text}
+use Rattle.sharewire.specs.declared.kind.Kind.TheVariants.{Hello as hello, Change as change, Part as part, Request as request, Accepted as accepted, Refused as refused, BotText as bot_text}
 use Rattle.sharewire.specs.declared.packet.Packet.{Packet}
-use Rattle.sharewire.specs.declared.packet.Packet.TheVariants.{Hello, Change, Request, Accepted, Refused, BotText}
+use Rattle.sharewire.specs.declared.packet.Packet.TheVariants.{Hello, Change, Part, Request, Accepted, Refused, BotText}
 
 abbrev pub kind_byte : Kind → ℕ
 kind_byte hello = 1
 kind_byte change = 2
+kind_byte part = 3
 kind_byte request = 4
 kind_byte accepted = 5
 kind_byte refused = 6
@@ -18,15 +19,17 @@ abbrev pub kind_from : ℕ → Option Kind
 kind_from byte =
     if byte == 1 then Some hello
     else (if byte == 2 then Some change
+    else (if byte == 3 then Some part
     else (if byte == 4 then Some request
     else (if byte == 5 then Some accepted
     else (if byte == 6 then Some refused
     else (if byte == 7 then Some bot_text
-    else None)))))
+    else None))))))
 
 abbrev pub kind_of : Packet → Kind
 kind_of (Hello leaf version) = hello
 kind_of (Change n origin r c) = change
+kind_of (Part version n count records) = part
 kind_of (Request leaf r c) = request
 kind_of (Accepted leaf r n) = accepted
 kind_of (Refused leaf r fault) = refused

@@ -1,22 +1,24 @@
 // The packet of a kind and a body.
 ghost use Rattle.std.specs.Prelude.{◌≡◌};
-ghost use Rattle.usercodec.specs.Answers.{Makes};
-ghost use Rattle.sharewire.specs.Bodies.{hello_at, change_packet_at, request_at, accepted_at, refused_at};
+ghost use Rattle.usercodec.specs.Answers.{Finds};
+ghost use Rattle.sharewire.specs.Bodies.{hello_at, change_packet_at, part_at, request_at, accepted_at, refused_at};
 ghost use Rattle.sharewire.specs.Bodies.{body_at, bot_text_packet_at};
 
 use crate::kind::Kind;
 use crate::long_text::bot_text;
 use crate::packet::Packet;
+use crate::part_records::part_records;
 use bytetext::{Failure, NoMemory};
 use std::alloc::Global;
 use usercodec::{CodecError, Reader};
 
 fn packet(alloc: Global, kind: Kind, reader: &mut Reader<'_>) -> Result<Packet, CodecError>
-    ensures { Makes (λ packet. (packet, reader.new)) result (body_at kind reader.old) }
+    ensures { Finds (λ packet. (packet, reader.new)) result (body_at kind reader.old) }
 {
     match kind {
         Kind::Hello => hello(reader),
         Kind::Change => change(alloc, reader),
+        Kind::Part => part(alloc, reader),
         Kind::Request => request(alloc, reader),
         Kind::Accepted => accepted(reader),
         Kind::Refused => refused(reader),
@@ -26,7 +28,7 @@ fn packet(alloc: Global, kind: Kind, reader: &mut Reader<'_>) -> Result<Packet, 
 
 #[tactic(auto, unfolding(crate::specs::Bodies::hello_at))]
 fn hello(reader: &mut Reader<'_>) -> Result<Packet, CodecError>
-    ensures { Makes (λ packet. (packet, reader.new)) result (hello_at reader.old) }
+    ensures { Finds (λ packet. (packet, reader.new)) result (hello_at reader.old) }
 {
     let leaf = reader.u16()?;
     let version = reader.u32()?;
@@ -35,7 +37,7 @@ fn hello(reader: &mut Reader<'_>) -> Result<Packet, CodecError>
 
 #[tactic(auto, unfolding(crate::specs::Bodies::change_packet_at))]
 fn change(alloc: Global, reader: &mut Reader<'_>) -> Result<Packet, CodecError>
-    ensures { Makes (λ packet. (packet, reader.new)) result (change_packet_at reader.old) }
+    ensures { Finds (λ packet. (packet, reader.new)) result (change_packet_at reader.old) }
 {
     let number = reader.u32()?;
     let origin = reader.u16()?;
@@ -49,9 +51,25 @@ fn change(alloc: Global, reader: &mut Reader<'_>) -> Result<Packet, CodecError>
     })
 }
 
+#[tactic(auto, unfolding(crate::specs::Bodies::part_at))]
+fn part(alloc: Global, reader: &mut Reader<'_>) -> Result<Packet, CodecError>
+    ensures { Finds (λ packet. (packet, reader.new)) result (part_at reader.old) }
+{
+    let version = reader.u32()?;
+    let part = reader.byte()?;
+    let count = reader.byte()?;
+    let records = part_records(alloc, reader)?;
+    Ok(Packet::Part {
+        version,
+        part,
+        count,
+        records,
+    })
+}
+
 #[tactic(auto, unfolding(crate::specs::Bodies::request_at))]
 fn request(alloc: Global, reader: &mut Reader<'_>) -> Result<Packet, CodecError>
-    ensures { Makes (λ packet. (packet, reader.new)) result (request_at reader.old) }
+    ensures { Finds (λ packet. (packet, reader.new)) result (request_at reader.old) }
 {
     let leaf = reader.u16()?;
     let request = reader.u32()?;
@@ -65,7 +83,7 @@ fn request(alloc: Global, reader: &mut Reader<'_>) -> Result<Packet, CodecError>
 
 #[tactic(auto, unfolding(crate::specs::Bodies::accepted_at))]
 fn accepted(reader: &mut Reader<'_>) -> Result<Packet, CodecError>
-    ensures { Makes (λ packet. (packet, reader.new)) result (accepted_at reader.old) }
+    ensures { Finds (λ packet. (packet, reader.new)) result (accepted_at reader.old) }
 {
     let leaf = reader.u16()?;
     let request = reader.u32()?;
@@ -79,7 +97,7 @@ fn accepted(reader: &mut Reader<'_>) -> Result<Packet, CodecError>
 
 #[tactic(auto, unfolding(crate::specs::Bodies::refused_at))]
 fn refused(reader: &mut Reader<'_>) -> Result<Packet, CodecError>
-    ensures { Makes (λ packet. (packet, reader.new)) result (refused_at reader.old) }
+    ensures { Finds (λ packet. (packet, reader.new)) result (refused_at reader.old) }
 {
     let leaf = reader.u16()?;
     let request = reader.u32()?;
@@ -93,7 +111,7 @@ fn refused(reader: &mut Reader<'_>) -> Result<Packet, CodecError>
 
 #[tactic(auto, unfolding(crate::specs::Bodies::bot_text_packet_at))]
 fn bot_text_packet(alloc: Global, reader: &mut Reader<'_>) -> Result<Packet, CodecError>
-    ensures { Makes (λ packet. (packet, reader.new)) result (bot_text_packet_at reader.old) }
+    ensures { Finds (λ packet. (packet, reader.new)) result (bot_text_packet_at reader.old) }
 {
     let from = reader.u16()?;
     let to = reader.u16()?;

@@ -8,6 +8,7 @@ use crate::packet::Packet;
 pub(crate) enum Kind {
     Hello,
     Change,
+    Part,
     Request,
     Accepted,
     Refused,
@@ -21,6 +22,7 @@ impl Kind {
         match byte {
             1 => Some(Kind::Hello),
             2 => Some(Kind::Change),
+            3 => Some(Kind::Part),
             4 => Some(Kind::Request),
             5 => Some(Kind::Accepted),
             6 => Some(Kind::Refused),
@@ -35,6 +37,7 @@ impl Kind {
         match self {
             Kind::Hello => 1,
             Kind::Change => 2,
+            Kind::Part => 3,
             Kind::Request => 4,
             Kind::Accepted => 5,
             Kind::Refused => 6,
@@ -50,6 +53,7 @@ impl Packet {
         match self {
             Packet::Hello { .. } => Kind::Hello,
             Packet::Change { .. } => Kind::Change,
+            Packet::Part { .. } => Kind::Part,
             Packet::Request { .. } => Kind::Request,
             Packet::Accepted { .. } => Kind::Accepted,
             Packet::Refused { .. } => Kind::Refused,

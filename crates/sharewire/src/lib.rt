@@ -1,12 +1,14 @@
 //! The sharing link as bytes: packets to frames, and a stream of bytes to packets.
 //!
 //! A frame is two bytes of length, a byte of kind and a body; the length is that of kind and body, 1 to 40,000. Numbers
-//! have their most significant byte first, and changes are spelled as [`usercodec`] spells them. The format is our own.
+//! have their most significant byte first, and changes and records are spelled as [`usercodec`]
+//! spells them. The format is our own.
 //!
 //! | kind | packet | body |
 //! |---|---|---|
 //! | 1 | [`Packet::Hello`] | leaf (2 bytes), version (4) |
 //! | 2 | [`Packet::Change`] | number (4), origin (2), request (4), change |
+//! | 3 | [`Packet::Part`] | version (4), the part's number (1), how many parts (1), count (1, 0 to 8), records |
 //! | 4 | [`Packet::Request`] | leaf (2), request (4), change |
 //! | 5 | [`Packet::Accepted`] | leaf (2), request (4), number (4) |
 //! | 6 | [`Packet::Refused`] | leaf (2), request (4), the number of the fault's letter U (1) |
@@ -39,6 +41,7 @@ mod laws;
 mod limits;
 mod long_text;
 mod packet;
+mod part_records;
 mod pieces;
 mod reader;
 mod texts;
@@ -47,7 +50,7 @@ mod writer;
 pub use crate::fault::WireFault;
 pub use crate::feed::Feed;
 pub use crate::laws::{a_stream_tells_one_thing, frames_are_apart, written_is_told};
-pub use crate::limits::MAX_LENGTH;
+pub use crate::limits::{MAX_LENGTH, MAX_PART_RECORDS};
 pub use crate::packet::Packet;
 pub use crate::pieces::read_pieces;
 pub use crate::reader::WireReader;

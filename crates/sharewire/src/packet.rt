@@ -1,6 +1,7 @@
 // What goes over the link.
-use bytetext::{NoMemory, Text, TryCopy};
+use bytetext::{NoMemory, Seq, Text, TryCopy};
 use std::alloc::Global;
+use usercodec::Record;
 use userfile::{Change, ChangeFault};
 
 /// One packet of the sharing link. Bot 0 is the hub, and leaves are numbered from 1.
@@ -23,6 +24,17 @@ pub enum Packet {
         request: u32,
         /// The change itself.
         change: Change,
+    },
+    /// The hub tells a leaf a part of its records at a version.
+    Part {
+        /// The version of the records.
+        version: u32,
+        /// The part's number, from 1.
+        part: u8,
+        /// How many parts the records have.
+        count: u8,
+        /// The part's records, at most [`MAX_PART_RECORDS`](crate::MAX_PART_RECORDS).
+        records: Seq<Record>,
     },
     /// A leaf asks the hub for a change.
     Request {
@@ -79,6 +91,17 @@ impl TryCopy for Packet {
                 origin: *origin,
                 request: *request,
                 change: change.copy(alloc)?,
+            }),
+            Packet::Part {
+                version,
+                part,
+                count,
+                records,
+            } => Ok(Packet::Part {
+                version: *version,
+                part: *part,
+                count: *count,
+                records: records.copy(alloc)?,
             }),
             Packet::Request {
                 leaf,

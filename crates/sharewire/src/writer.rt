@@ -4,6 +4,7 @@ ghost use Rattle.sharewire.specs.Frames.{body_of, frame, CanBeWritten};
 
 use crate::long_text::put_long_text;
 use crate::packet::Packet;
+use crate::part_records::put_part_records;
 use bytetext::NoMemory;
 use std::alloc::Global;
 use usercodec::{byte_of_fault, put_change, put_u16, put_u32};
@@ -12,7 +13,7 @@ use usercodec::{byte_of_fault, put_change, put_u16, put_u32};
 const USUAL: usize = 64;
 
 /// The one spelling of a packet, its frame. Its change is of good shape (see [`userfile::shape`]), its text one that
-/// may be told (see [`is_bot_text`](crate::is_bot_text)).
+/// may be told (see [`is_bot_text`](crate::is_bot_text)), its records are at most eight, as a userfile holds them.
 ///
 /// # Errors
 /// `NoMemory` where room for it is refused.
@@ -51,6 +52,17 @@ fn put_body(out: &mut Vec<u8>, packet: &Packet) -> Result<(), NoMemory>
             put_u16(out, *origin)?;
             put_u32(out, *request)?;
             put_change(out, change)
+        }
+        Packet::Part {
+            version,
+            part,
+            count,
+            records,
+        } => {
+            put_u32(out, *version)?;
+            out.push(*part)?;
+            out.push(*count)?;
+            put_part_records(out, records.as_slice())
         }
         Packet::Request {
             leaf,
