@@ -1,0 +1,7 @@
+use Rattle.std.proofs.Common.{◌≡◌, ◌++◌, drop}
+use Rattle.protocol.specs.Journals.{replies_in}
+use Rattle.linkstate.proofs.replies.replies_in.Given as goal
+
+-- those so far and those that are left are all of them
+abbrev pub invariant-loop-one : goal.invariant-loop-one
+invariant-loop-one l = l.replies.items ++ replies_in (drop l.one-index l.held) ≡ replies_in l.held

@@ -1,0 +1,67 @@
+-- What reading a journal's contents and taking one more entry answer, and what a new end keeps.
+use Rattle.std.specs.Prelude.{◌≡◌, ℕ, Bool, true, false, List, [], Option, None, Some, is_some, Result, Ok, Err}
+use Rattle.bytetext.specs.declared.failure.Failure.{Failure}
+use Rattle.bytetext.specs.declared.failure.Failure.TheVariants.{Refused, NoMemory}
+use Rattle.userfile.specs.Records.{Records}
+use Rattle.userfile.specs.Apply.{grows}
+use Rattle.usercodec.specs.declared.records.Record.{Record as UserfileRecord}
+use Rattle.botjournal.specs.declared.base.Base.{Base}
+use Rattle.botjournal.specs.declared.entry.Entry.{Entry}
+use Rattle.botjournal.specs.declared.entry.Entry.TheVariants.{Accepted, Settled, Applied, ReqOut, ReqDone}
+use Rattle.protocol.specs.Snapshots.{records_from}
+use Rattle.protocol.specs.HubRules.{HubState}
+use Rattle.protocol.specs.LeafRules.{LeafState}
+use Rattle.protocol.specs.Journals.{read_next, reads, stand_together, record_if, hub_of, is_hub_base, leaf_of, is_leaf_base}
+use Rattle.linkstate.specs.declared.fault.StateFault.{StateFault}
+
+-- what is meant is read, and a refusal says that nothing is meant
+abbrev pub Reads : {Kept : Type 0} → Option Kept → Result Kept (Failure StateFault) → Type 0
+Reads meant (Ok kept) = meant ≡ Some kept
+Reads meant (Err (Refused fault)) = meant ≡ None
+Reads meant (Err NoMemory) = Unit {0}
+
+-- the next entry is folded in, or told to be no record of this state; memory runs out only where it is one
+abbrev pub Takes : {Kept Record : Type 0} → (Kept → Entry → Option Record) → (Kept → Record → Kept) → Kept → Entry
+    → Result Unit (Failure StateFault) → Kept → Type 0
+Takes record_of folded old entry (Ok _) new = read_next record_of folded (Some old) entry ≡ Some new
+Takes record_of folded old entry (Err (Refused fault)) new = (record_of old entry ≡ None) × (new ≡ old)
+Takes record_of folded old entry (Err NoMemory) new = (is_some (record_of old entry) ≡ true) × (new ≡ old)
+
+-- the entries are folded in, the first of them first, or one of them is no record of the state before it
+abbrev pub TakesAll : {Kept Record : Type 0} → (Kept → Entry → Option Record) → (Kept → Record → Kept) → Kept → List Entry
+    → Result Unit (Failure StateFault) → Kept → Type 0
+TakesAll record_of folded old entries (Ok _) new = reads record_of folded (Some old) entries ≡ Some new
+TakesAll record_of folded old entries (Err (Refused fault)) new = reads record_of folded (Some old) entries ≡ None
+TakesAll record_of folded old entries (Err NoMemory) new = Unit {0}
+
+-- the base of a bot before the first change
+abbrev pub empty_base : ℕ → Base
+empty_base bot = record { bot = bot; version = 0; records = []; replies = []; last_request = 0; out = None }
+
+-- the records of a base, where they stand together in one userfile
+abbrev pub sound_records : List UserfileRecord → Option Records
+sound_records items = record_if (stand_together (records_from items)) (records_from items)
+
+-- a hub on a base alone, where the base is a hub's
+abbrev pub hub_on : ℕ → ℕ → Base → Option HubState
+hub_on leaves generation base = record_if (is_hub_base leaves base) (hub_of leaves generation base)
+
+-- a leaf on a base alone, where the base is that leaf's
+abbrev pub leaf_on : ℕ → ℕ → Base → Option LeafState
+leaf_on number generation base = record_if (is_leaf_base number base) (leaf_of generation base)
+
+-- the entry has a change that a hub accepted
+abbrev pub is_accepted : Entry → Bool
+is_accepted (Accepted origin request change) = true
+is_accepted (Settled leaf request fault) = false
+is_accepted (Applied number change) = false
+is_accepted (ReqOut request change) = false
+is_accepted (ReqDone request) = false
+
+-- the entry has a change that a leaf keeps, or one that adds something to its records
+abbrev pub wants_room : Entry → Bool
+wants_room (Accepted origin request change) = false
+wants_room (Settled leaf request fault) = false
+wants_room (Applied number change) = grows change
+wants_room (ReqOut request change) = true
+wants_room (ReqDone request) = false

@@ -1,0 +1,291 @@
+// What a hub keeps.
+ghost use Rattle.std.specs.Prelude.{◌≡◌, ◌++◌, ◌∷◌, ◌+◌, ◌≤◌, ◌&&◌, [], length, nat_lt, is_none, None, OnOk, OnErr};
+ghost use Rattle.userfile.specs.Apply.{refusal, changed};
+ghost use Rattle.protocol.specs.Numbers.{last_number};
+ghost use Rattle.protocol.specs.Journals.{is_next};
+
+use crate::accepted::AcceptedChange;
+use crate::fault::{StateError, StateFault};
+use crate::records::{items_of, userfile_of};
+use crate::replies::{is_next, is_next_of, put_reply, replies_in, replies_of, reply_at};
+use botjournal::{Answer, Base, Entry, Reply};
+use bytetext::{Failure, NoMemory, Seq, TryCopy};
+use std::alloc::Global;
+use std::marker::Model;
+use userfile::{Change, ChangeFault, Userfile};
+
+/// What outlives a restart of a hub: its userfile, the changes accepted since the base, and the last reply to each leaf.
+#[derive(Drop)]
+pub struct HubState {
+    floor: u32,
+    tail: Vec<AcceptedChange>,
+    userfile: Userfile,
+    replies: Vec<Option<Reply>>,
+    generation: u32,
+}
+
+impl Model for HubState {
+    ghost use Rattle.std.specs.Prelude.{◌+◌, ◌≤◌, length};
+    ghost use Rattle.protocol.specs.Numbers.{last_number};
+    ghost use Rattle.protocol.specs.HubRules.{HubState as Hub};
+
+    ghost Value = { Hub };
+
+    ghost view = { λ h. record {
+      floor = h.floor;
+      tail = h.tail.items;
+      records = h.userfile;
+      replies = h.replies.items;
+      generation = h.generation;
+    } };
+
+    ghost invariant = { λ h. h.floor + length h.tail.items ≤ last_number };
+}
+
+impl HubState {
+    ghost use Rattle.std.specs.Prelude.{◌≡◌, ◌≢◌, ◌&&◌, true, nat_lt, is_none, Err, IfOk};
+    ghost use Rattle.bytetext.specs.declared.failure.Failure.TheVariants.{NoMemory as no_memory};
+    ghost use Rattle.userfile.specs.Apply.{refusal};
+    ghost use Rattle.botjournal.specs.Bases.{IsGoodBase};
+    ghost use Rattle.botjournal.specs.declared.entry.Entry.TheVariants.{Accepted, Settled};
+    ghost use Rattle.protocol.specs.Numbers.{last_number, item_at};
+    ghost use Rattle.protocol.specs.HubRules.{version_of, hub_folded};
+    ghost use Rattle.protocol.specs.Network.{new_hub};
+    ghost use Rattle.protocol.specs.Journals.{hub_of, hub_base, hub_record, hub_meaning, is_next};
+    ghost use Rattle.linkstate.specs.States.{Reads, Takes, TakesAll, hub_on, empty_base, is_accepted};
+
+    /// A hub with so many leaves before the first change, in the first generation of its journal.
+    ///
+    /// # Errors
+    /// `NoMemory` where room for the places of the replies is refused.
+    pub fn new(alloc: Global, leaves: u16) -> Result<HubState, NoMemory>
+        ensures start { IfOk result (λ hub. hub ≡ (new_hub leaves).kept) }
+        ensures empty { IfOk result (λ hub. hub ≡ hub_of leaves 1 (empty_base 0)) }
+    {
+        let replies = replies_of(alloc, leaves, &[])?;
+        Ok(HubState {
+            floor: 0,
+            tail: Vec::new(alloc),
+            userfile: Userfile::new(alloc),
+            replies,
+            generation: 1,
+        })
+    }
+
+    /// What a journal's base and entries, in this generation, mean to a hub with so many leaves. The base is one that
+    /// has a spelling, as each has that a journal was opened with.
+    ///
+    /// # Errors
+    /// `NotAJournal` where they mean nothing: the base is no hub's, has a reply to a leaf above the last or records that
+    /// no userfile holds, or an entry is none that a hub writes in the state before it. Or `NoMemory`.
+    pub fn read(
+        alloc: Global,
+        leaves: u16,
+        generation: u32,
+        base: &Base,
+        entries: &[Entry],
+    ) -> Result<HubState, StateError>
+        requires good { IsGoodBase base.now }
+        ensures { Reads (hub_meaning leaves (record { generation = generation; base = base.now; entries = entries.now })) result }
+    {
+        let mut hub = HubState::on_base(alloc, leaves, generation, base)?;
+        match hub.take_all(alloc, entries) {
+            Ok(()) => Ok(hub),
+            Err(error) => Err(error),
+        }
+    }
+
+    // A hub on a base alone, in that generation of the journal.
+    fn on_base(
+        alloc: Global,
+        leaves: u16,
+        generation: u32,
+        base: &Base,
+    ) -> Result<HubState, StateError>
+        requires good { IsGoodBase base.now }
+        ensures { Reads (hub_on leaves generation base.now) result }
+    {
+        if base.bot != 0 || !are_within(base.replies.as_slice(), leaves) {
+            return Err(Failure::Refused(StateFault::NotAJournal));
+        }
+        let userfile = userfile_of(alloc, base.records.as_slice())?;
+        let replies = replies_of(alloc, leaves, base.replies.as_slice())?;
+        Ok(HubState {
+            floor: base.version,
+            tail: Vec::new(alloc),
+            userfile,
+            replies,
+            generation,
+        })
+    }
+
+    /// The version: how many changes the hub ever accepted.
+    pub fn version(&self) -> u32
+        ensures { result ≡ version_of self.now }
+    {
+        self.floor + self.tail.len() as u32
+    }
+
+    /// The version of the journal's base. The changes up to it are no longer kept one by one.
+    pub fn floor(&self) -> u32
+        ensures { result ≡ self.now.floor }
+    {
+        self.floor
+    }
+
+    /// The changes accepted since the journal's base, the oldest first.
+    pub fn tail(&self) -> &[AcceptedChange]
+        ensures { result.now ≡ self.now.tail }
+    {
+        self.tail.as_slice()
+    }
+
+    /// The userfile at the hub's version.
+    pub fn userfile(&self) -> &Userfile
+        ensures { result.now ≡ self.now.records }
+    {
+        &self.userfile
+    }
+
+    /// The last reply to a leaf, where there is one: none for a bot that is no leaf of the hub.
+    pub fn reply_of(&self, leaf: u16) -> Option<Option<Reply>>
+        ensures { result ≡ item_at self.now.replies leaf }
+    {
+        reply_at(self.replies.as_slice(), leaf)
+    }
+
+    /// The journal's generation.
+    pub fn generation(&self) -> u32
+        ensures { result ≡ self.now.generation }
+    {
+        self.generation
+    }
+
+    /// Folds in the entry that the journal has next.
+    ///
+    /// # Errors
+    /// `NotAJournal` where it is none that a hub writes in this state, or `NoMemory`, which only an accepted change
+    /// wants. Both leave the state as it was.
+    pub fn take(&mut self, alloc: Global, entry: &Entry) -> Result<(), StateError>
+        ensures takes { Takes hub_record hub_folded self.old entry.now result self.new }
+        ensures memory { result ≡ Err no_memory → is_accepted entry.now ≡ true }
+    {
+        match entry {
+            Entry::Accepted {
+                origin,
+                request,
+                change,
+            } => self.accept(alloc, *origin, *request, change),
+            Entry::Settled {
+                leaf,
+                request,
+                fault,
+            } => self.settle(*leaf, *request, *fault),
+            Entry::Applied { .. } | Entry::ReqOut { .. } | Entry::ReqDone { .. } => {
+                Err(Failure::Refused(StateFault::NotAJournal))
+            }
+        }
+    }
+
+    fn take_all(&mut self, alloc: Global, entries: &[Entry]) -> Result<(), StateError>
+        ensures { TakesAll hub_record hub_folded self.old entries.now result self.new }
+    {
+        for entry in entries {
+            match self.take(alloc, entry) {
+                Ok(()) => {}
+                Err(error) => return Err(error),
+            }
+        }
+        Ok(())
+    }
+
+    fn accept(
+        &mut self,
+        alloc: Global,
+        origin: u16,
+        request: u32,
+        change: &Change,
+    ) -> Result<(), StateError>
+        ensures { Takes hub_record hub_folded self.old (Accepted origin request change.now) result self.new }
+    {
+        if !self.may_accept(origin, request, change) {
+            return Err(Failure::Refused(StateFault::NotAJournal));
+        }
+        let number = self.version() + 1;
+        let entry = AcceptedChange::new(origin, request, change.copy(alloc)?);
+        apply_next(alloc, &mut self.userfile, &mut self.tail, entry)?;
+        put_reply(&mut self.replies, origin, request, Answer::Taken(number));
+        Ok(())
+    }
+
+    fn may_accept(&self, origin: u16, request: u32, change: &Change) -> bool
+        ensures { result ≡ (is_none (refusal self.now.records change.now)
+            && (nat_lt (version_of self.now) last_number && is_next self.now.replies origin request)) }
+    {
+        self.userfile.refusal_of(change).is_none()
+            && self.version() < u32::MAX
+            && is_next(self.replies.as_slice(), origin, request)
+    }
+
+    fn settle(&mut self, leaf: u16, request: u32, fault: ChangeFault) -> Result<(), StateError>
+        ensures takes { Takes hub_record hub_folded self.old (Settled leaf request fault) result self.new }
+        ensures memory { result ≢ Err no_memory }
+    {
+        if !is_next_of(self.reply_of(leaf), request) {
+            return Err(Failure::Refused(StateFault::NotAJournal));
+        }
+        put_reply(&mut self.replies, leaf, request, Answer::Refused(fault));
+        Ok(())
+    }
+
+    /// The base of this state: what a journal that is written anew starts from.
+    ///
+    /// # Errors
+    /// `NoMemory` where room for copies is refused.
+    pub fn base(&self, alloc: Global) -> Result<Base, NoMemory>
+        ensures { IfOk result (λ base. base ≡ hub_base self.now) }
+    {
+        let records = items_of(alloc, &self.userfile)?;
+        let replies = replies_in(alloc, self.replies.as_slice())?;
+        Ok(Base {
+            bot: 0,
+            version: self.version(),
+            records: Seq::new(records),
+            replies: Seq::new(replies),
+            last_request: 0,
+            out: None,
+        })
+    }
+}
+
+ghost use Rattle.std.specs.Prelude.{nat_le};
+ghost use Rattle.std.specs.List.{list_all};
+
+// Whether each reply is to one of so many leaves.
+fn are_within(replies: &[Reply], leaves: u16) -> bool
+    ensures { result ≡ list_all (λ reply. nat_le reply.leaf leaves) replies.now }
+{
+    replies.iter().all(|reply| reply.leaf <= leaves)
+}
+
+// Makes a change that isn't refused, and puts it after the others.
+fn apply_next(
+    alloc: Global,
+    userfile: &mut Userfile,
+    tail: &mut Vec<AcceptedChange>,
+    entry: AcceptedChange,
+) -> Result<(), NoMemory>
+    requires taken { refusal userfile.old entry.change ≡ None }
+    ensures records { OnOk result (userfile.new ≡ changed userfile.old entry.change) }
+    ensures tail { OnOk result (tail.new.items ≡ tail.old.items ++ entry ∷ []) }
+    ensures same_records { OnErr result (userfile.new ≡ userfile.old) }
+    ensures same_tail { OnErr result (tail.new.items ≡ tail.old.items) }
+{
+    tail.reserve(1)?;
+    match userfile.apply(alloc, entry.change()) {
+        Ok(()) => {}
+        Err(_) => return Err(NoMemory),
+    }
+    tail.push_reserved(entry);
+    Ok(())
+}

@@ -1,0 +1,299 @@
+// What a leaf keeps.
+ghost use Rattle.std.specs.Prelude.{◌≡◌, IfOk};
+
+use crate::fault::{StateError, StateFault};
+use crate::records::{items_of, userfile_of};
+use botjournal::{Base, Entry};
+use bytetext::{Failure, NoMemory, Seq, TryCopy};
+use std::alloc::Global;
+use std::marker::Model;
+use usercodec::Record;
+use userfile::{Change, Userfile};
+
+/// What outlives a restart of a leaf: its version and userfile, the number of its last request, and the change that is
+/// out under that number.
+#[derive(Drop)]
+pub struct LeafState {
+    version: u32,
+    userfile: Userfile,
+    last: u32,
+    out: Option<Change>,
+    generation: u32,
+}
+
+impl Model for LeafState {
+    ghost use Rattle.protocol.specs.LeafRules.{LeafState as Leaf};
+
+    ghost Value = { Leaf };
+
+    ghost view = { λ l. record {
+      version = l.version;
+      records = l.userfile;
+      last = l.last;
+      out = l.out;
+      generation = l.generation;
+    } };
+}
+
+impl LeafState {
+    ghost use Rattle.std.specs.Prelude.{◌≡◌, ◌≢◌, ◌<◌, ℕ, ◌+◌, ◌==◌, ◌&&◌, true, nat_lt, is_none, is_some, Err, IfOk};
+    ghost use Rattle.std.specs.Option.{option_copied};
+    ghost use Rattle.bytetext.specs.declared.failure.Failure.TheVariants.{NoMemory as no_memory};
+    ghost use Rattle.userfile.specs.Apply.{refusal, grows};
+    ghost use Rattle.botjournal.specs.Bases.{IsGoodBase, IsGoodOut};
+    ghost use Rattle.botjournal.specs.declared.entry.Entry.TheVariants.{Applied, ReqOut, ReqDone};
+    ghost use Rattle.protocol.specs.Numbers.{last_number};
+    ghost use Rattle.protocol.specs.LeafRules.{leaf_folded};
+    ghost use Rattle.protocol.specs.Network.{new_leaf};
+    ghost use Rattle.protocol.specs.Journals.{leaf_of, leaf_base, leaf_record, leaf_meaning};
+    ghost use Rattle.linkstate.specs.States.{Reads, Takes, TakesAll, leaf_on, empty_base, wants_room};
+
+    /// A leaf before the first change, in the first generation of its journal. Takes no memory.
+    pub fn new(alloc: Global) -> LeafState
+        ensures start { result ≡ new_leaf.kept }
+        ensures empty { (number : ℕ) → result ≡ leaf_of 1 (empty_base number) }
+    {
+        LeafState {
+            version: 0,
+            userfile: Userfile::new(alloc),
+            last: 0,
+            out: None,
+            generation: 1,
+        }
+    }
+
+    /// What a journal's base and entries, in this generation, mean to the leaf of this number. The base is one that has a
+    /// spelling, as each has that a journal was opened with.
+    ///
+    /// # Errors
+    /// `NotAJournal` where they mean nothing: the base is another bot's or has records that no userfile holds, or an
+    /// entry is none that a leaf writes in the state before it. Or `NoMemory`.
+    pub fn read(
+        alloc: Global,
+        number: u16,
+        generation: u32,
+        base: &Base,
+        entries: &[Entry],
+    ) -> Result<LeafState, StateError>
+        requires good { IsGoodBase base.now }
+        ensures { Reads (leaf_meaning number (record { generation = generation; base = base.now; entries = entries.now })) result }
+    {
+        let mut leaf = LeafState::on_base(alloc, number, generation, base)?;
+        match leaf.take_all(alloc, entries) {
+            Ok(()) => Ok(leaf),
+            Err(error) => Err(error),
+        }
+    }
+
+    // A leaf on a base alone, in that generation of the journal.
+    fn on_base(
+        alloc: Global,
+        number: u16,
+        generation: u32,
+        base: &Base,
+    ) -> Result<LeafState, StateError>
+        requires good { IsGoodBase base.now }
+        ensures { Reads (leaf_on number generation base.now) result }
+    {
+        if base.bot != number {
+            return Err(Failure::Refused(StateFault::NotAJournal));
+        }
+        let userfile = userfile_of(alloc, base.records.as_slice())?;
+        let out = copy_of(alloc, &base.out)?;
+        Ok(LeafState {
+            version: base.version,
+            userfile,
+            last: base.last_request,
+            out,
+            generation,
+        })
+    }
+
+    /// The version: the number of the last change that was applied, or that of the records that were put in place.
+    pub fn version(&self) -> u32
+        ensures { result ≡ self.now.version }
+    {
+        self.version
+    }
+
+    /// The userfile at that version.
+    pub fn userfile(&self) -> &Userfile
+        ensures { result.now ≡ self.now.records }
+    {
+        &self.userfile
+    }
+
+    /// The number of the last request: 0 before the first.
+    pub fn last_request(&self) -> u32
+        ensures { result ≡ self.now.last }
+    {
+        self.last
+    }
+
+    /// The change that is out under that number, where its reply hasn't come.
+    pub fn out(&self) -> Option<&Change>
+        ensures { option_copied result ≡ self.now.out }
+    {
+        self.out.as_ref()
+    }
+
+    /// The journal's generation.
+    pub fn generation(&self) -> u32
+        ensures { result ≡ self.now.generation }
+    {
+        self.generation
+    }
+
+    /// Folds in the entry that the journal has next.
+    ///
+    /// # Errors
+    /// `NotAJournal` where it is none that a leaf writes in this state, or `NoMemory`, which only a change that is kept
+    /// or that adds something wants. Both leave the state as it was.
+    pub fn take(&mut self, alloc: Global, entry: &Entry) -> Result<(), StateError>
+        ensures takes { Takes leaf_record leaf_folded self.old entry.now result self.new }
+        ensures memory { result ≡ Err no_memory → wants_room entry.now ≡ true }
+    {
+        match entry {
+            Entry::Applied { number, change } => self.apply(alloc, *number, change),
+            Entry::ReqOut { request, change } => self.send(alloc, *request, change),
+            Entry::ReqDone { request } => self.end(*request),
+            Entry::Accepted { .. } | Entry::Settled { .. } => {
+                Err(Failure::Refused(StateFault::NotAJournal))
+            }
+        }
+    }
+
+    fn take_all(&mut self, alloc: Global, entries: &[Entry]) -> Result<(), StateError>
+        ensures { TakesAll leaf_record leaf_folded self.old entries.now result self.new }
+    {
+        for entry in entries {
+            match self.take(alloc, entry) {
+                Ok(()) => {}
+                Err(error) => return Err(error),
+            }
+        }
+        Ok(())
+    }
+
+    // The hub's next change.
+    fn apply(&mut self, alloc: Global, number: u32, change: &Change) -> Result<(), StateError>
+        ensures takes { Takes leaf_record leaf_folded self.old (Applied number change.now) result self.new }
+        ensures memory { result ≡ Err no_memory → grows change.now ≡ true }
+    {
+        if !self.may_apply(number, change) {
+            return Err(Failure::Refused(StateFault::NotAJournal));
+        }
+        self.userfile
+            .apply(alloc, change)
+            .map_err(|_| Failure::NoMemory)?;
+        self.version = number;
+        Ok(())
+    }
+
+    fn may_apply(&self, number: u32, change: &Change) -> bool
+        ensures { result ≡ (is_none (refusal self.now.records change.now) && (number == (self.now.version + 1))) }
+    {
+        self.userfile.refusal_of(change).is_none() && is_one_above(number, self.version)
+    }
+
+    // A request that goes out.
+    fn send(&mut self, alloc: Global, request: u32, change: &Change) -> Result<(), StateError>
+        ensures { Takes leaf_record leaf_folded self.old (ReqOut request change.now) result self.new }
+    {
+        if !self.may_send(request) {
+            return Err(Failure::Refused(StateFault::NotAJournal));
+        }
+        let change = change.copy(alloc)?;
+        self.last = request;
+        self.out = Some(change);
+        Ok(())
+    }
+
+    fn may_send(&self, request: u32) -> bool
+        ensures { result ≡ (is_none self.now.out && (nat_lt self.now.last last_number && (request == (self.now.last + 1)))) }
+    {
+        self.out.is_none() && self.last < u32::MAX && is_one_above(request, self.last)
+    }
+
+    // A request that got its reply.
+    fn end(&mut self, request: u32) -> Result<(), StateError>
+        ensures takes { Takes leaf_record leaf_folded self.old (ReqDone request) result self.new }
+        ensures memory { result ≢ Err no_memory }
+    {
+        if !self.may_end(request) {
+            return Err(Failure::Refused(StateFault::NotAJournal));
+        }
+        self.out = None;
+        Ok(())
+    }
+
+    fn may_end(&self, request: u32) -> bool
+        ensures { result ≡ (is_some self.now.out && (request == self.now.last)) }
+    {
+        self.out.is_some() && request == self.last
+    }
+
+    /// The base of this state of the leaf of this number: what a journal that is written anew starts from. It has a
+    /// spelling where the change that is out has one.
+    ///
+    /// # Errors
+    /// `NoMemory` where room for copies is refused.
+    pub fn base(&self, alloc: Global, number: u16) -> Result<Base, NoMemory>
+        ensures base { IfOk result (λ base. base ≡ leaf_base number self.now) }
+        ensures good { IfOk result (λ base. 0 < number → IsGoodOut self.now.out → IsGoodBase base) }
+    {
+        let records = items_of(alloc, &self.userfile)?;
+        let out = copy_of(alloc, &self.out)?;
+        Ok(base_of(alloc, number, self.version, records, self.last, out))
+    }
+}
+
+ghost use Rattle.std.specs.Prelude.{◌+◌, ◌==◌, ◌<◌, []};
+ghost use Rattle.usercodec.specs.Records.{IsGoodRecord};
+ghost use Rattle.botjournal.specs.Bases.{AreListed, IsGoodBase, IsGoodOut};
+
+// The base of these parts. Its numbers have room, as their types say.
+fn base_of(
+    alloc: Global,
+    number: u16,
+    version: u32,
+    records: Vec<Record>,
+    last: u32,
+    out: Option<Change>,
+) -> Base
+    requires good { AreListed IsGoodRecord records.items }
+    ensures base { result ≡ record {
+      bot = number;
+      version = version;
+      records = records.items;
+      replies = [];
+      last_request = last;
+      out = out;
+    } }
+    ensures good { 0 < number → IsGoodOut out → IsGoodBase result }
+{
+    Base {
+        bot: number,
+        version,
+        records: Seq::new(records),
+        replies: Seq::empty(alloc),
+        last_request: last,
+        out,
+    }
+}
+
+// Whether a number is one above another.
+fn is_one_above(number: u32, other: u32) -> bool
+    ensures { result ≡ (number == (other + 1)) }
+{
+    number != 0 && number - 1 == other
+}
+
+fn copy_of(alloc: Global, out: &Option<Change>) -> Result<Option<Change>, NoMemory>
+    ensures { IfOk result (λ twin. twin ≡ out.now) }
+{
+    match out {
+        Some(change) => Ok(Some(change.copy(alloc)?)),
+        None => Ok(None),
+    }
+}

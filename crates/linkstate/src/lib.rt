@@ -1,0 +1,31 @@
+//! What the two ends of the sharing link keep over a restart, and how it is read from their journals.
+//!
+//! A [`HubState`] is what a hub keeps: the userfile, the changes accepted since the journal's base ([`AcceptedChange`]),
+//! and the last reply to each leaf. A [`LeafState`] is what a leaf keeps: the userfile at its version, the number of its
+//! last request, and the change that is out. Both are plain values in memory; no disk and no packet is here.
+//!
+//! Each is read from a journal's base and entries, one entry after another by `take`, which folds in what a link writes
+//! in that state and refuses all else. The contracts say so in the words of `protocol`: what `read` answers is what the
+//! journal's contents mean, and `NotAJournal` comes exactly where they mean nothing. `base` gives the base from which a
+//! journal that is written anew starts.
+//!
+//! ```text
+//! let hub = HubState::read(alloc, 2, generation, &opened.base, opened.entries.as_slice())?;
+//! hub.version()                                   // the base's version and one for each change since
+//! hub.userfile().handle_of(b"nick!user@host")
+//! let base = hub.base(alloc)?;                    // for the journal's rebase
+//! ```
+#![tactic(auto)]
+
+mod accepted;
+mod fault;
+mod fields;
+mod hub;
+mod leaf;
+mod records;
+mod replies;
+
+pub use crate::accepted::AcceptedChange;
+pub use crate::fault::{StateError, StateFault};
+pub use crate::hub::HubState;
+pub use crate::leaf::LeafState;
