@@ -1,6 +1,6 @@
 -- What actions leave of the link and the rest.
 use Rattle.std.proofs.Common.{◌≡◌, ◌∙◌, ℕ, ◌+◌, ◌<◌, List, [], ◌∷◌, ◌++◌, length, drop, get_or, refl, ap, sym, subst, append_assoc, Option, Some, None, Result, Ok, Err}
-use Rattle.std.proofs.lemmas.List.{append-nil, drop_more, drop_all}
+use Rattle.std.proofs.lemmas.List.{append-nil, drop_more}
 use Rattle.userfile.specs.declared.change.Change.{Change}
 use Rattle.procstore.specs.declared.action.Action.{Action}
 use Rattle.bytetext.specs.declared.failure.Failure.{Failure}
@@ -14,9 +14,11 @@ use Rattle.botcore.specs.declared.fault.Fault.{Fault}
 use Rattle.botcore.specs.declared.link.Link.{Link}
 use Rattle.botcore.specs.declared.link.Link.TheVariants.{Hub as hub_end, Leaf as leaf_end}
 use Rattle.botcore.specs.declared.made_call.MadeCall.{MadeCall}
-use Rattle.botcore.specs.Acting.{Acting, Acted, acted, acted_all, with_fault, action_faults, actions_of}
+use Rattle.botcore.specs.Acting.{Acting, acted, acted_all, with_fault, action_faults, actions_of}
 use Rattle.botcore.specs.Links.{link_asked, link_with_asks, link_with_oldest, ask_count}
 use Rattle.botcore.specs.Progress.{Progress, Leaves, LeavesAll, HasMoreAsks, acting_at}
+use Rattle.botcore.specs.Putting.{HasMoreLines}
+use Rattle.botcore.proofs.PutLemmas.{HasMoreLines_same, HasMoreLines-then}
 
 -- asks -------------------------------------------------------------------------------------------------------------------
 
@@ -78,15 +80,17 @@ pub record IsActing (before : Link) (old : Progress) (all : List Action) (link :
   pub acting : acted_all (acting_at link now) left ≡ acted_all (acting_at before old) all
   pub faults : now.faults ++ action_faults (acting_at link now) left ≡ old.faults ++ action_faults (acting_at before old) all
   pub kept : HasMoreAsks before link
+  pub lines : HasMoreLines old.queues now.queues
 
 pub IsActing-none : (before : Link) (old : Progress) (all : List Action) → IsActing before old all before old all
-IsActing-none before old all = record { acting = refl; faults = refl; kept = HasMoreAsks_refl before }
+IsActing-none before old all = record { acting = refl; faults = refl; kept = HasMoreAsks_refl before; lines = HasMoreLines_same old.queues old.queues refl }
 
 -- these were done next
 pub IsActing-more : (before : Link) (old : Progress) (all : List Action) (link : Link) (now : Progress) (left xs rest : List Action) (next : Link) (new : Progress)
     → IsActing before old all link now left → left ≡ xs ++ rest → LeavesAll link now xs next new → HasMoreAsks link next
+    → HasMoreLines now.queues new.queues
     → IsActing before old all next new rest
-IsActing-more before old all link now left xs rest next new is here done more =
+IsActing-more before old all link now left xs rest next new is here done more lines =
     record {
       acting = ap (λ (a : Acting). acted_all a rest) done.acting ∙ sym (acted_all-append (acting_at link now) xs rest)
           ∙ ap (acted_all (acting_at link now)) (sym here) ∙ is.acting;
@@ -96,6 +100,7 @@ IsActing-more before old all link now left xs rest next new is here done more =
           ∙ ap (λ (fs : List Fault). now.faults ++ fs) (sym (action_faults-append (acting_at link now) xs rest))
           ∙ ap (λ (actions : List Action). now.faults ++ action_faults (acting_at link now) actions) (sym here) ∙ is.faults;
       kept = HasMoreAsks-then before link next is.kept more;
+      lines = HasMoreLines-then old.queues now.queues new.queues is.lines lines;
     }
 
 -- all were done
@@ -115,19 +120,19 @@ LeavesAll-one link now x next new one = record { acting = one.acting; faults = o
 -- one more action
 pub IsActing-action : (before : Link) (old : Progress) (all : List Action) (link : Link) (now : Progress) (i : ℕ) (x : Action) (next : Link) (new : Progress)
     → IsActing before old all link now (drop i all) → i < length all → x ≡ get_or all i x
-    → Leaves now (acted (acting_at link now) x) next new → HasMoreAsks link next
+    → Leaves now (acted (acting_at link now) x) next new → HasMoreAsks link next → HasMoreLines now.queues new.queues
     → IsActing before old all next new (drop (i + 1) all)
-IsActing-action before old all link now i x next new is within here one more =
+IsActing-action before old all link now i x next new is within here one more lines =
     IsActing-more before old all link now (drop i all) (x ∷ []) (drop (i + 1) all) next new is
-    (drop_more all i x within ∙ ap (λ (a : Action). a ∷ drop (i + 1) all) (sym here)) (LeavesAll-one link now x next new one) more
+    (drop_more all i x within ∙ ap (λ (a : Action). a ∷ drop (i + 1) all) (sym here)) (LeavesAll-one link now x next new one) more lines
 
 -- one more call
 pub IsActing-call : (before : Link) (old : Progress) (calls : List MadeCall) (link : Link) (now : Progress) (i : ℕ) (m : MadeCall) (xs : List Action)
     (next : Link) (new : Progress)
     → IsActing before old (actions_of calls) link now (actions_of (drop i calls)) → i < length calls → m ≡ get_or calls i m → xs ≡ m.reply.actions
-    → LeavesAll link now xs next new → HasMoreAsks link next
+    → LeavesAll link now xs next new → HasMoreAsks link next → HasMoreLines now.queues new.queues
     → IsActing before old (actions_of calls) next new (actions_of (drop (i + 1) calls))
-IsActing-call before old calls link now i m xs next new is within here same done more =
+IsActing-call before old calls link now i m xs next new is within here same done more lines =
     IsActing-more before old (actions_of calls) link now (actions_of (drop i calls)) xs (actions_of (drop (i + 1) calls)) next new is
     (ap actions_of (drop_more calls i m within ∙ ap (λ (c : MadeCall). c ∷ drop (i + 1) calls) (sym here))
-    ∙ ap (λ (these : List Action). these ++ actions_of (drop (i + 1) calls)) (sym same)) done more
+    ∙ ap (λ (these : List Action). these ++ actions_of (drop (i + 1) calls)) (sym same)) done more lines

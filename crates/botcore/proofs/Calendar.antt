@@ -1,6 +1,5 @@
 -- A minute of a number is one: what happens has one list of occasions.
 use Rattle.std.proofs.Common.{◌≡◌, ◌∙◌, ℕ, ◌+◌, ◌*◌, ◌%◌, ◌<◌, ℤ, pos, ◌+ℤ◌, ◌*ℤ◌, List, [], ◌∷◌, arith, refl, ap, sym}
-use Rattle.jiff.specs.Types.{Date}
 use Rattle.jiff.specs.Words.{epoch_day}
 use Rattle.jiff_core.specs.Calendar.{weekday_number}
 use Rattle.jiff_core.proofs.DateLemmas.{epoch_day_injective}

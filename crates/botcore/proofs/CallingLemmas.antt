@@ -18,10 +18,10 @@ use Rattle.botcore.specs.Acting.{faults_of}
 use Rattle.botcore.specs.Calls.{Telling, called_in, calls_in}
 use Rattle.botcore.specs.Dispatching.{is_logged, told_of}
 use Rattle.botcore.specs.Happenings.{seconds_of}
-use Rattle.botcore.specs.Lines.{acting_of, acting_after, after_calls}
+use Rattle.botcore.specs.Lines.{acting_of, acting_after, Finish, finish_reading}
 use Rattle.botcore.specs.Made.{Made, IsMade, IsFrontMade, AllKept, entry_of}
 use Rattle.botcore.specs.Reports.{cut_short, told as told_as}
-use Rattle.botcore.specs.Steps.{IsCalled, IsCutShort, TakesCalls, TakesSeconds, run_to}
+use Rattle.botcore.specs.Steps.{IsCutShort, TakesCalls, TakesSeconds, run_to}
 use Rattle.botcore.specs.Shown.{AreOccasions, AreTaken}
 use Rattle.botcore.proofs.RunningLemmas.{AreFirst-all}
 
@@ -35,13 +35,14 @@ module _ (code_of : List ℕ → Call → Code) (may : List ℕ → Call → Lis
     kept = front.3.kept;
     note = refl;
     packets = refl;
+    lines = refl;
     faults = refl;
     logged = refl;
     after = same;
   }
 
   -- a report of the first calls
-  pub cut_short-takes : (told : List Telling) (old new start : Bot) (came : Option Note) (finish : List MadeCall → Bot) (made : Made) (calls : List MadeCall)
+  pub cut_short-takes : (told : List Telling) (old new start : Bot) (came : Option Note) (finish : List MadeCall → Finish) (made : Made) (calls : List MadeCall)
       (report : Report) → IsFrontMade code_of may made told → calls ≡ made.calls → new ≡ old → report ≡ cut_short calls
       → TakesCalls report.end code_of may told old start came finish report new
   cut_short-takes told old new start came finish made calls report front same_calls same told_as =
@@ -50,13 +51,14 @@ module _ (code_of : List ℕ → Call → Code) (may : List ℕ → Call → Lis
       (IsCutShort-front told old new made front same)
 
   -- a report of all calls
-  pub told-takes : (told : List Telling) (old start new : Bot) (came : Option Note) (finish : List MadeCall → Bot) (made : Made) (calls : List MadeCall)
-      (unbound : List Unbound) (packets : List Outgoing) (faults : List Fault) (report : Report)
+  pub told-takes : (told : List Telling) (old start new : Bot) (came : Option Note) (finish : List MadeCall → Finish) (made : Made) (calls : List MadeCall)
+      (unbound : List Unbound) (packets : List Outgoing) (lines : List (List ℕ)) (faults : List Fault) (report : Report)
       → IsMade code_of may made told → calls ≡ made.calls → unbound ≡ made.unbound
-      → packets ≡ (acting_after start calls).sent → faults ≡ faults_of (acting_of start) calls unbound → new ≡ finish calls
-      → report ≡ told_as came calls packets faults
+      → packets ≡ (acting_after start calls).sent → lines ≡ (finish calls).lines
+      → faults ≡ faults_of (acting_of start) calls unbound ++ (finish calls).faults → new ≡ (finish calls).after
+      → report ≡ told_as came calls packets lines faults
       → TakesCalls report.end code_of may told old start came finish report new
-  told-takes told old start new came finish made calls unbound packets faults report is same_calls same_unbound sent why after reported =
+  told-takes told old start new came finish made calls unbound packets lines faults report is same_calls same_unbound sent went why after reported =
       let entries : map entry_of calls ≡ calls_in told = ap (map entry_of) same_calls ∙ is.calls in
       subst (λ (r : Report). TakesCalls r.end code_of may told old start came finish r new) (sym reported)
       (record {
@@ -64,7 +66,8 @@ module _ (code_of : List ℕ → Call → Code) (may : List ℕ → Call → Lis
         kept = subst (AllKept code_of may) (sym same_calls) is.kept;
         note = refl;
         packets = sent;
-        faults = why ∙ ap (faults_of (acting_of start) calls) (same_unbound ∙ is.unbound);
+        lines = went;
+        faults = why ∙ ap (λ (us : List Unbound). faults_of (acting_of start) calls us ++ (finish calls).faults) (same_unbound ∙ is.unbound);
         logged = ap is_logged entries;
         after = after;
       })
@@ -78,7 +81,7 @@ module _ (code_of : List ℕ → Call → Code) (may : List ℕ → Call → Lis
     occasions,
     subst (λ (r : Report). AreTaken r.end (seconds_of old.config.offset old.timers (seconds_run old.clock now)) occasions) (sym reported)
         (AreFirst-all (seconds_of old.config.offset old.timers (seconds_run old.clock now)) occasions all),
-    cut_short-takes (told_of (bot_setting code_of names old) occasions) old new (run_to old now) None (after_calls (run_to old now)) made calls report
+    cut_short-takes (told_of (bot_setting code_of names old) occasions) old new (run_to old now) None (finish_reading (run_to old now) now) made calls report
         front same_calls same reported,
   )
 

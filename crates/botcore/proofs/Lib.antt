@@ -1,9 +1,16 @@
 pub mod AskLemmas
+pub mod BackLemmas
+pub mod AutomaticLemmas
 pub mod Calendar
 pub mod CallingLemmas
+pub mod DriveLemmas
+pub mod DrivingLemmas
 pub mod HeardLemmas
+pub mod JoiningLemmas
 pub mod MakingLemmas
 pub mod NextLemmas
+pub mod OutputLemmas
 pub mod PacketLemmas
+pub mod PutLemmas
 pub mod ReachLemmas
 pub mod RunningLemmas

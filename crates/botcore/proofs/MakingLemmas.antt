@@ -16,7 +16,7 @@ use Rattle.procstore.specs.Calling.{holds, IsCalled}
 use Rattle.bindtable.specs.declared.bind.Bind.{Bind}
 use Rattle.botcore.specs.declared.made_call.MadeCall.{MadeCall}
 use Rattle.botcore.specs.declared.made_call.Unbound.{Unbound}
-use Rattle.botcore.specs.Calls.{Entry, Telling, told_proc, told_by, told_all, called_in, missing_in, calls_in, unbound_in}
+use Rattle.botcore.specs.Calls.{Entry, Telling, told_proc, told_all, called_in, missing_in, calls_in, unbound_in}
 use Rattle.botcore.specs.Calls.Telling.{Called, Missing}
 use Rattle.botcore.specs.Made.{Made, entry_of, AllKept, IsMade, IsFrontMade, Adds, AddsFront}
 

@@ -1,5 +1,5 @@
 -- What a packet that the link has answered makes of a bot.
-use Rattle.std.proofs.Common.{◌≡◌, ◌∙◌, ℕ, ◌+◌, ◌==◌, nat_le, nat_lt, not, ◌||◌, Bool, true, false, if◌then◌else◌, List, Option, Some, None, Result, Ok, Err, refl, ap, sym, subst}
+use Rattle.std.proofs.Common.{◌≡◌, ◌∙◌, ℕ, ◌+◌, ◌==◌, nat_le, nat_lt, not, ◌||◌, Bool, true, false, if◌then◌else◌, List, Option, Some, None, Ok, Err, refl, ap, sym, subst}
 use Rattle.bytetext.specs.declared.failure.Failure.{Failure}
 use Rattle.bytetext.specs.declared.failure.Failure.TheVariants.{Refused, NoMemory}
 use Rattle.userfile.specs.Apply.{refusal}
@@ -13,10 +13,10 @@ use Rattle.sharewire.specs.declared.packet.Packet.TheVariants.{Hello, Change as 
 use Rattle.sharelink.specs.declared.answer.Answer.{Answer}
 use Rattle.sharelink.specs.declared.answer.Note.TheVariants.{Old, Early, Text, Stray}
 use Rattle.sharelink.specs.declared.error.LinkFault.{LinkFault}
-use Rattle.sharelink.specs.Meets.{Row, Meets, noted}
+use Rattle.sharelink.specs.Meets.{Meets, noted}
 use Rattle.sharelink.specs.Texts.{is_no_bot}
 use Rattle.sharelink.specs.HubRules.{Hub, hub_received, is_no_leaf, version_of, hello_served, relayed}
-use Rattle.sharelink.specs.LeafRules.{Leaf, leaf_received, change_received, next_applied, leaf_text_received}
+use Rattle.sharelink.specs.LeafRules.{Leaf, leaf_received, change_received, next_applied}
 use Rattle.botcore.specs.declared.link.Link.{Link}
 use Rattle.botcore.specs.declared.link.Link.TheVariants.{Hub as hub_end, Leaf as leaf_end}
 use Rattle.botcore.specs.declared.report.Report.{Report}
@@ -119,6 +119,7 @@ module _ (code_of : List ℕ → Call → Code) (may : List ℕ → Call → Lis
         kept = tt;
         note = refl;
         packets = refl;
+        lines = refl;
         faults = refl;
         logged = refl;
         after = same;

@@ -1,16 +1,19 @@
 -- No action gives timers a second that the clock has not seen.
-use Rattle.std.proofs.Common.{◌≡◌, ◌∙◌, ℕ, ◌≤◌, List, [], ◌∷◌, Bool, true, false, Option, Some, None, Result, Ok, Err, unwrap_or, arith, refl, sym, subst, length}
+use Rattle.std.proofs.Common.{◌≡◌, ◌∙◌, ℕ, List, [], ◌∷◌, Bool, true, false, Option, Some, None, Result, Ok, Err, unwrap_or, arith, refl, sym, subst, length}
 use Rattle.bottimers.specs.declared.fault.ClockFault.{ClockFault}
 use Rattle.bottimers.specs.declared.timer.Timer.{Timer}
 use Rattle.bottimers.specs.declared.timer.TimerKind.{TimerKind}
 use Rattle.bottimers.specs.declared.timer.TimerKind.TheVariants.{Minutes, Seconds}
 use Rattle.bottimers.specs.Held.{add_fault, holds}
 use Rattle.procstore.specs.declared.action.Action.{Action}
-use Rattle.procstore.specs.declared.action.Action.TheVariants.{Ask, Timer as timer_wished, Utimer, KillTimer, SendBot}
+use Rattle.procstore.specs.declared.action.Action.TheVariants.{Ask, Timer as timer_wished, Utimer, KillTimer, SendBot, Put}
+use Rattle.procstore.specs.declared.action.PutWish.{PutWish}
 use Rattle.procstore.specs.declared.action.TimerWish.{TimerWish}
+use Rattle.outqueue.specs.declared.fault.QueueFault.{QueueFault}
+use Rattle.outqueue.specs.Refusals.{refusal}
 use Rattle.sharelink.specs.declared.answer.Outgoing.{Outgoing}
 use Rattle.sharelink.specs.declared.error.LinkFault.{LinkFault}
-use Rattle.botcore.specs.Acting.{Acting, acted, acted_all, made_unless, timer_made, timer_of, killed_if, sent_if}
+use Rattle.botcore.specs.Acting.{Acting, acted, acted_all, made_unless, timer_made, timer_of, killed_if, sent_if, put_unless}
 use Rattle.botcore.specs.declared.link.Link.{Link}
 use Rattle.botcore.specs.Links.{link_text}
 use Rattle.botcore.specs.Progress.{Progress, LeavesAll, acting_at}
@@ -41,12 +44,17 @@ sent_keeps : (text : Result Outgoing LinkFault) (a : Acting) → IsReached a.tim
 sent_keeps (Ok outgoing) a reached = (refl, reached)
 sent_keeps (Err fault) a reached = (refl, reached)
 
+put_keeps : (fault : Option QueueFault) (a : Acting) (wish : PutWish) → IsReached a.timers.last a.last → Keeps a (put_unless fault a wish).after
+put_keeps (Some fault) a wish reached = (refl, reached)
+put_keeps None a wish reached = (refl, reached)
+
 acted_keeps : (a : Acting) (x : Action) → IsReached a.timers.last a.last → Keeps a (acted a x).after
 acted_keeps a (Ask change) reached = (refl, reached)
 acted_keeps a (timer_wished wish) reached = timer_keeps Minutes a wish reached
 acted_keeps a (Utimer wish) reached = timer_keeps Seconds a wish reached
 acted_keeps a (KillTimer id) reached = killed_keeps (holds a.timers id) a id reached
 acted_keeps a (SendBot wish) reached = sent_keeps (link_text a.link wish.to wish.text (length a.sent)) a reached
+acted_keeps a (Put wish) reached = put_keeps (refusal a.queues wish.queue wish.line) a wish reached
 
 acted_all_keeps : (a : Acting) (xs : List Action) → IsReached a.timers.last a.last → Keeps a (acted_all a xs)
 acted_all_keeps a [] reached = (refl, reached)

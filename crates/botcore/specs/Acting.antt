@@ -7,17 +7,19 @@ use Rattle.bottimers.specs.declared.timer.Timer.{Timer}
 use Rattle.bottimers.specs.declared.timer.TimerKind.{TimerKind}
 use Rattle.bottimers.specs.declared.timer.TimerKind.TheVariants.{Minutes, Seconds}
 use Rattle.bottimers.specs.Held.{Held, add_fault, with_timer, holds, without}
-use Rattle.userfile.specs.declared.change.Change.{Change}
 use Rattle.procstore.specs.declared.action.Action.{Action}
-use Rattle.procstore.specs.declared.action.Action.TheVariants.{Ask, Timer as timer_wished, Utimer, KillTimer, SendBot}
-use Rattle.procstore.specs.declared.action.BotWish.{BotWish}
+use Rattle.outqueue.specs.declared.fault.QueueFault.{QueueFault}
+use Rattle.outqueue.specs.Refusals.{refusal, put_last}
+use Rattle.outqueue.specs.Sending.{Sending}
+use Rattle.procstore.specs.declared.action.Action.TheVariants.{Ask, Timer as timer_wished, Utimer, KillTimer, SendBot, Put}
+use Rattle.procstore.specs.declared.action.PutWish.{PutWish}
 use Rattle.procstore.specs.declared.action.TimerWish.{TimerWish}
 use Rattle.sharelink.specs.declared.answer.Answer.{Answer}
 use Rattle.sharelink.specs.declared.answer.Outgoing.{Outgoing}
 use Rattle.sharelink.specs.declared.error.LinkFault.{LinkFault}
 use Rattle.sharelink.specs.Meets.{Row}
 use Rattle.botcore.specs.declared.fault.ActionFault.{ActionFault}
-use Rattle.botcore.specs.declared.fault.ActionFault.TheVariants.{Link as link_fault, Clock as clock_fault}
+use Rattle.botcore.specs.declared.fault.ActionFault.TheVariants.{Link as link_fault, Clock as clock_fault, Queue as queue_fault}
 use Rattle.botcore.specs.declared.fault.Fault.{Fault}
 use Rattle.botcore.specs.declared.fault.Fault.TheVariants.{Unbound as unbound_fault, Action as action_fault}
 use Rattle.botcore.specs.declared.link.Link.{Link}
@@ -25,12 +27,14 @@ use Rattle.botcore.specs.declared.made_call.MadeCall.{MadeCall}
 use Rattle.botcore.specs.declared.made_call.Unbound.{Unbound}
 use Rattle.botcore.specs.Links.{link_asked, link_text}
 
--- what actions change: the link, the timers, and the texts that are sent; new timers are made at the last second
+-- what actions change: the link, the timers, the texts that are sent, and the queues of lines for the server; new timers are
+-- made at the last second
 pub record Acting : Type 0 where
   pub link : Link
   pub timers : Held
   pub last : Option ℕ
   pub sent : List Outgoing
+  pub queues : Sending
 
 -- an action leaves this, and is refused or not
 pub record Acted : Type 0 where
@@ -82,12 +86,18 @@ abbrev pub sent_if : Result Outgoing LinkFault → Acting → Acted
 sent_if (Ok outgoing) old = done_to (record old { sent = old.sent ++ outgoing ∷ [] })
 sent_if (Err fault) old = refused_to old (link_fault fault)
 
+-- a line is put last in its queue, unless the queue refuses it
+abbrev pub put_unless : Option QueueFault → Acting → PutWish → Acted
+put_unless (Some fault) old wish = refused_to old (queue_fault fault)
+put_unless None old wish = done_to (record old { queues = put_last old.queues wish.queue wish.line })
+
 abbrev pub acted : Acting → Action → Acted
 acted old (Ask change) = asked_to old (link_asked old.link change)
 acted old (timer_wished wish) = timer_made Minutes old wish
 acted old (Utimer wish) = timer_made Seconds old wish
 acted old (KillTimer id) = killed_if (holds old.timers id) old id
 acted old (SendBot wish) = sent_if (link_text old.link wish.to wish.text (length old.sent)) old
+acted old (Put wish) = put_unless (refusal old.queues wish.queue wish.line) old wish
 
 -- ---- all actions
 

@@ -10,7 +10,6 @@ use Rattle.chanstate.specs.declared.event.Event.{Event}
 use Rattle.procstore.specs.declared.call.Call.{Call}
 use Rattle.procstore.specs.declared.kind.Kind.{Kind}
 use Rattle.procstore.specs.declared.kind.Kind.TheVariants.{Raw, Msg, Msgm, Notc, Pub, Pubm}
-use Rattle.bottimers.specs.declared.calendar.CivilMinute.{CivilMinute}
 use Rattle.procstore.specs.declared.reply.Code.{Code}
 use Rattle.procstore.specs.declared.reply.Code.TheVariants.{Zero, One}
 use Rattle.bindtable.specs.declared.bind.Bind.{Bind}

@@ -1,22 +1,27 @@
 -- What calls and their event leave of a bot.
-use Rattle.std.specs.Prelude.{List, [], map, if◌then◌else◌}
+use Rattle.std.specs.Prelude.{ℕ, Bool, ◌||◌, List, [], map, if◌then◌else◌}
 use Rattle.ircline.specs.declared.message.Message.{Message}
 use Rattle.chanstate.specs.declared.state.ChanState.{ChanState}
 use Rattle.chanstate.specs.Steps.{after}
-use Rattle.procstore.specs.declared.action.Action.{Action}
+use Rattle.outqueue.specs.Sending.{sent, after as after_sending}
+use Rattle.procstore.specs.declared.action.PutWish.{PutWish}
+use Rattle.botcore.specs.declared.fault.Fault.{Fault}
 use Rattle.botcore.specs.declared.made_call.MadeCall.{MadeCall}
 use Rattle.botcore.specs.Acting.{Acting, actions_of, acted_all}
+use Rattle.botcore.specs.Automatic.{automatic_lines, is_welcome}
 use Rattle.botcore.specs.Bots.{Bot}
 use Rattle.botcore.specs.Dispatching.{has_raw_one}
+use Rattle.botcore.specs.Links.{link_records}
 use Rattle.botcore.specs.Made.{entry_of}
+use Rattle.botcore.specs.Putting.{put_all, put_faults}
 
 -- before the first action
 abbrev pub acting_of : Bot → Acting
-acting_of bot = record { link = bot.link; timers = bot.timers; last = bot.clock; sent = [] }
+acting_of bot = record { link = bot.link; timers = bot.timers; last = bot.clock; sent = []; queues = bot.queues }
 
 -- the bot after actions
 abbrev pub left_by : Bot → Acting → Bot
-left_by bot acting = record bot { link = acting.link; timers = acting.timers }
+left_by bot acting = record bot { link = acting.link; timers = acting.timers; queues = acting.queues }
 
 -- all actions of calls, from this bot on
 abbrev pub acting_after : Bot → List MadeCall → Acting
@@ -25,10 +30,53 @@ acting_after bot calls = acted_all (acting_of bot) (actions_of calls)
 abbrev pub after_calls : Bot → List MadeCall → Bot
 after_calls bot calls = left_by bot (acting_after bot calls)
 
+-- what an event leaves: the bot, the faults of its own lines, and the lines that go to the server
+pub record Finish : Type 0 where
+  pub after : Bot
+  pub faults : List Fault
+  pub lines : List (List ℕ)
+
+-- a text of another bot leaves no more than its calls do
+abbrev pub finish_text : Bot → List MadeCall → Finish
+finish_text old calls = record { after = after_calls old calls; faults = []; lines = [] }
+
+-- ---- a message of the server
+
 -- the channels after a message of these calls: it is taken in last, unless a raw proc has answered 1
 abbrev pub channels_after : ChanState → List MadeCall → Message → ChanState
 channels_after channels calls message = if has_raw_one (map entry_of calls) then channels else after message channels
 
--- the bot after a message of these calls
+-- whether the server has welcomed the bot by then
+abbrev pub welcomed_after : Bool → List MadeCall → Message → Bool
+welcomed_after welcomed calls message = if has_raw_one (map entry_of calls) then welcomed else welcomed || is_welcome message
+
+-- the bot's own lines for a message of these calls: none where a raw proc has answered 1
+abbrev pub own_lines : Bot → Message → List MadeCall → List PutWish
+own_lines old message calls =
+    if has_raw_one (map entry_of calls) then []
+    else automatic_lines old.config old.channels (link_records old.link).bans old.clock old.welcomed message
+
+-- the bot after a message of these calls: its own lines are put after those of the calls
 abbrev pub after_line : Bot → Message → List MadeCall → Bot
-after_line old message calls = record (after_calls old calls) { channels = channels_after old.channels calls message }
+after_line old message calls = record (after_calls old calls) {
+  channels = channels_after old.channels calls message;
+  queues = put_all (acting_after old calls).queues (own_lines old message calls);
+  welcomed = welcomed_after old.welcomed calls message;
+}
+
+abbrev pub finish_line : Bot → Message → List MadeCall → Finish
+finish_line old message calls = record {
+  after = after_line old message calls;
+  faults = put_faults (acting_after old calls).queues (own_lines old message calls);
+  lines = [];
+}
+
+-- ---- a reading of the clock
+
+-- the lines that may go at a reading are sent, those of its calls included
+abbrev pub finish_reading : Bot → ℕ → List MadeCall → Finish
+finish_reading start now calls = record {
+  after = record (after_calls start calls) { queues = after_sending (acting_after start calls).queues now };
+  faults = [];
+  lines = sent (acting_after start calls).queues now;
+}

@@ -1,5 +1,7 @@
 -- How far the actions of calls have come.
 use Rattle.std.specs.Prelude.{◌≡◌, ℕ, List, [], ◌++◌, Option}
+use Rattle.outqueue.specs.Sending.{Sending, with_first}
+use Rattle.outqueue.specs.declared.queues.Counts.{Counts}
 use Rattle.bottimers.specs.Held.{Held}
 use Rattle.userfile.specs.declared.change.Change.{Change}
 use Rattle.procstore.specs.declared.action.Action.{Action}
@@ -7,18 +9,22 @@ use Rattle.sharelink.specs.declared.answer.Outgoing.{Outgoing}
 use Rattle.botcore.specs.declared.fault.Fault.{Fault}
 use Rattle.botcore.specs.declared.link.Link.{Link}
 use Rattle.botcore.specs.Acting.{Acting, Acted, acted_all, with_fault, action_faults}
-use Rattle.botcore.specs.Links.{link_with_asks}
+use Rattle.botcore.specs.Bots.{Bot}
+use Rattle.botcore.specs.Links.{link_with_asks, link_with_oldest}
+use Rattle.botcore.specs.Putting.{HasMoreLines}
 
 -- what actions have changed beside the link, and what went wrong
 pub record Progress : Type 0 where
   pub timers : Held
   pub last : Option ℕ
   pub sent : List Outgoing
+  pub queues : Sending
   pub faults : List Fault
 
 -- all that actions change
 abbrev pub acting_at : Link → Progress → Acting
-acting_at link doing = record { link = link; timers = doing.timers; last = doing.last; sent = doing.sent }
+acting_at link doing =
+    record { link = link; timers = doing.timers; last = doing.last; sent = doing.sent; queues = doing.queues }
 
 -- one action left this, and its refusal is told after other faults
 pub record Leaves (old : Progress) (acted : Acted) (link : Link) (new : Progress) : Type 0 where
@@ -33,3 +39,13 @@ pub record LeavesAll (before : Link) (old : Progress) (actions : List Action) (l
 -- a link as it was, but for asks after those that waited
 abbrev pub HasMoreAsks : Link → Link → Type 0
 HasMoreAsks old new = (more : List Change) × (new ≡ link_with_asks old more)
+
+-- a bot as it was, but for more asks and more lines, which can be taken back
+pub record HasMore (old new : Bot) : Type 0 where
+  pub asks : HasMoreAsks old.link new.link
+  pub lines : HasMoreLines old.queues new.queues
+  pub rest : new ≡ record old { link = new.link; queues = new.queues }
+
+-- the bot with so many of its asks and lines, from the oldest on
+abbrev pub with_oldest : Bot → ℕ → Counts → Bot
+with_oldest bot asks lines = record bot { link = link_with_oldest bot.link asks; queues = with_first bot.queues lines }

@@ -18,9 +18,9 @@ use Rattle.botcore.specs.declared.report.Report.{Report}
 use Rattle.botcore.specs.Dispatching.{is_logged}
 use Rattle.botcore.specs.Made.{entry_of}
 
--- an end and a note, no call, nothing to send and no fault
+-- an end and a note, no call, nothing to send, and no fault
 abbrev pub plain : End → Option Note → Report
-plain end note = record { end = end; note = note; calls = []; packets = []; faults = []; logged = true }
+plain end note = record { end = end; note = note; calls = []; packets = []; lines = []; faults = []; logged = true }
 
 abbrev pub done : Option Note → Report
 done note = plain Done note
@@ -55,12 +55,28 @@ unbind_report (Err fault) = refused (bind_refusal fault)
 
 -- ---- what calls procs
 
--- this came of it: these calls were made, these texts are to go out, and these faults are told
-abbrev pub told : Option Note → List MadeCall → List Outgoing → List Fault → Report
-told note calls packets faults =
-    record { end = Done; note = note; calls = calls; packets = packets; faults = faults; logged = is_logged (map entry_of calls) }
+-- this came of it: these calls were made, these texts go to bots and these lines to the server, and these faults are told
+abbrev pub told : Option Note → List MadeCall → List Outgoing → List (List ℕ) → List Fault → Report
+told note calls packets lines faults =
+    record {
+      end = Done;
+      note = note;
+      calls = calls;
+      packets = packets;
+      lines = lines;
+      faults = faults;
+      logged = is_logged (map entry_of calls);
+    }
 
 -- memory ran out after these calls
 abbrev pub cut_short : List MadeCall → Report
 cut_short calls =
-    record { end = NoMemory; note = None; calls = calls; packets = []; faults = []; logged = is_logged (map entry_of calls) }
+    record {
+      end = NoMemory;
+      note = None;
+      calls = calls;
+      packets = [];
+      lines = [];
+      faults = [];
+      logged = is_logged (map entry_of calls);
+    }

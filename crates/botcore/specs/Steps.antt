@@ -36,7 +36,10 @@ use Rattle.botcore.specs.Calls.{Entry, Telling, calls_in, unbound_in}
 use Rattle.botcore.specs.Dispatching.{told_of, is_logged}
 use Rattle.botcore.specs.Acting.{faults_of}
 use Rattle.botcore.specs.Happenings.{Saying, saying_of, seconds_of, passed_all}
-use Rattle.botcore.specs.Lines.{acting_of, acting_after, after_calls, after_line}
+use Rattle.botcore.specs.Automatic.{greeting}
+use Rattle.botcore.specs.Lines.{acting_of, acting_after, Finish, finish_text, finish_line, finish_reading}
+use Rattle.botcore.specs.Putting.{put_all, put_faults}
+use Rattle.outqueue.specs.Sending.{idle}
 use Rattle.botcore.specs.Shown.{AreTaken}
 use Rattle.botcore.specs.Links.{link_asked, link_pumped, link_received}
 use Rattle.botcore.specs.Made.{entry_of, AllKept}
@@ -49,9 +52,16 @@ pub record Due : Type 0 where
   pub report : Report
   pub after : Bot
 
--- connected: on no channel, under the nick of the configuration
+-- connected: on no channel, under the nick of the configuration, and of all lines for the server only the greeting waits
 abbrev pub connect_due : Bot → Due
-connect_due old = record { report = done None; after = record old { channels = connected old.config.nick } }
+connect_due old = record {
+  report = record (done None) { faults = put_faults idle (greeting old.config) };
+  after = record old {
+    channels = connected old.config.nick;
+    queues = put_all idle (greeting old.config);
+    welcomed = false;
+  };
+}
 
 -- a rule of the link
 abbrev pub link_due : Bot → Row Link → Due
@@ -99,14 +109,15 @@ GivesUnbind old gone report new = Gives report.end ⊥ old (unbind_due old gone 
 -- All these calls were made, each answered by its proc, and what they ask for was done, from the bot `start` on; `finish` makes
 -- what the event leaves of that.
 pub record IsCalled (code_of : List ℕ → Call → Code) (may : List ℕ → Call → List Action → Type 0) (told : List Telling)
-    (start : Bot) (came : Option Note) (finish : List MadeCall → Bot) (report : Report) (new : Bot) : Type 0 where
+    (start : Bot) (came : Option Note) (finish : List MadeCall → Finish) (report : Report) (new : Bot) : Type 0 where
   pub calls : map entry_of report.calls ≡ calls_in told
   pub kept : AllKept code_of may report.calls
   pub note : report.note ≡ came
   pub packets : report.packets ≡ (acting_after start report.calls).sent
-  pub faults : report.faults ≡ faults_of (acting_of start) report.calls (unbound_in told)
+  pub lines : report.lines ≡ (finish report.calls).lines
+  pub faults : report.faults ≡ faults_of (acting_of start) report.calls (unbound_in told) ++ (finish report.calls).faults
   pub logged : report.logged ≡ is_logged (calls_in told)
-  pub after : new ≡ finish report.calls
+  pub after : new ≡ (finish report.calls).after
 
 -- the first of these calls were made before memory ran out, and the bot is as it was
 pub record IsCutShort (code_of : List ℕ → Call → Code) (may : List ℕ → Call → List Action → Type 0)
@@ -116,25 +127,26 @@ pub record IsCutShort (code_of : List ℕ → Call → Code) (may : List ℕ →
   pub kept : AllKept code_of may report.calls
   pub note : report.note ≡ None
   pub packets : report.packets ≡ []
+  pub lines : report.lines ≡ []
   pub faults : report.faults ≡ []
   pub logged : report.logged ≡ is_logged (map entry_of report.calls)
   pub after : new ≡ old
 
 -- what calls procs is never refused
 abbrev pub TakesCalls : End → (List ℕ → Call → Code) → (List ℕ → Call → List Action → Type 0) → List Telling → Bot
-    → Bot → Option Note → (List MadeCall → Bot) → Report → Bot → Type 0
+    → Bot → Option Note → (List MadeCall → Finish) → Report → Bot → Type 0
 TakesCalls Done code_of may told old start came finish report new = IsCalled code_of may told start came finish report new
 TakesCalls (Refused why) code_of may told old start came finish report new = ⊥
 TakesCalls NoMemory code_of may told old start came finish report new = IsCutShort code_of may told old report new
 
--- a message: its events call procs, their actions are done, and it is taken into the channel state
+-- a message: its events call procs, their actions are done, it is taken into the channel state, and the bot's own lines are put
 abbrev pub message_told : (List ℕ → Call → Code) → List (List ℕ) → Bot → Message → List Telling
 message_told code_of names bot message = told_of (bot_setting code_of names bot) (map Heard (events_of message bot.channels))
 
 abbrev pub TakesMessage : (List ℕ → Call → Code) → (List ℕ → Call → List Action → Type 0) → List (List ℕ)
     → Bot → Message → Report → Bot → Type 0
 TakesMessage code_of may names old message report new =
-    TakesCalls report.end code_of may (message_told code_of names old message) old old None (after_line old message) report new
+    TakesCalls report.end code_of may (message_told code_of names old message) old old None (finish_line old message) report new
 
 -- a text of another bot calls procs by its first word, if it begins with one
 abbrev pub said_occasions : Saying → List Occasion
@@ -147,7 +159,7 @@ abbrev pub TakesText : (List ℕ → Call → Code) → (List ℕ → Call → L
     → Bot → Saying → Report → Bot → Type 0
 TakesText code_of may names old saying report new =
     TakesCalls report.end code_of may (told_of (bot_setting code_of names old) (said_occasions saying)) old old
-    (Some (text_note saying)) (after_calls old) report new
+    (Some (text_note saying)) (finish_text old) report new
 
 -- a packet is one call of the link, and its text, if it brings one to this bot, is told
 abbrev pub TakesPacket : Option Saying → (List ℕ → Call → Code) → (List ℕ → Call → List Action → Type 0) → List (List ℕ)
@@ -166,14 +178,15 @@ is_stale (Some last) now = nat_le now last
 abbrev pub run_to : Bot → ℕ → Bot
 run_to old now = record old { clock = Some now; timers = passed_all old.timers (seconds_run old.clock now) }
 
--- the seconds of a reading call procs, and then all actions are done; where memory runs out, the first of all may be called
+-- the seconds of a reading call procs, then all actions are done, and then the lines that may go are sent; where memory runs
+-- out, the first of all may be called
 abbrev pub TakesSeconds : (List ℕ → Call → Code) → (List ℕ → Call → List Action → Type 0) → List (List ℕ)
     → Bot → ℕ → Report → Bot → Type 0
 TakesSeconds code_of may names old now report new =
     (occasions : List Occasion)
     × AreTaken report.end (seconds_of old.config.offset old.timers (seconds_run old.clock now)) occasions
     × TakesCalls report.end code_of may (told_of (bot_setting code_of names old) occasions) old (run_to old now)
-    None (after_calls (run_to old now)) report new
+    None (finish_reading (run_to old now) now) report new
 
 -- one that is not above the last does nothing, and takes no memory
 abbrev pub TakesMoment : Bool → (List ℕ → Call → Code) → (List ℕ → Call → List Action → Type 0) → List (List ℕ)

@@ -1,14 +1,14 @@
 // What the actions of calls do.
-ghost use Rattle.botcore.specs.Acting.{actions_of};
-ghost use Rattle.botcore.specs.Progress.{HasMoreAsks, LeavesAll};
 
 use crate::fault::{ActionFault, Fault};
 use crate::link::Link;
 use crate::made_call::MadeCall;
+use crate::putting::put;
 use crate::report::Faults;
 use bottimers::{TimerKind, Timers};
 use bytetext::{Failure, NoMemory, Seq, TryCopy};
-use procstore::{Action, BotWish, TimerWish};
+use outqueue::Queues;
+use procstore::{Action, BotWish, PutWish, TimerWish};
 use sharelink::Outgoings;
 use std::alloc::Global;
 use std::marker::Model;
@@ -23,6 +23,8 @@ pub(crate) struct Doing {
     pub(crate) last: Option<u64>,
     // The texts that go out.
     pub(crate) sent: Outgoings,
+    // The lines for the server.
+    pub(crate) queues: Queues,
     // What went wrong.
     pub(crate) faults: Faults,
 }
@@ -35,35 +37,9 @@ impl Model for Doing {
 
     ghost Value = { Progress };
 
-    ghost view = { λ d. record { timers = d.timers; last = d.last; sent = d.sent; faults = d.faults } };
+    ghost view = { λ d. record { timers = d.timers; last = d.last; sent = d.sent; queues = d.queues; faults = d.faults } };
 
     ghost invariant = { λ d. IsNotBelow d.timers.last d.last × (length d.sent ≤ MAX_TEXTS) };
-}
-
-impl Link {
-    ghost use Rattle.std.specs.Prelude.{◌≡◌, OnOk, OnErr};
-
-    // Does all that calls ask for, in their order, and tells what is refused. Out of memory the link is as it was, and
-    // the rest is not to be used.
-    pub(crate) fn act_all(
-        &mut self,
-        alloc: Global,
-        calls: &[MadeCall],
-        doing: &mut Doing,
-    ) -> Result<(), NoMemory>
-        ensures done { OnOk result (LeavesAll self.old doing.old (actions_of calls.now) self.new doing.new) }
-        ensures err { OnErr result (self.new ≡ self.old) }
-        ensures kept { HasMoreAsks self.old self.new }
-    {
-        let waiting = self.ask_count();
-        match doing.act_for(alloc, self, calls) {
-            Ok(()) => Ok(()),
-            Err(NoMemory) => {
-                self.keep_asks(waiting);
-                Err(NoMemory)
-            }
-        }
-    }
 }
 
 impl Doing {
@@ -71,25 +47,35 @@ impl Doing {
     ghost use Rattle.bottimers.specs.Held.{IsNotBelow, holds};
     ghost use Rattle.botcore.specs.declared.fault.Fault.TheVariants.{Action as action_fault};
     ghost use Rattle.botcore.specs.declared.link.Link.{Link};
-    ghost use Rattle.botcore.specs.Acting.{acted, asked_to, killed_if, sent_if, timer_made};
+    ghost use Rattle.botcore.specs.Acting.{acted, actions_of, asked_to, killed_if, put_unless, sent_if, timer_made};
     ghost use Rattle.botcore.specs.Links.{link_asked, link_text};
-    ghost use Rattle.botcore.specs.Progress.{Leaves, acting_at};
+    ghost use Rattle.botcore.specs.Putting.{HasMoreLines};
+    ghost use Rattle.outqueue.specs.Refusals.{refusal};
+    ghost use Rattle.botcore.specs.Progress.{HasMoreAsks, Leaves, LeavesAll, acting_at};
 
     // Before the first action. Takes no memory.
-    pub(crate) fn new(alloc: Global, timers: Timers, last: Option<u64>, faults: Faults) -> Doing
+    pub(crate) fn new(
+        alloc: Global,
+        timers: Timers,
+        last: Option<u64>,
+        queues: Queues,
+        faults: Faults,
+    ) -> Doing
         requires { IsNotBelow timers.last last }
-        ensures { result ≡ record { timers = timers; last = last; sent = []; faults = faults } }
+        ensures { result ≡ record { timers = timers; last = last; sent = []; queues = queues; faults = faults } }
     {
         Doing {
             timers,
             last,
             sent: Seq::empty(alloc),
+            queues,
             faults,
         }
     }
 
-    // Does all that calls ask for, in their order.
-    fn act_for(
+    // Does all that calls ask for, in their order, and tells what is refused. Out of memory some of it is done, and asks and
+    // lines that came of it can be taken back.
+    pub(crate) fn act_for(
         &mut self,
         alloc: Global,
         link: &mut Link,
@@ -97,6 +83,7 @@ impl Doing {
     ) -> Result<(), NoMemory>
         ensures done { OnOk result (LeavesAll link.old self.old (actions_of calls.now) link.new self.new) }
         ensures kept { HasMoreAsks link.old link.new }
+        ensures lines { HasMoreLines self.old.queues self.new.queues }
     {
         for call in calls {
             self.act_all(alloc, link, call.reply.actions.as_slice())?;
@@ -113,6 +100,7 @@ impl Doing {
     ) -> Result<(), NoMemory>
         ensures done { OnOk result (LeavesAll link.old self.old actions.now link.new self.new) }
         ensures kept { HasMoreAsks link.old link.new }
+        ensures lines { HasMoreLines self.old.queues self.new.queues }
     {
         for action in actions {
             self.act(alloc, link, action)?;
@@ -121,10 +109,11 @@ impl Doing {
     }
 
     // Does an action, or tells why not.
-    #[tactic(auto, using(crate::proofs::AskLemmas::HasMoreAsks_refl))]
+    #[tactic(auto, using(crate::proofs::AskLemmas::HasMoreAsks_refl, crate::proofs::PutLemmas::HasMoreLines_same))]
     fn act(&mut self, alloc: Global, link: &mut Link, action: &Action) -> Result<(), NoMemory>
         ensures done { OnOk result (Leaves self.old (acted (acting_at link.old self.old) action.now) link.new self.new) }
         ensures kept { HasMoreAsks link.old link.new }
+        ensures lines { HasMoreLines self.old.queues self.new.queues }
     {
         match action {
             Action::Ask(change) => self.ask(alloc, link, change),
@@ -132,6 +121,7 @@ impl Doing {
             Action::Utimer(wish) => self.make_timer(alloc, TimerKind::Seconds, wish),
             Action::KillTimer(id) => self.kill_timer(*id),
             Action::SendBot(wish) => self.send_text(alloc, link, wish),
+            Action::Put(wish) => self.put(alloc, wish),
         }
     }
 
@@ -141,6 +131,7 @@ impl Doing {
         ensures done { OnOk result (Leaves self.old
             (asked_to (acting_at link.old self.old) (link_asked link.old change.now)) link.new self.new) }
         ensures kept { HasMoreAsks link.old link.new }
+        ensures queues { self.new.queues ≡ self.old.queues }
     {
         let change = change.copy(alloc)?;
         match link.ask(alloc, change) {
@@ -157,8 +148,9 @@ impl Doing {
         kind: TimerKind,
         wish: &TimerWish,
     ) -> Result<(), NoMemory>
-        ensures { OnOk result ((link : Link) →
+        ensures done { OnOk result ((link : Link) →
             Leaves self.old (timer_made kind (acting_at link self.old) wish.now) link self.new) }
+        ensures queues { self.new.queues ≡ self.old.queues }
     {
         let proc = wish.proc.copy(alloc)?;
         match self
@@ -173,8 +165,9 @@ impl Doing {
 
     // Takes a timer away, or tells why not.
     fn kill_timer(&mut self, id: u32) -> Result<(), NoMemory>
-        ensures { OnOk result ((link : Link) →
+        ensures done { OnOk result ((link : Link) →
             Leaves self.old (killed_if (holds self.old.timers id) (acting_at link self.old) id) link self.new) }
+        ensures queues { self.new.queues ≡ self.old.queues }
     {
         match self.timers.kill(id) {
             Ok(()) => Ok(()),
@@ -184,8 +177,9 @@ impl Doing {
 
     // Lets a text go out, or tells why not.
     fn send_text(&mut self, alloc: Global, link: &Link, wish: &BotWish) -> Result<(), NoMemory>
-        ensures { OnOk result (Leaves self.old (sent_if
+        ensures done { OnOk result (Leaves self.old (sent_if
             (link_text link.now wish.now.to wish.now.text (length self.old.sent)) (acting_at link.now self.old)) link.now self.new) }
+        ensures queues { self.new.queues ≡ self.old.queues }
     {
         match link.send_text(alloc, wish.to, wish.text.as_bytes(), self.sent.len()) {
             Ok(outgoing) => self.sent.push(outgoing),
@@ -194,9 +188,23 @@ impl Doing {
         }
     }
 
+    // Puts a line into its queue, or tells why not.
+    fn put(&mut self, alloc: Global, wish: &PutWish) -> Result<(), NoMemory>
+        ensures done { OnOk result ((link : Link) → Leaves self.old (put_unless
+            (refusal self.old.queues wish.now.queue wish.now.line) (acting_at link self.old) wish.now) link self.new) }
+        ensures lines { HasMoreLines self.old.queues self.new.queues }
+    {
+        let wish = wish.copy(alloc)?;
+        match put(&mut self.queues, wish)? {
+            None => Ok(()),
+            Some(fault) => self.tell(ActionFault::Queue(fault)),
+        }
+    }
+
     // Tells a refusal after the faults so far.
     fn tell(&mut self, fault: ActionFault) -> Result<(), NoMemory>
-        ensures { OnOk result (self.new ≡ record self.old { faults = self.old.faults ++ action_fault fault ∷ [] }) }
+        ensures told { OnOk result (self.new ≡ record self.old { faults = self.old.faults ++ action_fault fault ∷ [] }) }
+        ensures queues { self.new.queues ≡ self.old.queues }
     {
         self.faults.push(Fault::Action(fault))
     }

@@ -6,11 +6,13 @@ use bindtable::BindTable;
 use bottimers::{Clock, Timers};
 use bytetext::{Failure, NoMemory, TryCopy};
 use chanstate::ChanState;
+use outqueue::Queues;
 use std::alloc::Global;
 use std::marker::Model;
 use userfile::Userfile;
 
-/// A bot: its end of the sharing link, its binds, the channels that it is on, its clock and its timers.
+/// A bot: its end of the sharing link, its binds, the channels that it is on, its clock, its timers, and its lines for the
+/// server.
 #[derive(Drop)]
 pub struct Bot {
     pub(crate) config: Config,
@@ -19,6 +21,9 @@ pub struct Bot {
     pub(crate) channels: ChanState,
     pub(crate) clock: Clock,
     pub(crate) timers: Timers,
+    pub(crate) queues: Queues,
+    // Whether a 001 was taken in since it last connected.
+    pub(crate) welcomed: bool,
 }
 
 impl Model for Bot {
@@ -33,13 +38,18 @@ impl Model for Bot {
       channels = b.channels;
       clock = b.clock;
       timers = b.timers;
+      queues = b.queues;
+      welcomed = b.welcomed;
     } };
 
     ghost use Rattle.botcore.specs.Rising.{IsReached};
+    ghost use Rattle.std.specs.Prelude.{◌≡◌};
     ghost use Rattle.bottimers.specs.Civil.{IsOffset};
+    ghost use Rattle.outqueue.specs.Sending.{no_room};
 
-    // No timer has seen a second that the clock has not, and the clock has an offset of less than a day.
-    ghost invariant = { λ b. IsReached b.timers.last b.clock × IsOffset b.config.offset };
+    // No timer has seen a second that the clock has not, the clock has an offset of less than a day, and no room is kept for
+    // lines to come.
+    ghost invariant = { λ b. IsReached b.timers.last b.clock × IsOffset b.config.offset × (b.queues.room ≡ no_room) };
 }
 
 impl Bot {
@@ -74,6 +84,8 @@ impl Bot {
             channels,
             clock: Clock::new(),
             timers: Timers::new(alloc),
+            queues: Queues::new(alloc),
+            welcomed: false,
         })
     }
 
@@ -107,6 +119,7 @@ impl TryCopy for Bot {
         let channels = self.channels.copy(alloc)?;
         let clock = self.clock.copy(alloc)?;
         let timers = self.timers.copy(alloc)?;
+        let queues = self.queues.copy(alloc)?;
         Ok(Bot {
             config,
             link,
@@ -114,6 +127,8 @@ impl TryCopy for Bot {
             channels,
             clock,
             timers,
+            queues,
+            welcomed: self.welcomed,
         })
     }
 }

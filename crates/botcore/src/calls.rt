@@ -12,12 +12,14 @@ use crate::occasion::Occasion;
 use crate::report::Faults;
 use crate::scene::Scene;
 use bottimers::Timers;
-use bytetext::{NoMemory, Seq, TryCopy};
+use bytetext::{NoMemory, Seq, Texts, TryCopy};
+use outqueue::Queues;
 use procstore::{ProcStore, Promise, Run};
 use sharelink::Outgoings;
 use std::alloc::Global;
+use std::mem;
 
-// What actions leave, beside the link.
+// What actions leave, beside the link and the queues.
 #[derive(Drop)]
 pub(crate) struct Left {
     // The timers, if an action may have changed them.
@@ -28,15 +30,26 @@ pub(crate) struct Left {
     pub(crate) faults: Faults,
 }
 
+// What is told of what an event makes a bot do.
+#[derive(Drop)]
+pub(crate) struct Told {
+    // The texts that go to other bots.
+    pub(crate) packets: Outgoings,
+    // The lines that go to the server.
+    pub(crate) lines: Texts,
+    // What was left out or refused.
+    pub(crate) faults: Faults,
+}
+
 impl Bot {
-    ghost use Rattle.std.specs.Prelude.{◌≡◌, ◌≤◌, [], length, unwrap_or, IfOk, IfSome, OnOk, OnErr};
+    ghost use Rattle.std.specs.Prelude.{◌≡◌, ◌≤◌, ◌++◌, length, unwrap_or, IfOk, IfSome, OnOk};
     ghost use Rattle.botcore.specs.Rising.{IsReached};
     ghost use Rattle.sharelink.specs.declared.TheConstants.{MAX_TEXTS};
-    ghost use Rattle.botcore.specs.Acting.{faults_of};
+    ghost use Rattle.botcore.specs.Acting.{action_faults, actions_of, faults_of};
     ghost use Rattle.botcore.specs.Bots.{bot_setting};
     ghost use Rattle.botcore.specs.Dispatched.{IsDispatched};
-    ghost use Rattle.botcore.specs.Lines.{acting_of, acting_after, after_calls};
-    ghost use Rattle.botcore.specs.Progress.{HasMoreAsks};
+    ghost use Rattle.botcore.specs.Lines.{acting_of, acting_after};
+    ghost use Rattle.botcore.specs.Progress.{HasMore};
 
     // Calls the procs that occasions call: all of them, or the first ones before memory ran out.
     pub(crate) fn call_procs<P: Promise, B: Run>(
@@ -56,7 +69,8 @@ impl Bot {
         call_procs(alloc, &scene, occasions)
     }
 
-    // Does what calls ask for at the link, and says what else is to be done. Where memory runs out, all is as it was.
+    // Does what calls ask for at the link and the queues, and says what else is to be done. Where memory runs out, some
+    // asks and lines may have come.
     pub(crate) fn act(
         &mut self,
         alloc: Global,
@@ -68,9 +82,11 @@ impl Bot {
         ensures few { IfOk result (λ left. length left.packets ≤ MAX_TEXTS) }
         ensures timers { IfOk result (λ left. unwrap_or left.timers self.old.timers ≡ (acting_after self.old calls.now).timers) }
         ensures reading { IfOk result (λ left. IfSome left.timers (λ timers. IsReached timers.last self.old.clock)) }
-        ensures ok { OnOk result (self.new ≡ record self.old { link = (acting_after self.old calls.now).link }) }
-        ensures err { OnErr result (self.new ≡ self.old) }
-        ensures kept { HasMoreAsks self.old.link self.new.link }
+        ensures ok { OnOk result (self.new ≡ record self.old {
+          link = (acting_after self.old calls.now).link;
+          queues = (acting_after self.old calls.now).queues;
+        }) }
+        ensures kept { HasMore self.old self.new }
     {
         let faults = left_out(alloc, unbound)?;
         if !asks_any(calls) {
@@ -80,9 +96,34 @@ impl Bot {
                 faults,
             });
         }
+        self.act_for(alloc, calls, faults)
+    }
+
+    // Does what calls ask for, and tells what is refused after the faults so far.
+    fn act_for(
+        &mut self,
+        alloc: Global,
+        calls: &[MadeCall],
+        faults: Faults,
+    ) -> Result<Left, NoMemory>
+        ensures faults { IfOk result (λ left. left.faults ≡
+            faults ++ action_faults (acting_of self.old) (actions_of calls.now)) }
+        ensures packets { IfOk result (λ left. left.packets ≡ (acting_after self.old calls.now).sent) }
+        ensures few { IfOk result (λ left. length left.packets ≤ MAX_TEXTS) }
+        ensures timers { IfOk result (λ left. unwrap_or left.timers self.old.timers ≡ (acting_after self.old calls.now).timers) }
+        ensures reading { IfOk result (λ left. IfSome left.timers (λ timers. IsReached timers.last self.old.clock)) }
+        ensures ok { OnOk result (self.new ≡ record self.old {
+          link = (acting_after self.old calls.now).link;
+          queues = (acting_after self.old calls.now).queues;
+        }) }
+        ensures kept { HasMore self.old self.new }
+    {
         let timers = self.timers.copy(alloc)?;
-        let mut doing = Doing::new(alloc, timers, self.clock.last(), faults);
-        self.link.act_all(alloc, calls, &mut doing)?;
+        let queues = mem::replace(&mut self.queues, Queues::new(alloc));
+        let mut doing = Doing::new(alloc, timers, self.clock.last(), queues, faults);
+        let done = doing.act_for(alloc, &mut self.link, calls);
+        self.queues = doing.queues;
+        done?;
         Ok(Left {
             timers: Some(doing.timers),
             packets: doing.sent,
@@ -98,24 +139,6 @@ impl Bot {
         if let Some(timers) = timers {
             self.timers = timers;
         }
-    }
-
-    // Does all that calls ask for, or nothing: answers the texts and the faults.
-    pub(crate) fn settle(
-        &mut self,
-        alloc: Global,
-        calls: &[MadeCall],
-        unbound: Vec<Unbound>,
-    ) -> Result<(Outgoings, Faults), NoMemory>
-        ensures faults { IfOk result (λ told. told.1 ≡ faults_of (acting_of self.old) calls.now unbound.items) }
-        ensures packets { IfOk result (λ told. told.0 ≡ (acting_after self.old calls.now).sent) }
-        ensures few { IfOk result (λ told. length told.0 ≤ MAX_TEXTS) }
-        ensures ok { OnOk result (self.new ≡ after_calls self.old calls.now) }
-        ensures err { OnErr result (self.new ≡ self.old) }
-    {
-        let left = self.act(alloc, calls, unbound)?;
-        self.put_timers(left.timers);
-        Ok((left.packets, left.faults))
     }
 }
 

@@ -8,6 +8,7 @@ use crate::made_call::Unbound;
 use bindtable::BindFault;
 use bottimers::ClockFault;
 use bytetext::{Failure, NoMemory, TryCopy};
+use outqueue::QueueFault;
 use sharelink::LinkFault;
 use std::alloc::Global;
 use thiserror::Error;
@@ -70,6 +71,9 @@ pub enum ActionFault {
     /// The timers refuse to make a timer or to take one away.
     #[error("{0}")]
     Clock(ClockFault),
+    /// A queue refuses a line.
+    #[error("{0}")]
+    Queue(QueueFault),
 }
 
 impl ActionFault {
@@ -80,6 +84,7 @@ impl ActionFault {
         match self {
             ActionFault::Link(fault) => fault.code(),
             ActionFault::Clock(fault) => fault.code(),
+            ActionFault::Queue(fault) => fault.code(),
         }
     }
 }
@@ -91,26 +96,29 @@ pub enum Fault {
     Unbound(Unbound),
     /// What a proc asked for was refused and left out.
     Action(ActionFault),
+    /// A line of the bot's own was refused by its queue and left out.
+    Line(QueueFault),
 }
 
 impl Fault {
-    /// The word that transcripts print: `Unbound`, or the letter and number of an action's refusal.
+    /// The word that transcripts print: `Unbound`, or the letter and number of the refusal of an action or a line.
     pub fn word(&self) -> &'static str
         ensures { result.now ≡ fault_word self.now }
     {
         match self {
             Fault::Unbound(_) => "Unbound",
             Fault::Action(fault) => fault.code(),
+            Fault::Line(fault) => fault.code(),
         }
     }
 
-    /// The name of the proc that the store lacks; none of an action.
+    /// The name of the proc that the store lacks; none of an action or a line.
     pub fn proc(&self) -> Option<&[u8]>
         ensures { option_copied result ≡ fault_proc self.now }
     {
         match self {
             Fault::Unbound(unbound) => Some(unbound.proc.as_bytes()),
-            Fault::Action(_) => None,
+            Fault::Action(_) | Fault::Line(_) => None,
         }
     }
 }
@@ -120,6 +128,7 @@ impl TryCopy for Fault {
         match self {
             Fault::Unbound(unbound) => Ok(Fault::Unbound(unbound.copy(alloc)?)),
             Fault::Action(fault) => Ok(Fault::Action(*fault)),
+            Fault::Line(fault) => Ok(Fault::Line(*fault)),
         }
     }
 }

@@ -4,29 +4,34 @@ ghost use Rattle.chanstate.specs.Events.{events_of};
 ghost use Rattle.botcore.specs.declared.occasion.Occasion.TheVariants.{Heard};
 ghost use Rattle.botcore.specs.Steps.{said_occasions};
 
+use crate::automatic::is_welcome;
 use crate::bot::Bot;
+use crate::calls::{Left, Told};
 use crate::dispatch::Dispatch;
 use crate::made_call::{MadeCall, Unbound};
 use crate::next::has_raw_one;
 use crate::occasion::Occasion;
+use crate::putting::put_all;
 use crate::report::{Faults, Note, Report};
 use crate::words::starts_with_word;
-use bytetext::{NoMemory, Text, TryCopy};
+use bytetext::{NoMemory, Seq, Text, TryCopy};
 use chanstate::{ChanState, events};
 use ircline::Message;
-use procstore::{ProcStore, Promise, Run};
-use sharelink::Outgoings;
+use procstore::{ProcStore, Promise, PutWish, Run};
 use std::alloc::Global;
 
 impl Bot {
-    ghost use Rattle.std.specs.Prelude.{◌≡◌, ◌≤◌, length, map, IfOk, OnOk, OnErr};
+    ghost use Rattle.std.specs.Prelude.{◌≡◌, ◌≤◌, ◌++◌, [], length, map, IfOk, OnOk, OnErr};
     ghost use Rattle.chanstate.specs.Events.{events_of};
     ghost use Rattle.sharelink.specs.declared.TheConstants.{MAX_TEXTS};
     ghost use Rattle.botcore.specs.declared.occasion.Occasion.TheVariants.{Heard as heard_event};
     ghost use Rattle.botcore.specs.Acting.{faults_of};
     ghost use Rattle.botcore.specs.Bots.{bot_setting};
     ghost use Rattle.botcore.specs.Dispatched.{IsDispatched};
-    ghost use Rattle.botcore.specs.Lines.{acting_of, acting_after, after_line, channels_after};
+    ghost use Rattle.botcore.specs.Lines.{acting_of, acting_after, after_calls, after_line, finish_line};
+    ghost use Rattle.botcore.specs.Lines.{channels_after, own_lines, welcomed_after};
+    ghost use Rattle.botcore.specs.Progress.{HasMore};
+    ghost use Rattle.botcore.specs.Putting.{put_all, put_faults};
     ghost use Rattle.botcore.specs.Steps.{TakesMessage, TakesText, said_occasions as occasions_of_text};
 
     // A message of the server: its procs are called, and then all that they ask for is done, or nothing is.
@@ -45,7 +50,7 @@ impl Bot {
         };
         let (calls, unbound) = made.into_parts();
         match self.settle_message(alloc, calls.as_slice(), unbound, message) {
-            Ok((packets, faults)) => Report::told(None, calls, packets, faults),
+            Ok(told) => Report::told(None, calls, told.packets, told.lines, told.faults),
             Err(NoMemory) => Report::cut_short(alloc, calls),
         }
     }
@@ -66,33 +71,87 @@ impl Bot {
         }
     }
 
-    // Does what calls ask for and takes their message in. All is done, or nothing is: the message is taken in last, and
-    // where that is refused the asks are taken back.
+    // Does what calls ask for, takes their message in and puts the bot's own lines: all of it, or nothing.
     fn settle_message(
         &mut self,
         alloc: Global,
         calls: &[MadeCall],
         unbound: Vec<Unbound>,
         message: &Message,
-    ) -> Result<(Outgoings, Faults), NoMemory>
-        ensures faults { IfOk result (λ told. told.1 ≡ faults_of (acting_of self.old) calls.now unbound.items) }
-        ensures packets { IfOk result (λ told. told.0 ≡ (acting_after self.old calls.now).sent) }
-        ensures few { IfOk result (λ told. length told.0 ≤ MAX_TEXTS) }
+    ) -> Result<Told, NoMemory>
+        ensures faults { IfOk result (λ told. told.faults ≡
+            faults_of (acting_of self.old) calls.now unbound.items ++ (finish_line self.old message.now calls.now).faults) }
+        ensures packets { IfOk result (λ told. told.packets ≡ (acting_after self.old calls.now).sent) }
+        ensures lines { IfOk result (λ told. told.lines ≡ []) }
+        ensures few { IfOk result (λ told. length told.packets ≤ MAX_TEXTS) }
         ensures ok { OnOk result (self.new ≡ after_line self.old message.now calls.now) }
         ensures err { OnErr result (self.new ≡ self.old) }
     {
-        let waiting = self.link.ask_count();
-        let left = self.act(alloc, calls, unbound)?;
-        match self.take_in(alloc, calls, message) {
-            Ok(()) => {
-                self.put_timers(left.timers);
-                Ok((left.packets, left.faults))
-            }
+        let marks = self.marks();
+        match self.act_on_message(alloc, calls, unbound, message) {
+            Ok(told) => Ok(told),
             Err(NoMemory) => {
-                self.link.keep_asks(waiting);
+                self.take_back(marks);
                 Err(NoMemory)
             }
         }
+    }
+
+    // The same, but where memory runs out some asks and lines may have come. The message is taken in last.
+    fn act_on_message(
+        &mut self,
+        alloc: Global,
+        calls: &[MadeCall],
+        unbound: Vec<Unbound>,
+        message: &Message,
+    ) -> Result<Told, NoMemory>
+        ensures faults { IfOk result (λ told. told.faults ≡
+            faults_of (acting_of self.old) calls.now unbound.items ++ (finish_line self.old message.now calls.now).faults) }
+        ensures packets { IfOk result (λ told. told.packets ≡ (acting_after self.old calls.now).sent) }
+        ensures lines { IfOk result (λ told. told.lines ≡ []) }
+        ensures few { IfOk result (λ told. length told.packets ≤ MAX_TEXTS) }
+        ensures ok { OnOk result (self.new ≡ after_line self.old message.now calls.now) }
+        ensures err { OnErr result (HasMore self.old self.new) }
+    {
+        let wishes = self.own_lines(alloc, calls, message)?;
+        let Left {
+            timers,
+            packets,
+            mut faults,
+        } = self.act(alloc, calls, unbound)?;
+        self.put_own(wishes, &mut faults)?;
+        self.take_in(alloc, calls, message)?;
+        self.put_timers(timers);
+        let lines = Seq::empty(alloc);
+        Ok(Told {
+            packets,
+            lines,
+            faults,
+        })
+    }
+
+    // The bot's own lines for a message of these calls.
+    fn own_lines(
+        &self,
+        alloc: Global,
+        calls: &[MadeCall],
+        message: &Message,
+    ) -> Result<Vec<PutWish>, NoMemory>
+        ensures { IfOk result (λ wishes. wishes.items ≡ own_lines self.now message.now calls.now) }
+    {
+        if has_raw_one(calls) {
+            return Ok(Vec::new(alloc));
+        }
+        self.automatic_lines(alloc, self.welcomed, message)
+    }
+
+    // Puts lines of the bot's own, and tells those that are refused after the faults so far.
+    fn put_own(&mut self, wishes: Vec<PutWish>, faults: &mut Faults) -> Result<(), NoMemory>
+        ensures queues { OnOk result (self.new ≡ record self.old { queues = put_all self.old.queues wishes.items }) }
+        ensures faults { OnOk result (faults.new ≡ faults.old ++ put_faults self.old.queues wishes.items) }
+        ensures kept { HasMore self.old self.new }
+    {
+        put_all(&mut self.queues, faults, wishes)
     }
 
     // Takes a message of these calls into the channel state, unless a raw proc has answered 1.
@@ -102,15 +161,20 @@ impl Bot {
         calls: &[MadeCall],
         message: &Message,
     ) -> Result<(), NoMemory>
-        ensures ok { OnOk result (self.new ≡
-            record self.old { channels = channels_after self.old.channels calls.now message.now }) }
+        ensures ok { OnOk result (self.new ≡ record self.old {
+          channels = channels_after self.old.channels calls.now message.now;
+          welcomed = welcomed_after self.old.welcomed calls.now message.now;
+        }) }
         ensures err { OnErr result (self.new ≡ self.old) }
     {
         if has_raw_one(calls) {
             return Ok(());
         }
         match self.channels.apply(alloc, message) {
-            Ok(()) => Ok(()),
+            Ok(()) => {
+                self.welcomed = self.welcomed || is_welcome(message);
+                Ok(())
+            }
             Err(NoMemory) => Err(NoMemory),
         }
     }
@@ -132,11 +196,42 @@ impl Bot {
         };
         let (calls, unbound) = made.into_parts();
         match self.settle(alloc, calls.as_slice(), unbound) {
-            Ok((packets, faults)) => {
+            Ok(told) => {
                 let note = Note::Link(sharelink::Note::Text { from, text });
-                Report::told(Some(note), calls, packets, faults)
+                Report::told(Some(note), calls, told.packets, told.lines, told.faults)
             }
             Err(NoMemory) => Report::cut_short(alloc, calls),
+        }
+    }
+
+    // Does all that calls ask for, or nothing.
+    fn settle(
+        &mut self,
+        alloc: Global,
+        calls: &[MadeCall],
+        unbound: Vec<Unbound>,
+    ) -> Result<Told, NoMemory>
+        ensures faults { IfOk result (λ told. told.faults ≡ faults_of (acting_of self.old) calls.now unbound.items) }
+        ensures packets { IfOk result (λ told. told.packets ≡ (acting_after self.old calls.now).sent) }
+        ensures lines { IfOk result (λ told. told.lines ≡ []) }
+        ensures few { IfOk result (λ told. length told.packets ≤ MAX_TEXTS) }
+        ensures ok { OnOk result (self.new ≡ after_calls self.old calls.now) }
+        ensures err { OnErr result (self.new ≡ self.old) }
+    {
+        let marks = self.marks();
+        match self.act(alloc, calls, unbound) {
+            Ok(left) => {
+                self.put_timers(left.timers);
+                Ok(Told {
+                    packets: left.packets,
+                    lines: Seq::empty(alloc),
+                    faults: left.faults,
+                })
+            }
+            Err(NoMemory) => {
+                self.take_back(marks);
+                Err(NoMemory)
+            }
         }
     }
 

@@ -3,15 +3,15 @@ ghost use Rattle.std.specs.Prelude.{◌≡◌};
 ghost use Rattle.botcore.specs.Steps.{is_stale};
 
 use crate::bot::Bot;
+use crate::calls::{Left, Told};
 use crate::fault::Refusal;
 use crate::made_call::{MadeCall, Unbound};
 use crate::occasion::Occasion;
-use crate::report::{Faults, Report};
+use crate::report::Report;
 use crate::running::run_seconds;
 use bottimers::{Clock, ClockFault, Timers};
-use bytetext::{MOMENTS_END, NoMemory, Seq, TryCopy};
+use bytetext::{MOMENTS_END, NoMemory, Seq, Texts, TryCopy};
 use procstore::{ProcStore, Promise, Run};
-use sharelink::Outgoings;
 use std::alloc::Global;
 use std::mem;
 
@@ -24,14 +24,16 @@ struct Ran {
 }
 
 impl Bot {
-    ghost use Rattle.std.specs.Prelude.{◌≡◌, ◌≤◌, ◌<◌, false, Some, length, IfOk, OnOk, OnErr};
+    ghost use Rattle.std.specs.Prelude.{◌≡◌, ◌≤◌, ◌<◌, [], false, Some, length, IfOk, IsOk, OnOk, OnErr};
     ghost use Rattle.bytetext.specs.declared.moment.TheConstants.{MOMENTS_END as end_of_moments};
     ghost use Rattle.botcore.specs.Rising.{IsReached};
     ghost use Rattle.bottimers.specs.Seconds.{reading_fault, seconds_run};
     ghost use Rattle.sharelink.specs.declared.TheConstants.{MAX_TEXTS};
     ghost use Rattle.botcore.specs.Acting.{faults_of};
     ghost use Rattle.botcore.specs.Happenings.{seconds_of};
-    ghost use Rattle.botcore.specs.Lines.{acting_of, acting_after, after_calls};
+    ghost use Rattle.botcore.specs.Lines.{acting_of, acting_after, finish_reading};
+    ghost use Rattle.botcore.specs.Progress.{HasMore};
+    ghost use Rattle.outqueue.specs.Sending.{sent, waiting, after as after_sending};
     ghost use Rattle.botcore.specs.Shown.{AreOccasions};
     ghost use Rattle.botcore.specs.Steps.{TakesReading, TakesSeconds, is_stale, run_to};
 
@@ -75,8 +77,8 @@ impl Bot {
             Err(made) => return Report::cut_short(alloc, made.into_parts().0),
         };
         let (calls, unbound) = made.into_parts();
-        match self.settle_at(alloc, calls.as_slice(), unbound, ran.clock, ran.timers) {
-            Ok((packets, faults)) => Report::told(None, calls, packets, faults),
+        match self.settle_at(alloc, calls.as_slice(), unbound, ran.clock, ran.timers, now) {
+            Ok(told) => Report::told(None, calls, told.packets, told.lines, told.faults),
             Err(NoMemory) => Report::cut_short(alloc, calls),
         }
     }
@@ -105,7 +107,7 @@ impl Bot {
         })
     }
 
-    // Takes this clock and these timers, and does all that calls ask for, or nothing.
+    // Takes this clock and these timers, does all that calls ask for and sends what may go: all of it, or nothing.
     fn settle_at(
         &mut self,
         alloc: Global,
@@ -113,24 +115,96 @@ impl Bot {
         unbound: Vec<Unbound>,
         clock: Clock,
         timers: Timers,
-    ) -> Result<(Outgoings, Faults), NoMemory>
-        requires { IsReached timers.last clock }
-        ensures faults { IfOk result (λ told. told.1 ≡
+        now: u64,
+    ) -> Result<Told, NoMemory>
+        requires reading { IsReached timers.last clock }
+        requires moment { now < end_of_moments }
+        ensures faults { IfOk result (λ told. told.faults ≡
             faults_of (acting_of (record self.old { clock = clock; timers = timers })) calls.now unbound.items) }
-        ensures packets { IfOk result (λ told. told.0 ≡
+        ensures packets { IfOk result (λ told. told.packets ≡
             (acting_after (record self.old { clock = clock; timers = timers }) calls.now).sent) }
-        ensures few { IfOk result (λ told. length told.0 ≤ MAX_TEXTS) }
-        ensures ok { OnOk result (self.new ≡ after_calls (record self.old { clock = clock; timers = timers }) calls.now) }
+        ensures lines { IfOk result (λ told. told.lines ≡
+            (finish_reading (record self.old { clock = clock; timers = timers }) now calls.now).lines) }
+        ensures few { IfOk result (λ told. length told.packets ≤ MAX_TEXTS) }
+        ensures ok { OnOk result (self.new ≡
+            (finish_reading (record self.old { clock = clock; timers = timers }) now calls.now).after) }
         ensures err { OnErr result (self.new ≡ self.old) }
     {
         let old = self.set_clock(clock, timers);
-        match self.settle(alloc, calls, unbound) {
+        match self.settle_reading(alloc, calls, unbound, now) {
             Ok(told) => Ok(told),
             Err(NoMemory) => {
                 self.set_clock(old.0, old.1);
                 Err(NoMemory)
             }
         }
+    }
+
+    // Does all that calls ask for and sends what may go, or nothing.
+    fn settle_reading(
+        &mut self,
+        alloc: Global,
+        calls: &[MadeCall],
+        unbound: Vec<Unbound>,
+        now: u64,
+    ) -> Result<Told, NoMemory>
+        requires { now < end_of_moments }
+        ensures faults { IfOk result (λ told. told.faults ≡ faults_of (acting_of self.old) calls.now unbound.items) }
+        ensures packets { IfOk result (λ told. told.packets ≡ (acting_after self.old calls.now).sent) }
+        ensures lines { IfOk result (λ told. told.lines ≡ (finish_reading self.old now calls.now).lines) }
+        ensures few { IfOk result (λ told. length told.packets ≤ MAX_TEXTS) }
+        ensures ok { OnOk result (self.new ≡ (finish_reading self.old now calls.now).after) }
+        ensures err { OnErr result (self.new ≡ self.old) }
+    {
+        let marks = self.marks();
+        match self.act_on_reading(alloc, calls, unbound, now) {
+            Ok(told) => Ok(told),
+            Err(NoMemory) => {
+                self.take_back(marks);
+                Err(NoMemory)
+            }
+        }
+    }
+
+    // The same, but where memory runs out some asks and lines may have come. Lines are sent last.
+    fn act_on_reading(
+        &mut self,
+        alloc: Global,
+        calls: &[MadeCall],
+        unbound: Vec<Unbound>,
+        now: u64,
+    ) -> Result<Told, NoMemory>
+        requires { now < end_of_moments }
+        ensures faults { IfOk result (λ told. told.faults ≡ faults_of (acting_of self.old) calls.now unbound.items) }
+        ensures packets { IfOk result (λ told. told.packets ≡ (acting_after self.old calls.now).sent) }
+        ensures lines { IfOk result (λ told. told.lines ≡ (finish_reading self.old now calls.now).lines) }
+        ensures few { IfOk result (λ told. length told.packets ≤ MAX_TEXTS) }
+        ensures ok { OnOk result (self.new ≡ (finish_reading self.old now calls.now).after) }
+        ensures err { OnErr result (HasMore self.old self.new) }
+    {
+        let Left {
+            timers,
+            packets,
+            faults,
+        } = self.act(alloc, calls, unbound)?;
+        let lines = self.send(alloc, now)?;
+        self.put_timers(timers);
+        Ok(Told {
+            packets,
+            lines,
+            faults,
+        })
+    }
+
+    // Sends what may go. With nothing waiting it takes no memory.
+    fn send(&mut self, alloc: Global, now: u64) -> Result<Texts, NoMemory>
+        requires { now < end_of_moments }
+        ensures lines { IfOk result (λ lines. lines ≡ sent self.old.queues now) }
+        ensures ok { OnOk result (self.new ≡ record self.old { queues = after_sending self.old.queues now }) }
+        ensures err { OnErr result (self.new ≡ self.old) }
+        ensures nothing_waits { waiting self.old.queues ≡ [] → IsOk result }
+    {
+        self.queues.drain(alloc, now)
     }
 
     // Takes this clock and these timers, and hands out those before. Takes no memory.

@@ -8,7 +8,7 @@ use crate::fault::{Fault, Refusal};
 use crate::made_call::MadeCall;
 use crate::next::is_logged;
 use bindtable::{BindError, BindFault};
-use bytetext::{Failure, NoMemory, Seq, TryCopy};
+use bytetext::{Failure, NoMemory, Seq, Texts, TryCopy};
 use sharelink::{Answer, LinkError, Outgoings};
 use std::alloc::Global;
 
@@ -64,8 +64,11 @@ pub struct Report {
     pub calls: MadeCalls,
     /// The packets to send, in order.
     pub packets: Outgoings,
-    /// The binds and timers that were left out since the store lacks their procs, in the order in which they would be called; then
-    /// the actions that were refused, in the order of the calls.
+    /// The lines to send to the server, in order, each without its CR LF.
+    pub lines: Texts,
+    /// The binds and timers that were left out since the store lacks their procs, in the order in which they would be
+    /// called; then the actions that were refused, in the order of the calls; then the lines of the bot's own that were
+    /// refused.
     pub faults: Faults,
     /// Whether the line is logged: false where a raw, `msgm`, `pubm` or `notc` proc has answered 1, and true for any
     /// other event.
@@ -82,6 +85,7 @@ impl Report {
             note,
             calls: Seq::empty(alloc),
             packets: Seq::empty(alloc),
+            lines: Seq::empty(alloc),
             faults: Seq::empty(alloc),
             logged: true,
         }
@@ -118,6 +122,7 @@ impl Report {
                 note: Some(Note::Link(answer.note)),
                 calls: Seq::empty(alloc),
                 packets: answer.packets,
+                lines: Seq::empty(alloc),
                 faults: Seq::empty(alloc),
                 logged: true,
             },
@@ -152,9 +157,10 @@ impl Report {
         note: Option<Note>,
         calls: MadeCalls,
         packets: Outgoings,
+        lines: Texts,
         faults: Faults,
     ) -> Report
-        ensures { result ≡ told note calls packets faults }
+        ensures { result ≡ told note calls packets lines faults }
     {
         let logged = is_logged(calls.as_slice());
         Report {
@@ -162,6 +168,7 @@ impl Report {
             note,
             calls,
             packets,
+            lines,
             faults,
             logged,
         }
@@ -177,6 +184,7 @@ impl Report {
             note: None,
             calls,
             packets: Seq::empty(alloc),
+            lines: Seq::empty(alloc),
             faults: Seq::empty(alloc),
             logged,
         }
@@ -188,12 +196,14 @@ impl TryCopy for Report {
         let note = copy_of_note(alloc, &self.note)?;
         let calls = self.calls.copy(alloc)?;
         let packets = self.packets.copy(alloc)?;
+        let lines = self.lines.copy(alloc)?;
         let faults = self.faults.copy(alloc)?;
         Ok(Report {
             end: self.end,
             note,
             calls,
             packets,
+            lines,
             faults,
             logged: self.logged,
         })

@@ -1,17 +1,20 @@
 // One step of a bot.
+use crate::automatic::greeting;
 use crate::bot::Bot;
 use crate::event::{Event, NewBind, OldBind};
-use crate::report::{Note, Report};
-use bytetext::NoMemory;
+use crate::putting::put_all;
+use crate::report::{Faults, Note, Report};
+use bytetext::{NoMemory, Seq};
 use chanstate::ChanState;
 use ircline::Line;
+use outqueue::Queues;
 use procstore::{ProcStore, Promise, Run};
 use sharelink::{Answer, Packet};
 use std::alloc::Global;
 use userfile::Change;
 
 impl Bot {
-    ghost use Rattle.std.specs.Prelude.{◌≡◌, ◌≤◌, [], Some, None, Ok, length};
+    ghost use Rattle.std.specs.Prelude.{◌≡◌, ◌≤◌, [], Some, None, Ok, length, IfOk, OnOk, OnErr};
     ghost use Rattle.botcore.specs.Happenings.{Saying, saying_in};
     ghost use Rattle.botcore.specs.Reports.{answer_report};
     ghost use Rattle.sharelink.specs.declared.TheConstants.{MAX_LEAVES, MAX_TEXTS};
@@ -24,9 +27,10 @@ impl Bot {
     /// A message of the server calls the procs of the binds that its events call; a text of another bot those of its
     /// first word; a reading of the clock, second by second, those of due timers and of the minutes that begin. When all
     /// have answered, their actions are done in the order of the calls; one that is refused is left out and told. Then a
-    /// message is taken into the channel state, unless a raw proc has answered 1. New timers are made at the last second
-    /// that the clock has seen. Each other event is one call of the link or of the table of binds, or a connect, and
-    /// calls nothing.
+    /// message is taken into the channel state and the bot's own lines for it are put into their queues, unless a raw proc
+    /// has answered 1. New timers are made at the last second that the clock has seen. A reading that is the first, or above
+    /// the last, ends with the lines that may go then. Each other event is one call of the link or of the table of binds, or
+    /// a connect, and calls nothing.
     ///
     /// The report ends `NoMemory` where a growth was refused: then the bot is as it was, and the calls that were made
     /// are the first of those that would be made. A line that is no message, a reading that is refused or not above the
@@ -57,17 +61,35 @@ impl Bot {
         ensures takes { Gives result.end (Unit {0}) self.old (connect_due self.old) result self.new }
         ensures few { result.packets ≡ [] }
     {
-        match ChanState::new(alloc, self.config.nick.as_bytes()) {
-            Ok(channels) => {
-                self.channels = channels;
-                Report::done(alloc, None)
+        match self.begin_anew(alloc) {
+            Ok(faults) => {
+                let mut report = Report::done(alloc, None);
+                report.faults = faults;
+                report
             }
             Err(NoMemory) => Report::out_of_memory(alloc),
         }
     }
 
+    // On no channel, not welcomed yet, and with the greeting alone waiting. Answers which of its lines were refused.
+    fn begin_anew(&mut self, alloc: Global) -> Result<Faults, NoMemory>
+        ensures faults { IfOk result (λ faults. faults ≡ (connect_due self.old).report.faults) }
+        ensures ok { OnOk result (self.new ≡ (connect_due self.old).after) }
+        ensures err { OnErr result (self.new ≡ self.old) }
+    {
+        let channels = ChanState::new(alloc, self.config.nick.as_bytes())?;
+        let wishes = greeting(alloc, &self.config)?;
+        let mut queues = Queues::new(alloc);
+        let mut faults = Seq::empty(alloc);
+        put_all(&mut queues, &mut faults, wishes)?;
+        self.channels = channels;
+        self.queues = queues;
+        self.welcomed = false;
+        Ok(faults)
+    }
+
     // A line of the server: nothing is done for one that is no message.
-    fn take_line<P: Promise, B: Run>(
+    pub(crate) fn take_line<P: Promise, B: Run>(
         &mut self,
         alloc: Global,
         store: &ProcStore<P, B>,

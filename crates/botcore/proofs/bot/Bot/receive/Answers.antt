@@ -10,7 +10,7 @@ use Rattle.botcore.proofs.bot.Bot.receive.Goals as goal
 pub returns-in-Ok-clause-takes : goal.returns-in-Ok-clause-takes
 returns-in-Ok-clause-takes g c =
     let old : Bot
-    = record { config = c.self.inside.config; link = c.self.inside.link; binds = c.self.inside.binds; channels = c.self.inside.channels; clock = c.self.inside.clock; timers = c.self.inside.timers } in
+    = record { config = c.self.inside.config; link = c.self.inside.link; binds = c.self.inside.binds; channels = c.self.inside.channels; clock = c.self.inside.clock; timers = c.self.inside.timers; queues = c.self.inside.queues; welcomed = c.self.inside.welcomed } in
     let row = c.in-Ok.ensures.row in
     subst
     (λ (b : Bot). TakesPacket (saying_of (link_received b.link c.args.packet.now).answer) g.P.Promise.code_of g.P.Promise.may c.args.store.now b c.args.packet.now
@@ -22,7 +22,7 @@ returns-in-Ok-clause-takes g c =
 pub returns-in-Err-clause-takes : goal.returns-in-Err-clause-takes
 returns-in-Err-clause-takes g c =
     let old : Bot
-    = record { config = c.self.inside.config; link = c.self.inside.link; binds = c.self.inside.binds; channels = c.self.inside.channels; clock = c.self.inside.clock; timers = c.self.inside.timers } in
+    = record { config = c.self.inside.config; link = c.self.inside.link; binds = c.self.inside.binds; channels = c.self.inside.channels; clock = c.self.inside.clock; timers = c.self.inside.timers; queues = c.self.inside.queues; welcomed = c.self.inside.welcomed } in
     let new : Bot = record old { link = c.receive.new.self } in
     subst
     (λ (b : Bot). TakesPacket (saying_of (link_received b.link c.args.packet.now).answer) g.P.Promise.code_of g.P.Promise.may c.args.store.now b c.args.packet.now

@@ -5,7 +5,7 @@ use Rattle.botcore.specs.Bots.{Bot}
 use Rattle.botcore.specs.Progress.{Progress}
 use Rattle.botcore.specs.Rising.{IsReached}
 use Rattle.botcore.proofs.ReachLemmas.{reached_by}
-use Rattle.botcore.proofs.bot.Bot.act.Goals as goal
+use Rattle.botcore.proofs.bot.Bot.act_for.Goals as goal
 
 pub returns-clause-reading : goal.returns-clause-reading
 returns-clause-reading c =
@@ -14,8 +14,8 @@ returns-clause-reading c =
     let last = ap (λ (p : Progress). p.last) c.new-doing.ensures ∙ c.last.ensures in
     let timers = ap (λ (p : Progress). p.timers) c.new-doing.ensures ∙ c.in_ok-timers.ensures in
     let reached = subst (λ (h : Held). IsReached h.last made.last) (sym timers) (subst (IsReached inside.timers.last) (sym last) c.self.invariant.0) in
-    let done = reached_by inside.link c.act_all.new.self made c.act_all.new.doing (actions_of c.args.calls.now) inside.clock
-    c.in_ok-act_all.ensures.done reached last in
+    let done = reached_by inside.link c.act_for-done.new.link made c.act_for-done.new.self (actions_of c.args.calls.now) inside.clock
+    c.in_ok-done.ensures.done reached last in
     let clock = ap (λ (b : Bot). b.clock) c.self.view_is in
     subst (IsReached c.doing.inside.timers.last) clock
     (subst (λ (p : Progress). IsReached p.timers.last inside.clock) (sym c.doing.view_is) done)

@@ -1,0 +1,107 @@
+-- What a JOIN leaves of what the bot reads of its channels to judge who has joined.
+use Rattle.std.proofs.Common.{◌≡◌, ℕ, Bool, true, false, cond, Option, None, Some, List, [], ◌∷◌, map, slice_get, refl, sym, ap, ◌∙◌}
+use Rattle.std.specs.Prelude.{find, if◌then◌else◌}
+use Rattle.std.specs.List.{filter_map}
+use Rattle.std.specs.Option.{option_map}
+use Rattle.std.proofs.lemmas.Bool.{cond-true, cond-false}
+use Rattle.rfccase.specs.Casemapping.{is_same}
+use Rattle.ircline.specs.Sources.{Source, Nobody, Server, Person}
+use Rattle.chanstate.specs.declared.channel.Channel.{Channel}
+use Rattle.chanstate.specs.declared.member.Member.{Member}
+use Rattle.chanstate.specs.declared.state.ChanState.{ChanState}
+use Rattle.chanstate.specs.Channels.{is_named, with_members, on_channel}
+use Rattle.chanstate.specs.Firsts.{first_changed}
+use Rattle.chanstate.specs.Items.{Joined, channels_in, if_given, join_items}
+use Rattle.chanstate.specs.Members.{is_called, has_member, arrived, unmarked, with_address}
+use Rattle.chanstate.specs.Steps.{steps}
+use Rattle.chanstate.specs.Takes.{came_each}
+use Rattle.chanstate.specs.Views.{is_op, members_of}
+use Rattle.chanstate.proofs.ComeLemmas.{steps-own, steps-came}
+use Rattle.chanstate.proofs.FindLemmas.{find-end, or_else, is_same-sym}
+use Rattle.chanstate.proofs.LookLemmas.{or_else-right}
+use Rattle.botcore.specs.Automatic.{guarded_as, guarded, guarded_if, watched}
+
+-- ---- one channel
+
+-- what is read of the item that is found stays where one item changes and that stays of it
+read_step : {X A : Type 0} (b : Bool) (read : Option X → A) (x y : X) (o : Option X) → read (Some y) ≡ read (Some x)
+    → read (cond b (Some y) o) ≡ read (cond b (Some x) o)
+read_step true read x y o same = same
+read_step false read x y o same = refl
+
+later_step : {X A : Type 0} (b : Bool) (read : Option X → A) (x : X) (o more : Option X) → read more ≡ read o
+    → read (cond b (Some x) more) ≡ read (cond b (Some x) o)
+later_step true read x o more same = refl
+later_step false read x o more same = same
+
+found_step : {X A : Type 0} (b : Bool) (p : X → Bool) (read : Option X → A) (x y : X) (xs ys : List X) → p y ≡ p x
+    → read (Some y) ≡ read (Some x) → read (find p ys) ≡ read (find p xs)
+    → read (find p (cond b (y ∷ xs) (x ∷ ys))) ≡ read (find p (x ∷ xs))
+found_step true p read x y xs ys same_test same_read rest =
+    ap (λ b. read (cond b (Some y) (find p xs))) same_test ∙ read_step (p x) read x y (find p xs) same_read
+found_step false p read x y xs ys same_test same_read rest = later_step (p x) read x (find p xs) (find p ys) rest
+
+found-changed : {X A : Type 0} (p q : X → Bool) (f : X → X) (read : Option X → A) → ((x : X) → p (f x) ≡ p x)
+    → ((x : X) → read (Some (f x)) ≡ read (Some x)) → (xs : List X) → read (find p (first_changed q f xs)) ≡ read (find p xs)
+found-changed p q f read same_test same_read [] = refl
+found-changed p q f read same_test same_read (x ∷ xs) =
+    found_step (q x) p read x (f x) xs (first_changed q f xs) (same_test x) (same_read x)
+    (found-changed p q f read same_test same_read xs)
+
+-- one of two, of which the same is read
+either : {X A : Type 0} (b : Bool) (read : X → A) (x y : X) (z : A) → read x ≡ z → read y ≡ z → read (cond b x y) ≡ z
+either true read x y z first second = first
+either false read x y z first second = second
+
+-- whether a member is op stays where somebody else comes
+op-arrived : (one : Member) (nick : List ℕ) (members : List Member) → is_same one.nick nick ≡ false
+    → is_op (find (is_called nick) (arrived one members)) ≡ is_op (find (is_called nick) members)
+op-arrived one nick members other =
+    either (has_member one.nick members) (λ (ms : List Member). is_op (find (is_called nick) ms)) _ _ _
+    (found-changed (is_called nick) (is_called one.nick) (with_address one.user one.host) is_op (λ m. refl) (λ m. refl) members)
+    (ap is_op (find-end (is_called nick) members one
+    ∙ ap (or_else (find (is_called nick) members)) (cond-false _ _ _ (is_same-sym nick one.nick ∙ other))
+    ∙ or_else-right (find (is_called nick) members)))
+
+-- ---- all channels
+
+-- a channel as the bot spells it, if the bot, of this nick, is op there
+abbrev judged : List ℕ → Option Channel → Option (List ℕ)
+judged me o = if is_op (find (is_called me) (members_of o)) then option_map (λ channel. channel.name) o else None
+
+judged-came : (one : Member) (me name : List ℕ) (names : List (List ℕ)) (channels : List Channel) → is_same one.nick me ≡ false
+    → judged me (find (is_named name) (came_each one names channels)) ≡ judged me (find (is_named name) channels)
+judged-came one me name [] channels other = refl
+judged-came one me name (n ∷ ns) channels other =
+    judged-came one me name ns (on_channel n (arrived one) channels) other
+    ∙ found-changed (is_named name) (is_named n) (with_members (arrived one)) (judged me) (λ c. refl)
+    (λ c. ap (λ b. if b then Some c.name else None) (op-arrived one me c.members other)) channels
+
+agree : {X Y : Type 0} (f g : X → Option Y) (xs : List X) → ((x : X) → f x ≡ g x) → filter_map f xs ≡ filter_map g xs
+agree f g [] same = refl
+agree f g (x ∷ xs) same =
+    let first = same x in
+    let rest = agree f g xs same in
+    cc
+
+-- ---- a JOIN
+
+-- the channels on which the bot looks at who has joined
+watched-joined : (nick user host : List ℕ) (o : Option (List ℕ)) (s : ChanState) (b : Bool) → is_same nick s.nick ≡ b
+    → let t = steps (if_given o (λ list. map (Joined nick user host) (channels_in list))) s in
+    (if is_same nick t.nick then [] else guarded_if t o) ≡ (if is_same nick s.nick then [] else guarded_if s o)
+watched-joined nick user host None s b is = refl
+watched-joined nick user host (Some list) s true own =
+    ap (λ (t : ChanState). if is_same nick t.nick then [] else guarded t list) (steps-own nick user host (channels_in list) s own)
+    ∙ cond-true _ _ _ own ∙ sym (cond-true _ _ _ own)
+watched-joined nick user host (Some list) s false other =
+    ap (λ (t : ChanState). if is_same nick t.nick then [] else guarded t list) (steps-came nick user host (channels_in list) s other)
+    ∙ ap (λ names. if is_same nick s.nick then [] else names)
+    (agree _ (guarded_as s) (channels_in list)
+    (λ name. judged-came (unmarked nick user host) s.nick name (channels_in list) s.channels other))
+
+pub watched-after : (who : Source) (params : List (List ℕ)) (s : ChanState)
+    → watched who params (steps (join_items who params) s) ≡ watched who params s
+watched-after Nobody params s = refl
+watched-after (Server name) params s = refl
+watched-after (Person nick user host) params s = watched-joined nick user host (slice_get params 0) s (is_same nick s.nick) refl

@@ -1,0 +1,47 @@
+use Rattle.std.proofs.Common.{◌≡◌, ℕ, Bool, true, false, List, Option, refl, ap, ◌∙◌}
+use Rattle.std.specs.Prelude.{codes, if◌then◌else◌, unwrap_or}
+use Rattle.std.specs.List.{flat_map}
+use Rattle.ircline.specs.declared.message.Message.{Message}
+use Rattle.ircline.specs.Sources.{source_of}
+use Rattle.userfile.specs.declared.ban.Ban.{Ban}
+use Rattle.chanstate.specs.declared.state.ChanState.{ChanState}
+use Rattle.chanstate.specs.declared.verb.Verb.{Verb}
+use Rattle.chanstate.specs.declared.verb.Verb.TheVariants as verb
+use Rattle.chanstate.specs.Items.{items_by, verb_of}
+use Rattle.chanstate.specs.Steps.{after, steps}
+use Rattle.chanstate.proofs.FindLemmas.{pointwise-same}
+use Rattle.botcore.specs.declared.config.Config.{Config}
+use Rattle.botcore.specs.declared.cue.Cue.{Cue}
+use Rattle.botcore.specs.declared.cue.Cue.TheVariants as cue
+use Rattle.botcore.specs.Automatic.{cue_of, watched, barred, lines_by}
+use Rattle.botcore.proofs.JoiningLemmas.{watched-after}
+use Rattle.botcore.proofs.automatic_laws.laws_of_automatic_lines.Goals as goal
+
+-- the command whose cue is JOIN
+second_of : (a b c d : Bool)
+    → (if a then cue.Ping else (if b then cue.Join else (if c then cue.RplWelcome else (if d then cue.ErrNicknameInUse else cue.Other)))) ≡ cue.Join
+    → b ≡ true
+second_of true b c d is = cc
+second_of false true c d is = refl
+second_of false false true d is = cc
+second_of false false false true is = cc
+second_of false false false false is = cc
+
+join_verb : (command : List ℕ) → cue_of command ≡ cue.Join → verb_of command ≡ verb.Join
+join_verb command is = ap verb_of (pointwise-same command (codes "JOIN") (second_of _ _ _ _ is))
+
+alike : (c : Cue) (config : Config) (s : ChanState) (bans : List Ban) (last : Option ℕ) (welcomed : Bool) (message : Message)
+    → cue_of message.command ≡ c
+    → lines_by c config (after message s) bans last welcomed message ≡ lines_by c config s bans last welcomed message
+alike cue.Ping config s bans last welcomed message is = refl
+alike cue.Join config s bans last welcomed message is =
+    let from = source_of message.prefix in
+    ap (flat_map (barred bans (unwrap_or last 0) from))
+    (ap (λ (v : Verb). watched from message.params (steps (items_by v from message.params) s)) (join_verb message.command is)
+    ∙ watched-after from message.params s)
+alike cue.RplWelcome config s bans last welcomed message is = refl
+alike cue.ErrNicknameInUse config s bans last welcomed message is = refl
+alike cue.Other config s bans last welcomed message is = refl
+
+pub returns : goal.returns
+returns c = λ config s bans last welcomed message. alike (cue_of message.command) config s bans last welcomed message refl

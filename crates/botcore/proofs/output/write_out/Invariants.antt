@@ -1,0 +1,10 @@
+use Rattle.std.proofs.Common.{take}
+use Rattle.std.specs.Io.KnownBytes.{Appends}
+use Rattle.std.specs.List.{flat_map}
+use Rattle.botcore.specs.Driving.{text_of}
+use Rattle.botcore.proofs.output.write_out.Given as goal
+
+-- the lists so far are written
+abbrev pub invariant-loop-lines : goal.invariant-loop-lines
+invariant-loop-lines g l =
+    Appends (g.W.Write.contents l.fn.writer) (g.W.Write.contents l.writer) (flat_map text_of (take l.lines-index l.lists))

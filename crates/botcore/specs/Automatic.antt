@@ -1,0 +1,154 @@
+-- The lines that a bot puts by itself: as soon as it has connected, and where a message of the server wants an answer.
+--
+-- What a message makes it put is told by the state before the message, and the state after it tells the same: the JOIN
+-- of another person changes neither which channels the bot is on, nor how it spells them, nor where it is op, nor its
+-- nick; and the lines of other messages read nothing of the channels.
+use Rattle.std.specs.Prelude.{ℕ, ◌==◌, nat_lt, Bool, true, false, not, ◌&&◌, List, [], ◌∷◌, length, map, slice_get}
+use Rattle.std.specs.Prelude.{if◌then◌else◌, codes, Option, Some, None, unwrap_or}
+use Rattle.std.specs.List.{concat, filter_map, flat_map}
+use Rattle.std.specs.Str.{bytes_eq}
+use Rattle.rfccase.specs.Casemapping.{is_same}
+use Rattle.ircline.specs.declared.message.Message.{Message}
+use Rattle.ircline.specs.Printing.{canonical}
+use Rattle.ircline.specs.Sources.{Source, Nobody, Server as a_server, Person, source_of}
+use Rattle.outqueue.specs.declared.queue.Queue.{Queue}
+use Rattle.outqueue.specs.declared.queue.Queue.TheVariants.{Mode, Server}
+use Rattle.userfile.specs.declared.ban.Ban.{Ban}
+use Rattle.userfile.specs.Persons.{ban_for}
+use Rattle.chanstate.specs.declared.state.ChanState.{ChanState}
+use Rattle.chanstate.specs.Comings.{hostmask, spelled}
+use Rattle.chanstate.specs.Given.{address_of}
+use Rattle.chanstate.specs.Items.{channels_in}
+use Rattle.chanstate.specs.Views.{member_in, is_op}
+use Rattle.procstore.specs.declared.action.PutWish.{PutWish}
+use Rattle.botcore.specs.declared.config.Config.{Config}
+use Rattle.botcore.specs.declared.cue.Cue.{Cue}
+use Rattle.botcore.specs.declared.cue.Cue.TheVariants as cue
+use Rattle.botcore.specs.declared.limits.TheConstants.{MAX_NICK}
+
+-- a line of these pieces, for this queue
+abbrev pub wish : Queue → List (List ℕ) → PutWish
+wish queue pieces = record { queue = queue; line = concat pieces }
+
+-- what follows from a parameter, if it is there
+abbrev pub if_there : Option (List ℕ) → (List ℕ → List PutWish) → List PutWish
+if_there None wishes = []
+if_there (Some text) wishes = wishes text
+
+-- ---- connect
+
+-- it registers under the nick of its configuration (RFC 2812 sections 3.1.2 and 3.1.3)
+abbrev pub greeting : Config → List PutWish
+greeting config =
+    wish Mode (codes "NICK " ∷ config.nick ∷ []) ∷
+    wish Mode (codes "USER " ∷ config.nick ∷ codes " 0 * :" ∷ config.nick ∷ []) ∷
+    []
+
+-- ---- the server welcomes it, wants another nick, or wants to know whether it is there
+
+-- it joins a channel of its configuration
+abbrev pub join_wish : List ℕ → PutWish
+join_wish channel = wish Server (codes "JOIN " ∷ channel ∷ [])
+
+-- a nick that is in use gets one byte more, while it is short enough
+abbrev pub longer_nick : List ℕ → List PutWish
+longer_nick nick = if nat_lt (length nick) MAX_NICK then wish Mode (codes "NICK " ∷ nick ∷ codes "_" ∷ []) ∷ [] else []
+
+-- only a bot that isn't welcomed yet is without a nick
+abbrev pub other_nick : Bool → List (List ℕ) → List PutWish
+other_nick true params = []
+other_nick false params = if_there (slice_get params 1) longer_nick
+
+-- the answer to a PING has its first parameter
+abbrev pub pong : List ℕ → Message
+pong text = record { prefix = []; command = codes "PONG"; params = text ∷ []; rest = [] }
+
+abbrev pub pong_wish : List ℕ → PutWish
+pong_wish text = record { queue = Mode; line = canonical (pong text) }
+
+-- ---- a person joins
+
+-- a listed channel on which the bot is op, as the bot spells it
+abbrev pub guarded_as : ChanState → List ℕ → Option (List ℕ)
+guarded_as s name = if is_op (member_in name s.nick s) then spelled false s name else None
+
+-- those of a list with commas between, in its order
+abbrev pub guarded : ChanState → List ℕ → List (List ℕ)
+guarded s list = filter_map (guarded_as s) (channels_in list)
+
+abbrev pub guarded_if : ChanState → Option (List ℕ) → List (List ℕ)
+guarded_if s None = []
+guarded_if s (Some list) = guarded s list
+
+-- the channels on which it looks at who has joined, if that is another person
+abbrev pub watched : Source → List (List ℕ) → ChanState → List (List ℕ)
+watched Nobody params s = []
+watched (a_server name) params s = []
+watched (Person nick user host) params s = if is_same nick s.nick then [] else guarded_if s (slice_get params 0)
+
+-- what the banned are told
+abbrev pub reason_of : Ban → List ℕ
+reason_of ban = if length ban.comment == 0 then codes "banned" else ban.comment
+
+-- a ban that keeps the person off the channel is set there, and the person is kicked
+abbrev pub ban_wishes : List ℕ → List ℕ → Option Ban → List PutWish
+ban_wishes nick channel None = []
+ban_wishes nick channel (Some ban) =
+    wish Mode (codes "MODE " ∷ channel ∷ codes " +b " ∷ ban.mask ∷ []) ∷
+    wish Mode (codes "KICK " ∷ channel ∷ codes " " ∷ nick ∷ codes " :" ∷ reason_of ban ∷ []) ∷
+    []
+
+-- what is done about a person on a channel: the first ban that has not ended at this second decides
+abbrev pub kept_off : List Ban → ℕ → List ℕ → List ℕ → List ℕ → List PutWish
+kept_off bans now nick who channel = ban_wishes nick channel (ban_for bans channel who now)
+
+abbrev pub barred : List Ban → ℕ → Source → List ℕ → List PutWish
+barred bans now Nobody channel = []
+barred bans now (a_server name) channel = []
+barred bans now (Person nick user host) channel = kept_off bans now nick (hostmask nick (address_of user host)) channel
+
+-- ---- any message
+
+-- which message makes it put lines, by the command
+abbrev pub is_command : List ℕ → List ℕ → Bool
+is_command word command = bytes_eq command word
+
+abbrev pub cue_of : List ℕ → Cue
+cue_of command =
+    if is_command (codes "PING") command then cue.Ping
+    else (if is_command (codes "JOIN") command then cue.Join
+    else (if is_command (codes "001") command then cue.RplWelcome
+    else (if is_command (codes "433") command then cue.ErrNicknameInUse
+    else cue.Other)))
+
+-- the server has welcomed the bot
+abbrev pub is_welcome : Message → Bool
+is_welcome message = is_command (codes "001") message.command && not (length message.params == 0)
+
+-- the channels of a message on which it looks at who has joined
+abbrev pub watched_by : Cue → Message → ChanState → List (List ℕ)
+watched_by cue.Ping message s = []
+watched_by cue.Join message s = watched (source_of message.prefix) message.params s
+watched_by cue.RplWelcome message s = []
+watched_by cue.ErrNicknameInUse message s = []
+watched_by cue.Other message s = []
+
+abbrev pub watched_in : Message → ChanState → List (List ℕ)
+watched_in message s = watched_by (cue_of message.command) message s
+
+-- the lines of a message, for a bot of this configuration in these channels, with these bans, at the last second of its
+-- clock (0 before the first reading), and welcomed or not
+abbrev pub lines_by : Cue → Config → ChanState → List Ban → Option ℕ → Bool → Message → List PutWish
+lines_by cue.Ping config s bans last welcomed message =
+    if_there (slice_get message.params 0) (λ text. pong_wish text ∷ [])
+lines_by cue.Join config s bans last welcomed message =
+    flat_map (barred bans (unwrap_or last 0) (source_of message.prefix))
+    (watched (source_of message.prefix) message.params s)
+lines_by cue.RplWelcome config s bans last welcomed message =
+    if_there (slice_get message.params 0) (λ nick. map join_wish config.channels)
+lines_by cue.ErrNicknameInUse config s bans last welcomed message = other_nick welcomed message.params
+lines_by cue.Other config s bans last welcomed message = []
+
+abbrev pub automatic_lines : Config → ChanState → List Ban → Option ℕ → Bool → Message → List PutWish
+automatic_lines config s bans last welcomed message =
+    lines_by (cue_of message.command) config s bans last welcomed message

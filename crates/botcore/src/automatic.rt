@@ -1,0 +1,139 @@
+// The lines that a bot puts by itself.
+ghost use Rattle.std.specs.Prelude.{◌≡◌, ◌∷◌, [], map, slice_get, IfOk, IsOk};
+ghost use Rattle.ircline.specs.Printing.{wants_colon};
+ghost use Rattle.botcore.specs.Automatic.{greeting, is_welcome, if_there, join_wish, other_nick, pong_wish};
+
+use crate::bot::Bot;
+use crate::config::Config;
+use crate::cue::{Cue, cue_of};
+use crate::joining::on_join;
+use crate::limits::MAX_NICK;
+use crate::wish::{alone, wish};
+use bytetext::{NoMemory, Text};
+use ircline::{Message, source};
+use outqueue::Queue;
+use procstore::PutWish;
+use std::alloc::Global;
+
+impl Bot {
+    ghost use Rattle.std.specs.Prelude.{◌≡◌, [], IfOk, IsOk};
+    ghost use Rattle.botcore.specs.Automatic.{automatic_lines, watched_in};
+    ghost use Rattle.botcore.specs.Links.{link_records};
+
+    // The lines that a message makes it put, by its channels before the message. Where there are none, and nobody else
+    // joins a channel on which it is op, this takes no memory.
+    pub(crate) fn automatic_lines(
+        &self,
+        alloc: Global,
+        welcomed: bool,
+        message: &Message,
+    ) -> Result<Vec<PutWish>, NoMemory>
+        ensures lines { IfOk result (λ wishes. wishes.items ≡ automatic_lines
+            self.now.config self.now.channels (link_records self.now.link).bans self.now.clock welcomed message.now) }
+        ensures needs_none { automatic_lines
+            self.now.config self.now.channels (link_records self.now.link).bans self.now.clock welcomed message.now ≡ []
+            → watched_in message.now self.now.channels ≡ [] → IsOk result }
+    {
+        let params = message.params.as_slice();
+        match cue_of(message.command.as_bytes()) {
+            Cue::Ping => answer(alloc, params),
+            Cue::Join => {
+                let from = source(message.prefix.as_bytes());
+                let now = self.clock.last().unwrap_or(0);
+                on_join(alloc, from, params, &self.channels, self.userfile(), now)
+            }
+            Cue::RplWelcome => join_all(alloc, params, self.config.channels.as_slice()),
+            Cue::ErrNicknameInUse => other_nick(alloc, welcomed, params),
+            Cue::Other => Ok(Vec::new(alloc)),
+        }
+    }
+}
+
+// Whether the server has welcomed the bot.
+pub(crate) fn is_welcome(message: &Message) -> bool
+    ensures { result ≡ is_welcome message.now }
+{
+    message.command.is_same(b"001") && !message.params.is_empty()
+}
+
+// The lines that a bot puts as soon as it has connected.
+pub(crate) fn greeting(alloc: Global, config: &Config) -> Result<Vec<PutWish>, NoMemory>
+    ensures { IfOk result (λ wishes. wishes.items ≡ greeting config.now) }
+{
+    let nick = config.nick.as_bytes();
+    let mut wishes = Vec::new(alloc);
+    wishes.push(wish(alloc, Queue::Mode, &[b"NICK ", nick])?)?;
+    wishes.push(wish(alloc, Queue::Mode, &[b"USER ", nick, b" 0 * :", nick])?)?;
+    Ok(wishes)
+}
+
+// What a PING makes it put.
+fn answer(alloc: Global, params: &[Text]) -> Result<Vec<PutWish>, NoMemory>
+    ensures lines { IfOk result (λ wishes. wishes.items
+        ≡ if_there (slice_get params.now 0) (λ text. pong_wish text ∷ [])) }
+    ensures needs_none { if_there (slice_get params.now 0) (λ text. pong_wish text ∷ []) ≡ [] → IsOk result }
+{
+    match params {
+        [text, ..] => alone(alloc, pong(alloc, text.as_bytes())?),
+        [] => Ok(Vec::new(alloc)),
+    }
+}
+
+// The PONG of this text, as a canonical line has it.
+fn pong(alloc: Global, text: &[u8]) -> Result<PutWish, NoMemory>
+    ensures { IfOk result (λ wish. wish ≡ pong_wish text.now) }
+{
+    if wants_colon(text) {
+        wish(alloc, Queue::Mode, &[b"PONG :", text])
+    } else {
+        wish(alloc, Queue::Mode, &[b"PONG ", text])
+    }
+}
+
+// Whether a last parameter can't stand without a colon.
+fn wants_colon(param: &[u8]) -> bool
+    ensures { result ≡ wants_colon param.now }
+{
+    match param {
+        [] => true,
+        [first, ..] => *first == b':' || param.contains(&b' '),
+    }
+}
+
+// What a welcome makes it put: it joins these channels.
+fn join_all(alloc: Global, params: &[Text], channels: &[Text]) -> Result<Vec<PutWish>, NoMemory>
+    ensures lines { IfOk result (λ wishes. wishes.items
+        ≡ if_there (slice_get params.now 0) (λ nick. map join_wish channels.now)) }
+    ensures needs_none { if_there (slice_get params.now 0) (λ nick. map join_wish channels.now) ≡ [] → IsOk result }
+{
+    match params {
+        [_, ..] => joins_of(alloc, channels),
+        [] => Ok(Vec::new(alloc)),
+    }
+}
+
+// The JOIN of each of these channels.
+fn joins_of(alloc: Global, channels: &[Text]) -> Result<Vec<PutWish>, NoMemory>
+    ensures lines { IfOk result (λ wishes. wishes.items ≡ map join_wish channels.now) }
+    ensures needs_none { channels.now ≡ [] → IsOk result }
+{
+    let mut wishes = Vec::with_capacity(alloc, channels.len())?;
+    for channel in channels {
+        wishes.push(wish(alloc, Queue::Server, &[b"JOIN ", channel.as_bytes()])?)?;
+    }
+    Ok(wishes)
+}
+
+// What a nick that is in use makes it put.
+fn other_nick(alloc: Global, welcomed: bool, params: &[Text]) -> Result<Vec<PutWish>, NoMemory>
+    ensures lines { IfOk result (λ wishes. wishes.items ≡ other_nick welcomed params.now) }
+    ensures needs_none { other_nick welcomed params.now ≡ [] → IsOk result }
+{
+    match params {
+        [_, nick, ..] if !welcomed && nick.len() < MAX_NICK => {
+            let line = wish(alloc, Queue::Mode, &[b"NICK ", nick.as_bytes(), b"_"])?;
+            alone(alloc, line)
+        }
+        _ => Ok(Vec::new(alloc)),
+    }
+}

@@ -1,0 +1,31 @@
+// Which messages make a bot put lines by itself.
+ghost use Rattle.std.specs.Prelude.{◌≡◌};
+ghost use Rattle.botcore.specs.Automatic.{cue_of};
+
+/// A command, as far as a bot puts lines by itself for it (RFC 2812 sections 3.1 to 3.7 and 5).
+#[derive(Clone, Copy)]
+pub enum Cue {
+    /// The server wants to know whether the bot is there.
+    Ping,
+    /// Somebody joins channels.
+    Join,
+    /// 001: the server has welcomed the bot.
+    RplWelcome,
+    /// 433: the nick is in use.
+    ErrNicknameInUse,
+    /// Any other.
+    Other,
+}
+
+// The cue that a command is.
+pub(crate) fn cue_of(command: &[u8]) -> Cue
+    ensures { result ≡ cue_of command.now }
+{
+    match command {
+        b"PING" => Cue::Ping,
+        b"JOIN" => Cue::Join,
+        b"001" => Cue::RplWelcome,
+        b"433" => Cue::ErrNicknameInUse,
+        _ => Cue::Other,
+    }
+}

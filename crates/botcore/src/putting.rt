@@ -1,0 +1,52 @@
+// Lines that are put into queues.
+ghost use Rattle.std.specs.Prelude.{◌≡◌, ◌++◌, [], IfOk, OnOk};
+ghost use Rattle.outqueue.specs.Refusals.{refusal};
+ghost use Rattle.botcore.specs.Putting.{HasMoreLines, put_all, put_faults, queued, with_line_fault};
+
+use crate::fault::Fault;
+use crate::report::Faults;
+use bytetext::{Failure, NoMemory};
+use outqueue::{QueueFault, Queues};
+use procstore::PutWish;
+
+// Puts lines of the bot's own, in order, and tells those that are refused after the faults so far. Out of memory some of
+// them may stand in their queues.
+pub(crate) fn put_all(
+    queues: &mut Queues,
+    faults: &mut Faults,
+    wishes: Vec<PutWish>,
+) -> Result<(), NoMemory>
+    ensures queues { OnOk result (queues.new ≡ put_all queues.old wishes.items) }
+    ensures faults { OnOk result (faults.new ≡ faults.old ++ put_faults queues.old wishes.items) }
+    ensures kept { HasMoreLines queues.old queues.new }
+{
+    for wish in wishes {
+        put_one(queues, faults, wish)?;
+    }
+    Ok(())
+}
+
+// Puts a line of the bot's own, or tells why not after the faults so far.
+fn put_one(queues: &mut Queues, faults: &mut Faults, wish: PutWish) -> Result<(), NoMemory>
+    ensures queues { OnOk result (queues.new ≡ queued queues.old wish) }
+    ensures faults { OnOk result (faults.new ≡ faults.old ++ with_line_fault (refusal queues.old wish.queue wish.line) []) }
+    ensures kept { HasMoreLines queues.old queues.new }
+{
+    match put(queues, wish)? {
+        Some(fault) => faults.push(Fault::Line(fault)),
+        None => Ok(()),
+    }
+}
+
+// Puts a line last in its queue, or says why the queue refuses it.
+pub(crate) fn put(queues: &mut Queues, wish: PutWish) -> Result<Option<QueueFault>, NoMemory>
+    ensures refusal { IfOk result (λ fault. fault ≡ refusal queues.old wish.queue wish.line) }
+    ensures queues { OnOk result (queues.new ≡ queued queues.old wish) }
+    ensures kept { HasMoreLines queues.old queues.new }
+{
+    match queues.put(wish.queue, wish.line) {
+        Ok(()) => Ok(None),
+        Err(Failure::Refused(fault)) => Ok(Some(fault)),
+        Err(Failure::NoMemory) => Err(NoMemory),
+    }
+}
