@@ -27,7 +27,7 @@ use Rattle.botcore.specs.Bots.{Bot}
 use Rattle.botcore.specs.Calls.{Telling}
 use Rattle.botcore.specs.Acting.{actions_of}
 use Rattle.botcore.specs.Happenings.{Saying, saying_of}
-use Rattle.botcore.specs.Lines.{acting_of, acting_after, after_calls, after_line}
+use Rattle.botcore.specs.Lines.{acting_of, acting_after, Finish, finish_text, finish_line, finish_reading}
 use Rattle.botcore.specs.Links.{link_version, link_asked, link_pumped, link_received}
 use Rattle.botcore.specs.Reports.{plain, out_of_memory}
 use Rattle.botcore.specs.Steps.{Due, connect_due, link_due, bind_due, unbind_due, bind_to_go, asked_of, Gives, TakesCalls, text_note, TakesPacket}
@@ -92,8 +92,8 @@ unbind_goes all bots place old at taken gone (Some bind) =
 
 -- calls, whose actions are done from a bot with this link on: what goes out are texts
 calls_goes : (code_of : List ℕ → Call → Code) (may : List ℕ → Call → List Action → Type 0) (told : List Telling)
-    (all : List AcceptedChange) (bots place : ℕ) (old start : Bot) (note : Option Note) (finish : List MadeCall → Bot) (report : Report) (new : Bot)
-    → IsLinkAt all bots place old.link → AllTaken all → start.link ≡ old.link → ((calls : List MadeCall) → (finish calls).link ≡ (acting_after start calls).link)
+    (all : List AcceptedChange) (bots place : ℕ) (old start : Bot) (note : Option Note) (finish : List MadeCall → Finish) (report : Report) (new : Bot)
+    → IsLinkAt all bots place old.link → AllTaken all → start.link ≡ old.link → ((calls : List MadeCall) → (finish calls).after.link ≡ (acting_after start calls).link)
     → GrowsByNote place note all all → (end : End) → report.end ≡ end → TakesCalls end code_of may told old start note finish report new
     → BotGoes all bots place old report new
 calls_goes code_of may told all bots place old start note finish report new at taken starts ends grows Done e h =
@@ -105,7 +105,7 @@ calls_goes code_of may told all bots place old start note finish report new at t
     let kept = acts_keep all bots place (link_version old.link) (acting_of start) (actions_of report.calls) first in
     let same = ends report.calls in
     rw (e, h.note, h.packets, h.after)
-    (keeps all bots place old.link Done note (acting_after start report.calls).sent (finish report.calls).link
+    (keeps all bots place old.link Done note (acting_after start report.calls).sent (finish report.calls).after.link
     (subst (IsLinkAt all bots place) (sym same) kept.link) taken kept.truth (omega (arith, ap link_version same, kept.shown)) grows (λ e. cc))
 calls_goes code_of may told all bots place old start note finish report new at taken starts ends grows (Refused why) e h = absurd h
 calls_goes code_of may told all bots place old start note finish report new at taken starts ends grows NoMemory e h =
@@ -119,7 +119,7 @@ packet_goes : (code_of : List ℕ → Call → Code) (may : List ℕ → Call �
 packet_goes code_of may names all bots place old packet report new at taken truth None t =
     row_goes all bots place old at taken (link_received old.link packet) report new (link_receives all bots place old.link packet at taken truth) t
 packet_goes code_of may names all bots place old packet report new at taken truth (Some saying) t =
-    calls_goes code_of may _ all bots place old old (Some (text_note saying)) (after_calls old) report new at taken refl (λ calls. refl) refl
+    calls_goes code_of may _ all bots place old old (Some (text_note saying)) (finish_text old) report new at taken refl (λ calls. refl) refl
     report.end refl t
 
 -- a reading of the clock
@@ -129,7 +129,7 @@ moment_goes : (code_of : List ℕ → Call → Code) (may : List ℕ → Call �
 moment_goes code_of may names all bots place old now report new at taken true t =
     same_goes all bots place old _ _ report new t.0 t.1 (put_goes all bots place old Done None old at taken refl (λ e. cc) refl)
 moment_goes code_of may names all bots place old now report new at taken false t =
-    calls_goes code_of may _ all bots place old (run_to old now) None (after_calls (run_to old now)) report new at taken refl (λ calls. refl) refl
+    calls_goes code_of may _ all bots place old (run_to old now) None (finish_reading (run_to old now) now) report new at taken refl (λ calls. refl) refl
     report.end refl t.2
 
 reading_goes : (code_of : List ℕ → Call → Code) (may : List ℕ → Call → List Action → Type 0) (names : List (List ℕ))
@@ -149,7 +149,7 @@ bot_goes code_of may names all bots place old Connect report new at taken truth 
     (put_goes all bots place old Done None (connect_due old).after at taken refl (λ e. cc) refl)
     report.end t
 bot_goes code_of may names all bots place old (Line (a_message message)) report new at taken truth t =
-    calls_goes code_of may _ all bots place old old None (after_line old message) report new at taken refl (λ calls. refl) refl report.end refl t
+    calls_goes code_of may _ all bots place old old None (finish_line old message) report new at taken refl (λ calls. refl) refl report.end refl t
 bot_goes code_of may names all bots place old (Line (a_bad_line fault)) report new at taken truth t =
     same_goes all bots place old _ _ report new t.0 t.1 (put_goes all bots place old Done _ old at taken refl (λ e. cc) refl)
 bot_goes code_of may names all bots place old (Ask change) report new at taken truth t =

@@ -39,6 +39,7 @@ use Rattle.botcore.specs.Dispatched.{setting_of}
 use Rattle.botcore.specs.Dispatching.{Setting, told_of}
 use Rattle.botcore.specs.Happenings.{Happening, Saying, saying_of, said, said_if, seconds_of, happenings_of}
 use Rattle.botcore.specs.Happenings.Happening.{Heard as heard_event, Said as said_text}
+use Rattle.botcore.specs.Lines.{Finish}
 use Rattle.botcore.specs.Links.{link_version, link_received}
 use Rattle.botcore.specs.Made.{entry_of}
 use Rattle.botcore.specs.Reports.{refused, link_report}
@@ -98,7 +99,7 @@ none_called : (code_of : List ℕ → Call → Code) (names : List (List ℕ)) (
 none_called code_of names old report none = record { occasions = []; are = tt; made = none }
 
 made_calls : (code_of : List ℕ → Call → Code) (may : List ℕ → Call → List Action → Type 0) (told : List Telling) (old start : Bot) (note : Option Note)
-    (finish : List MadeCall → Bot) (report : BotReport) (new : Bot) (end : End) → end ≡ Done → TakesCalls end code_of may told old start note finish report new
+    (finish : List MadeCall → Finish) (report : BotReport) (new : Bot) (end : End) → end ≡ Done → TakesCalls end code_of may told old start note finish report new
     → map proc_call report.calls ≡ proc_calls told
 made_calls code_of may told old start note finish report new Done e h = map-entry_of report.calls ∙ ap (map proc_call_of) h.calls
 made_calls code_of may told old start note finish report new (Refused why) e h = absurd h

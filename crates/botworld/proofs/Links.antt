@@ -12,7 +12,10 @@ use Rattle.bottimers.specs.declared.timer.Timer.{Timer}
 use Rattle.bottimers.specs.declared.timer.TimerKind.TheVariants.{Minutes, Seconds}
 use Rattle.bottimers.specs.Held.{add_fault, holds}
 use Rattle.procstore.specs.declared.action.Action.{Action}
-use Rattle.procstore.specs.declared.action.Action.TheVariants.{Ask, Timer as timer_wished, Utimer, KillTimer, SendBot}
+use Rattle.procstore.specs.declared.action.Action.TheVariants.{Ask, Timer as timer_wished, Utimer, KillTimer, SendBot, Put}
+use Rattle.procstore.specs.declared.action.PutWish.{PutWish}
+use Rattle.outqueue.specs.declared.fault.QueueFault.{QueueFault}
+use Rattle.outqueue.specs.Refusals.{refusal as queue_refusal}
 use Rattle.sharewire.specs.declared.packet.Packet.{Packet}
 use Rattle.sharewire.specs.declared.packet.Packet.TheVariants.{Hello, Change as change_packet, BotText}
 use Rattle.sharelink.specs.Meets.{Row, noted, refused}
@@ -34,7 +37,7 @@ use Rattle.botcore.specs.declared.report.End.{End}
 use Rattle.botcore.specs.declared.report.End.TheVariants.{Refused}
 use Rattle.botcore.specs.declared.report.Note.{Note}
 use Rattle.botcore.specs.declared.report.Note.TheVariants.{Link as link_note}
-use Rattle.botcore.specs.Acting.{Acting, acted, acted_all, timer_of, made_unless, killed_if, sent_if}
+use Rattle.botcore.specs.Acting.{Acting, acted, acted_all, timer_of, made_unless, killed_if, sent_if, put_unless}
 use Rattle.botcore.specs.Links.{link_version, link_row, link_asked, link_pumped, link_received, link_text}
 use Rattle.botcore.specs.Reports.{link_report}
 use Rattle.botworld.specs.Net.{posted}
@@ -338,6 +341,11 @@ send_keeps all bots place version acting to text (Ok outgoing) e kept = record {
       (text_true all acting.link to text (length acting.sent) outgoing e, tt));
 }
 
+put_keeps : (all : List AcceptedChange) (bots place version : ℕ) (acting : Acting) (wish : PutWish) (fault : Option QueueFault)
+    → ActsKept all bots place version acting → ActsKept all bots place version (put_unless fault acting wish).after
+put_keeps all bots place version acting wish None kept = record { link = kept.link; shown = kept.shown; truth = kept.truth }
+put_keeps all bots place version acting wish (Some fault) kept = kept
+
 act_keeps : (all : List AcceptedChange) (bots place version : ℕ) (acting : Acting) (action : Action)
     → ActsKept all bots place version acting → ActsKept all bots place version (acted acting action).after
 act_keeps all bots place version acting (Ask change) kept =
@@ -349,6 +357,8 @@ act_keeps all bots place version acting (Utimer wish) kept =
     timer_keeps all bots place version acting (timer_of acting Seconds wish) (add_fault acting.timers wish.interval acting.last) kept
 act_keeps all bots place version acting (KillTimer id) kept = kill_keeps all bots place version acting id (holds acting.timers id) kept
 act_keeps all bots place version acting (SendBot wish) kept = send_keeps all bots place version acting wish.to wish.text _ refl kept
+act_keeps all bots place version acting (Put wish) kept =
+    put_keeps all bots place version acting wish (queue_refusal acting.queues wish.queue wish.line) kept
 
 pub acts_keep : (all : List AcceptedChange) (bots place version : ℕ) (acting : Acting) (actions : List Action)
     → ActsKept all bots place version acting → ActsKept all bots place version (acted_all acting actions)

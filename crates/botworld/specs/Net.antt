@@ -80,6 +80,7 @@ report_of bot first report = record {
   calls = report.calls;
   first = first;
   count = length report.packets;
+  lines = report.lines;
   faults = report.faults;
   logged = report.logged;
 }

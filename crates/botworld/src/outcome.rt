@@ -4,7 +4,7 @@ ghost use Rattle.std.specs.Option.{option_copied};
 ghost use Rattle.botworld.specs.Codes.{outcome_code};
 
 use botcore::{End, Faults, MadeCalls, Note};
-use bytetext::{NoMemory, Seq, TryCopy};
+use bytetext::{NoMemory, Seq, Texts, TryCopy};
 use std::alloc::Global;
 
 /// A bot's part in a step: what the bot reports, with its packets told by their numbers.
@@ -22,7 +22,10 @@ pub struct Report {
     pub first: u64,
     /// How many packets the step sent.
     pub count: usize,
-    /// The binds that were left out since the store lacks their procs, and then the actions that were refused.
+    /// The lines that the step sent to the server, in order, each without its CR LF.
+    pub lines: Texts,
+    /// The binds that were left out since the store lacks their procs, then the actions that were refused, and then the lines
+    /// of the bot's own that were refused.
     pub faults: Faults,
     /// Whether the line is logged.
     pub logged: bool,
@@ -32,6 +35,7 @@ impl TryCopy for Report {
     fn copy(&self, alloc: Global) -> Result<Report, NoMemory> {
         let note = copy_of_note(alloc, &self.note)?;
         let calls = self.calls.copy(alloc)?;
+        let lines = self.lines.copy(alloc)?;
         let faults = self.faults.copy(alloc)?;
         Ok(Report {
             bot: self.bot,
@@ -40,6 +44,7 @@ impl TryCopy for Report {
             calls,
             first: self.first,
             count: self.count,
+            lines,
             faults,
             logged: self.logged,
         })

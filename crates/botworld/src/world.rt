@@ -315,6 +315,7 @@ fn post(packets: &mut Vec<Sent>, bot: u16, report: BotReport) -> Outcome
         calls: report.calls,
         first,
         count,
+        lines: report.lines,
         faults: report.faults,
         logged: report.logged,
     })

@@ -1,5 +1,6 @@
 //! `eggnet replay` reads a script on standard input, does its commands with a botnet in memory, and prints the transcript.
-//! A script's binds may call the procs `quiet`, `stop`, `adduser`, `tick` and `tell`.
+//! A script's binds may call the procs `quiet`, `stop`, `adduser`, `tick`, `tell` and
+//! `echo`.
 //!
 //! `eggnet serve PORT` keeps a small IRC server running on this machine, for other programs. It prints the port, which the
 //! system chooses where PORT is 0, and then serves until it is ended.
@@ -11,13 +12,15 @@
 
 ghost use Rattle.std.specs.Prelude.{◌≡◌, codes, IfOk};
 ghost use Rattle.procstore.specs.declared.reply.Code.TheVariants.{Zero, One};
-ghost use Rattle.eggnet.specs.Procs.{Keeps, plain, reply_of_adduser, reply_of_tick, reply_of_tell};
+ghost use Rattle.eggnet.specs.Procs.{Keeps, plain, reply_of_adduser, reply_of_echo, reply_of_tick, reply_of_tell};
 
 mod procs;
 mod serve;
 mod serve_guest;
 
-use crate::procs::{Ours, plain, reply_of_adduser, reply_of_tell, reply_of_tick, store_of};
+use crate::procs::{
+    Ours, plain, reply_of_adduser, reply_of_echo, reply_of_tell, reply_of_tick, store_of,
+};
 use crate::serve::{ServeError, serve};
 use bytetext::NoMemory;
 use clap::error::ErrorKind;
@@ -90,7 +93,16 @@ fn main(rt: HostRuntime) -> ExitCode {
         Ok(body) => body,
         Err(_) => return ExitCode::from(NO_MEMORY),
     };
-    ExitCode::from(status(&rt, quiet, stop, adduser, tick, tell))
+    let echo: Body = match Box::new(
+        alloc,
+        move |call: &Call| -> Result<Reply, NoMemory>
+            ensures { IfOk result (λ reply. reply ≡ reply_of_echo call.now) }
+        { reply_of_echo(alloc, call) },
+    ) {
+        Ok(body) => body,
+        Err(_) => return ExitCode::from(NO_MEMORY),
+    };
+    ExitCode::from(status(&rt, quiet, stop, adduser, tick, tell, echo))
 }
 
 // What the program is to do.
@@ -107,6 +119,7 @@ fn status<R: Input + Print + Eprint + AllocGlobal + Env + Net + Clock, B: Run>(
     adduser: B,
     tick: B,
     tell: B,
+    echo: B,
 ) -> u8
     requires quiet_runs { B.can_run quiet }
     requires quiet_keeps { Keeps (codes "quiet") (B.answers quiet) }
@@ -118,6 +131,8 @@ fn status<R: Input + Print + Eprint + AllocGlobal + Env + Net + Clock, B: Run>(
     requires tick_keeps { Keeps (codes "tick") (B.answers tick) }
     requires tell_runs { B.can_run tell }
     requires tell_keeps { Keeps (codes "tell") (B.answers tell) }
+    requires echo_runs { B.can_run echo }
+    requires echo_keeps { Keeps (codes "echo") (B.answers echo) }
 {
     let Ok(words) = words_of(rt) else {
         return told(rt, ReplayError::NoMemory);
@@ -127,7 +142,7 @@ fn status<R: Input + Print + Eprint + AllocGlobal + Env + Net + Clock, B: Run>(
         Ok(Task::Serve(port)) => return served(rt, port),
         Err(error) => return refused(rt, &error),
     }
-    match store_of(rt.alloc(), quiet, stop, adduser, tick, tell) {
+    match store_of(rt.alloc(), quiet, stop, adduser, tick, tell, echo) {
         Ok(store) => replayed(rt, store),
         Err(NoMemory) => told(rt, ReplayError::NoMemory),
     }

@@ -1,19 +1,21 @@
 // The procs of this program, and what they promise.
 ghost use Rattle.std.specs.Prelude.{◌≡◌, codes, IfOk};
-ghost use Rattle.eggnet.specs.Procs.{asked_by_adduser, asked_by_tick, asked_by_tell, is_command, last_of};
-ghost use Rattle.eggnet.specs.Procs.{plain, reply_of_adduser, reply_of_tick, reply_of_tell, Keeps};
+ghost use Rattle.eggnet.specs.Procs.{arg_at, asked_by_adduser, asked_by_echo, asked_by_tick, asked_by_tell, echoed, is_command};
+ghost use Rattle.eggnet.specs.Procs.{last_of, place_of, plain, reply_of_adduser, reply_of_echo, reply_of_tick, reply_of_tell, Keeps};
 
 use bytetext::{NoMemory, Text};
+use outqueue::Queue;
 use procstore::{
-    Action, Actions, BotWish, Call, Code, Kind, Proc, ProcStore, Promise, Reply, Run, TimerWish,
+    Action, Actions, BotWish, Call, Code, Kind, Proc, ProcStore, Promise, PutWish, Reply, Run,
+    TimerWish,
 };
 use std::alloc::Global;
 use userfile::Change;
 
 /// What the procs of this program promise: `quiet` answers 0 and asks for nothing, and `stop` answers 1 and asks for
 /// nothing. `adduser` answers 0 and asks for a user where it is called as a command; `tick` answers 0 and asks for a
-/// call of `quiet` ten seconds on; `tell` answers 0 and tells the hub a text where it is called as a command. Any of
-/// them may lack memory.
+/// call of `quiet` ten seconds on; `tell` answers 0 and tells the hub a text where it is called as a command; `echo`
+/// answers 0 and says again what was said on a channel or privately. Any of them may lack memory.
 #[derive(Drop)]
 pub struct Ours;
 
@@ -105,6 +107,76 @@ fn asked_by_tell(alloc: Global, call: &Call) -> Result<Actions, NoMemory>
     Actions::one(alloc, Action::SendBot(BotWish { to: 0, text }))
 }
 
+/// What `echo` answers.
+///
+/// # Errors
+/// `NoMemory` where room is refused.
+pub fn reply_of_echo(alloc: Global, call: &Call) -> Result<Reply, NoMemory>
+    ensures { IfOk result (λ reply. reply ≡ reply_of_echo call.now) }
+{
+    let actions = asked_by_echo(alloc, call)?;
+    let code = Code::Zero;
+    Ok(Reply { code, actions })
+}
+
+// What `echo` asks for: that what was said is said again where it was said.
+fn asked_by_echo(alloc: Global, call: &Call) -> Result<Actions, NoMemory>
+    ensures { IfOk result (λ actions. actions ≡ asked_by_echo call.now) }
+{
+    let Some(place) = place_of(call.kind) else {
+        return Ok(Actions::empty(alloc));
+    };
+    let args = call.args.as_slice();
+    let line = echoed(alloc, arg_at(args, place), last_of(args))?;
+    let queue = Queue::Help;
+    Actions::one(alloc, Action::Put(PutWish { queue, line }))
+}
+
+// Where what is said is said again: the argument that is the channel, or the nick that said it privately.
+fn place_of(kind: Kind) -> Option<usize>
+    ensures { result ≡ place_of kind }
+{
+    match kind {
+        Kind::Pub | Kind::Pubm => Some(3),
+        Kind::Msg | Kind::Msgm => Some(0),
+        Kind::Raw
+        | Kind::Notc
+        | Kind::Join
+        | Kind::Part
+        | Kind::Sign
+        | Kind::Kick
+        | Kind::Nick
+        | Kind::Mode
+        | Kind::Topc
+        | Kind::Bot
+        | Kind::Time
+        | Kind::Cron
+        | Kind::Timer => None,
+    }
+}
+
+// PRIVMSG TARGET :TEXT
+fn echoed(alloc: Global, target: &[u8], text: &[u8]) -> Result<Text, NoMemory>
+    ensures { IfOk result (λ line. line ≡ echoed target.now text.now) }
+{
+    let mut line = Vec::new(alloc);
+    line.extend_from_slice(b"PRIVMSG ")?;
+    line.extend_from_slice(target)?;
+    line.extend_from_slice(b" :")?;
+    line.extend_from_slice(text)?;
+    Ok(Text::new(line))
+}
+
+// The argument at a place, and the empty text where there is none.
+fn arg_at(args: &[Text], place: usize) -> &[u8]
+    ensures { result.now ≡ arg_at args.now place }
+{
+    match args.get(place) {
+        Some(arg) => arg.as_bytes(),
+        None => b"",
+    }
+}
+
 // Whether a kind's last argument is what stands behind a first word.
 fn is_command(kind: Kind) -> bool
     ensures { result ≡ is_command kind }
@@ -150,6 +222,7 @@ pub fn store_of<B: Run>(
     adduser: B,
     tick: B,
     tell: B,
+    echo: B,
 ) -> Result<ProcStore<Ours, B>, NoMemory>
     requires quiet_runs { B.can_run quiet }
     requires quiet_keeps { Keeps (codes "quiet") (B.answers quiet) }
@@ -161,6 +234,8 @@ pub fn store_of<B: Run>(
     requires tick_keeps { Keeps (codes "tick") (B.answers tick) }
     requires tell_runs { B.can_run tell }
     requires tell_keeps { Keeps (codes "tell") (B.answers tell) }
+    requires echo_runs { B.can_run echo }
+    requires echo_keeps { Keeps (codes "echo") (B.answers echo) }
 {
     let mut store = ProcStore::new(alloc);
     add(alloc, &mut store, b"quiet", quiet)?;
@@ -168,6 +243,7 @@ pub fn store_of<B: Run>(
     add(alloc, &mut store, b"adduser", adduser)?;
     add(alloc, &mut store, b"tick", tick)?;
     add(alloc, &mut store, b"tell", tell)?;
+    add(alloc, &mut store, b"echo", echo)?;
     Ok(store)
 }
 

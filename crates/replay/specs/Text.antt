@@ -13,10 +13,11 @@ use Rattle.procstore.specs.declared.reply.Code.TheVariants.{Zero, One}
 use Rattle.sharelink.specs.declared.answer.Note.{Note as LinkNote}
 use Rattle.sharelink.specs.declared.answer.Note.TheVariants.{Queued, Idle, Accepted, Refused, Served, Old, Early, Applied, Relayed, Text, Stray}
 use Rattle.sharewire.specs.declared.packet.Packet.{Packet}
-use Rattle.sharewire.specs.declared.packet.Packet.TheVariants.{Hello, Change as change_packet, Request, Accepted as accepted_packet, Refused as refused_packet, BotText}
+use Rattle.sharewire.specs.declared.packet.Packet.TheVariants.{Hello, Change as change_packet, Request, Accepted as accepted_packet, Refused as refused_packet, BotText, Part}
+use Rattle.outqueue.specs.Refusals.{code_of as queue_code}
 use Rattle.botcore.specs.Codes.{refusal_code, action_code}
 use Rattle.botcore.specs.declared.fault.Fault.{Fault}
-use Rattle.botcore.specs.declared.fault.Fault.TheVariants.{Unbound as unbound_fault, Action as action_fault}
+use Rattle.botcore.specs.declared.fault.Fault.TheVariants.{Unbound as unbound_fault, Action as action_fault, Line as line_fault}
 use Rattle.botcore.specs.declared.made_call.MadeCall.{MadeCall}
 use Rattle.botcore.specs.declared.report.End.{End}
 use Rattle.botcore.specs.declared.report.End.TheVariants.{Done as ended, Refused as ended_refused, NoMemory as ended_no_memory}
@@ -36,10 +37,15 @@ code_text One = codes " 1" ++ 10 ∷ []
 abbrev pub call_line : ℕ → MadeCall → List ℕ
 call_line bot made = codes "call " ++ decimal bot ++ codes " " ++ made.proc ++ code_text made.reply.code
 
--- fault B NAME, the name being the code of a refused action, or that a proc is missing
+-- out B LINE
+abbrev pub out_line : ℕ → List ℕ → List ℕ
+out_line bot line = codes "out " ++ decimal bot ++ codes " " ++ line ++ 10 ∷ []
+
+-- fault B NAME, the name being the code of a refused action or of a line that wasn't queued, or that a proc is missing
 abbrev pub fault_text : Fault → List ℕ
 fault_text (unbound_fault unbound) = codes "Unbound " ++ unbound.proc
 fault_text (action_fault fault) = action_code fault
+fault_text (line_fault fault) = queue_code fault
 
 abbrev pub fault_line : ℕ → Fault → List ℕ
 fault_line bot fault = codes "fault " ++ decimal bot ++ codes " " ++ fault_text fault ++ 10 ∷ []
@@ -79,6 +85,7 @@ packet_text (change_packet number origin request change) = codes "Change " ++ de
 packet_text (Request leaf request change) = codes "Request " ++ decimal request
 packet_text (accepted_packet leaf request number) = codes "Accepted " ++ decimal request ++ codes " " ++ decimal number
 packet_text (refused_packet leaf request fault) = codes "Refused " ++ decimal request ++ codes " " ++ fault_code fault
+packet_text (Part version part count records) = codes "Part " ++ decimal version ++ codes " " ++ decimal part ++ codes " " ++ decimal count
 packet_text (BotText from to text) = codes "BotText " ++ decimal from ++ codes " " ++ decimal to ++ codes " " ++ text
 
 -- send K A>B KIND DETAIL
@@ -95,11 +102,12 @@ abbrev pub sent_lines : List Sent → ℕ → ℕ → List ℕ
 sent_lines packets number zero = []
 sent_lines packets number (suc count) = found_line number (packet_at packets number) ++ sent_lines packets (number + 1) count
 
--- a bot's part in a step, with all packets sent so far: its calls, the packets that it sent, its faults, and how it ended
+-- a bot's part in a step, with all packets sent so far: its calls, the packets that it sent, its lines for the server, its
+-- faults, and how it ended
 abbrev pub report_text : List Sent → Report → List ℕ
 report_text packets report =
-    flat_map (call_line report.bot) report.calls ++ sent_lines packets report.first report.count ++ flat_map (fault_line report.bot) report.faults
-    ++ end_line report.bot report.end report.note
+    flat_map (call_line report.bot) report.calls ++ sent_lines packets report.first report.count ++ flat_map (out_line report.bot) report.lines
+    ++ flat_map (fault_line report.bot) report.faults ++ end_line report.bot report.end report.note
 
 abbrev pub outcome_text : List Sent → Outcome → List ℕ
 outcome_text packets (reported report) = report_text packets report

@@ -1,17 +1,18 @@
-// The lines of a step: its calls, the packets that it sent, its faults, and how it ended.
+// The lines of a step: its calls, the packets and the lines that it sent, its faults, and how it ended.
 ghost use Rattle.std.specs.Prelude.{◌≡◌, ◌≢◌, ◌++◌, OnOk};
 ghost use Rattle.std.specs.List.{flat_map};
 ghost use Rattle.std.specs.Option.{option_copied};
 ghost use Rattle.botcore.specs.declared.report.End.TheVariants.{NoMemory as ended_no_memory};
 ghost use Rattle.botworld.specs.Network.{IsMade};
-ghost use Rattle.replay.specs.Text.{call_line, code_text, fault_line, fault_text, found_line, sent_lines, outcome_text, report_text};
+ghost use Rattle.replay.specs.Text.{call_line, code_text, fault_line, fault_text, found_line, out_line, sent_lines};
+ghost use Rattle.replay.specs.Text.{outcome_text, report_text};
 
 use crate::ends::put_end;
 use crate::packets::put_sent;
 use crate::print::{put, put_number};
 use botcore::{Fault, MadeCall};
 use botworld::{Outcome, Report, Sent, World};
-use bytetext::NoMemory;
+use bytetext::{NoMemory, Text};
 use procstore::{Code, Promise, Run};
 
 /// Adds the lines of a step, whose packets the world has.
@@ -45,6 +46,7 @@ fn put_report<P: Promise, B: Run>(
 {
     put_calls(out, report.bot, report.calls.as_slice())?;
     put_packets(out, world, report.first, report.count)?;
+    put_lines(out, report.bot, report.lines.as_slice())?;
     put_faults(out, report.bot, report.faults.as_slice())?;
     put_end(out, report.bot, report.end, &report.note)
 }
@@ -109,6 +111,28 @@ fn put_found(out: &mut Vec<u8>, number: u64, sent: Option<&Sent>) -> Result<(), 
     }
 }
 
+// The line of each line for the server, in order.
+fn put_lines(out: &mut Vec<u8>, bot: u16, lines: &[Text]) -> Result<(), NoMemory>
+    ensures { OnOk result (out.new.items ≡ out.old.items ++ flat_map (out_line bot) lines.now) }
+{
+    for line in lines {
+        put_line(out, bot, line)?;
+    }
+    Ok(())
+}
+
+// out B LINE
+#[tactic(auto, using(std::proofs::Common::append_assoc))]
+fn put_line(out: &mut Vec<u8>, bot: u16, line: &Text) -> Result<(), NoMemory>
+    ensures { OnOk result (out.new.items ≡ out.old.items ++ out_line bot line.now) }
+{
+    put(out, b"out ")?;
+    put_number(out, u64::from(bot))?;
+    put(out, b" ")?;
+    put(out, line.as_bytes())?;
+    put(out, b"\n")
+}
+
 // The line of each fault, in order.
 fn put_faults(out: &mut Vec<u8>, bot: u16, faults: &[Fault]) -> Result<(), NoMemory>
     ensures { OnOk result (out.new.items ≡ out.old.items ++ flat_map (fault_line bot) faults.now) }
@@ -131,7 +155,7 @@ fn put_fault(out: &mut Vec<u8>, bot: u16, fault: &Fault) -> Result<(), NoMemory>
     put(out, b"\n")
 }
 
-// Unbound PROC, or the code of a refused action.
+// Unbound PROC, or the code of a refused action or of a line that wasn't queued.
 #[tactic(auto, using(std::proofs::Common::append_assoc))]
 fn put_name(out: &mut Vec<u8>, fault: &Fault) -> Result<(), NoMemory>
     ensures { OnOk result (out.new.items ≡ out.old.items ++ fault_text fault.now) }
@@ -142,5 +166,6 @@ fn put_name(out: &mut Vec<u8>, fault: &Fault) -> Result<(), NoMemory>
             put(out, unbound.proc.as_bytes())
         }
         Fault::Action(fault) => put(out, fault.code().as_bytes()),
+        Fault::Line(fault) => put(out, fault.code().as_bytes()),
     }
 }

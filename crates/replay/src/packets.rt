@@ -51,5 +51,15 @@ fn put_packet(out: &mut Vec<u8>, packet: &Packet) -> Result<(), NoMemory>
             put(out, b" ")?;
             put(out, text.as_bytes())
         }
+        Packet::Part {
+            version,
+            part,
+            count,
+            ..
+        } => {
+            put_counted(out, b"Part ", u64::from(*version))?;
+            put_counted(out, b" ", u64::from(*part))?;
+            put_counted(out, b" ", u64::from(*count))
+        }
     }
 }
