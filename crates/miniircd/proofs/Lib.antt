@@ -1,5 +1,12 @@
+pub mod ListLemmas
 pub mod MailLemmas
 pub mod LineLemmas
 pub mod CutLemmas
 pub mod ModeLemmas
+pub mod WholeLemmas
+pub mod PeopleLemmas
+pub mod PrintedLemmas
+pub mod LetterLemmas
+pub mod TalkLemmas
+pub mod ToldLemmas
 pub mod SoundLemmas

@@ -5,7 +5,7 @@ use Rattle.miniircd.specs.declared.person.Person.{Person}
 use Rattle.miniircd.specs.declared.member.Member.{Member}
 use Rattle.miniircd.specs.declared.member.Channel.{Channel}
 use Rattle.miniircd.specs.Rooms.{joined, joined_each}
-use Rattle.miniircd.specs.Mail.{Mail, Letter, posted}
+use Rattle.miniircd.specs.Mail.{Mail, posted}
 use Rattle.miniircd.specs.Lines.{letter, spread, listed, listed_before, join_letters, join_letters_each}
 use Rattle.miniircd.proofs.MailLemmas.{posted_step}
 

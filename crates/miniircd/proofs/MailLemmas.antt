@@ -1,5 +1,5 @@
 -- What goes out is sound, and letters are posted one after another.
-use Rattle.std.proofs.Common.{◌≡◌, ℕ, zero, suc, Bool, true, false, ◌&&◌, cond, List, [], ◌∷◌, ◌++◌, Option, length, take, filter, nat_le, refl, sym, ◌∙◌, ap, append_assoc, arith}
+use Rattle.std.proofs.Common.{◌≡◌, ℕ, Bool, true, false, ◌&&◌, cond, List, [], ◌∷◌, ◌++◌, Option, length, filter, nat_le, refl, sym, ◌∙◌, ap, append_assoc, arith}
 use Rattle.std.specs.List.{list_all}
 use Rattle.std.proofs.lemmas.Bool.{and_from, and_parts, le-leb}
 use Rattle.std.proofs.lemmas.List.{length-take, append-nil}
@@ -8,15 +8,9 @@ use Rattle.ircline.specs.Classes.{filled, octet}
 use Rattle.miniircd.specs.declared.person.Person.{Person}
 use Rattle.miniircd.specs.declared.client.Sent.{Sent}
 use Rattle.miniircd.specs.Mail.{Mail, Letter, sealed, serves, delivery, deliveries, posted, is_sound, are_sound}
+use Rattle.miniircd.proofs.ListLemmas.{list_all-taken}
 
 -- ---- lists whose items all pass
-
-list_all-take : (p : ℕ → Bool) (n : ℕ) (xs : List ℕ) → list_all p xs ≡ true → list_all p (take n xs) ≡ true
-list_all-take p zero xs h = refl
-list_all-take p (suc n) [] h = refl
-list_all-take p (suc n) (x ∷ xs) h =
-    let parts = and_parts (p x) (list_all p xs) h in
-    and_from (p x) (list_all p (take n xs)) parts.0 (list_all-take p n xs parts.1)
 
 list_all-kept : (p : ℕ → Bool) (x : ℕ) (xs : List ℕ) (b : Bool) → p x ≡ b → list_all p xs ≡ true → list_all p (cond b (x ∷ xs) xs) ≡ true
 list_all-kept p x xs true e h = and_from (p x) (list_all p xs) e h
@@ -32,7 +26,7 @@ sealed-short : (text : List ℕ) → nat_le (length (sealed text)) 510 ≡ true
 sealed-short text = le-leb _ _ (omega (arith, length-take 510 (filter octet text)))
 
 sealed-octets : (text : List ℕ) → list_all octet (sealed text) ≡ true
-sealed-octets text = list_all-take octet 510 (filter octet text) (list_all-filter octet text)
+sealed-octets text = list_all-taken octet 510 (filter octet text) (list_all-filter octet text)
 
 pub are_sound-more : (clients : List (Option Person)) (leaver : Option ℕ) (lines : List Sent) (to : ℕ) (text line : List ℕ)
     → are_sound clients leaver lines ≡ true → line ≡ sealed text → (filled line && serves clients leaver to) ≡ true

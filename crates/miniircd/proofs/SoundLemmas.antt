@@ -1,10 +1,9 @@
 -- Lines that are sound before a change of the clients are so after it.
-use Rattle.std.proofs.Common.{◌≡◌, ◌≢◌, ◌⊎◌, ℕ, ◌<◌, Bool, true, false, not, ◌&&◌, ◌==◌, List, [], ◌∷◌, Option, Some, None, is_some, length, get_or, set, refl, sym, ◌∙◌, ap, inl, inr, arith}
+use Rattle.std.proofs.Common.{◌≡◌, ℕ, true, not, ◌==◌, List, [], ◌∷◌, Option, Some, None, is_some, refl, sym, ◌∙◌, ap, inl, inr, arith}
 use Rattle.std.proofs.lemmas.Bool.{and_from, and_parts, cases_eq}
 use Rattle.std.proofs.lemmas.Bool.Decides.{nat_tests}
-use Rattle.std.proofs.lemmas.List.{get_or-set_same, get_or-set_other, get_or_past}
+use Rattle.std.proofs.lemmas.List.{get_or-set_other}
 use Rattle.std.specs.Prelude.{slice_set}
-use Rattle.ircline.specs.Classes.{filled, octet}
 use Rattle.miniircd.specs.declared.person.Person.{Person}
 use Rattle.miniircd.specs.declared.member.Channel.{Channel}
 use Rattle.miniircd.specs.declared.client.Sent.{Sent}
@@ -14,23 +13,14 @@ use Rattle.miniircd.specs.declared.change.Effect.TheVariants as effect
 use Rattle.miniircd.specs.People.{held_at}
 use Rattle.miniircd.specs.Mail.{serves, is_sound, are_sound}
 use Rattle.miniircd.specs.Server.{effected, IsSoundAfter}
+use Rattle.miniircd.proofs.WholeLemmas.{held_person}
 
 -- ---- clients
-
-within : (clients : List (Option Person)) (to : ℕ) → is_some (held_at clients to) ≡ true → to < length clients
-within clients to held = grind (arith, get_or_past)
 
 serves_person : (clients : List (Option Person)) (client : ℕ) (p : Person) (to : ℕ)
     → serves clients None to ≡ true → serves (slice_set clients client (Some p)) None to ≡ true
 serves_person clients client p to served =
-    let held = (and_parts (is_some (held_at clients to)) true served).0 in
-    elim (cases_eq to client) [
-      | inl same ↦
-          let less : client < length clients = omega (arith, within clients to held, same) in
-          and_from _ true (ap (λ k. is_some (held_at (slice_set clients client (Some p)) k)) same
-          ∙ ap is_some (get_or-set_same clients client (Some p) None less)) refl
-      | inr differs ↦ and_from _ true (ap is_some (get_or-set_other clients client to (Some p) None differs) ∙ held) refl
-    ]
+    and_from _ true (held_person clients client p to (and_parts (is_some (held_at clients to)) true served).0) refl
 
 serves_left : (clients : List (Option Person)) (client to : ℕ)
     → serves clients (Some client) to ≡ true → serves (slice_set clients client None) None to ≡ true

@@ -1,8 +1,7 @@
 -- What each command of a client does to the clients and the channels (RFC 2812 section 3).
-use Rattle.std.specs.Prelude.{ℕ, Bool, true, false, not, ◌==◌, ◌&&◌, ◌||◌, List, [], ◌∷◌, ◌++◌, Option, Some, None, map, take, drop, length, nat_lt, nat_le, nat_eq, codes, slice_set, slice_get, if◌then◌else◌}
+use Rattle.std.specs.Prelude.{ℕ, Bool, true, false, not, ◌==◌, ◌&&◌, ◌||◌, List, [], ◌∷◌, Option, Some, None, map, take, drop, length, nat_lt, nat_le, nat_eq, codes, slice_get, if◌then◌else◌}
 use Rattle.std.specs.List.{list_any, list_all, slice_split}
 use Rattle.std.specs.Cmp.Lexicographic.{pointwise}
-use Rattle.rfccase.specs.Channels.{is_channel_name}
 use Rattle.ircline.specs.Classes.{filled}
 use Rattle.ircline.specs.declared.message.Message.{Message}
 use Rattle.miniircd.specs.declared.person.Person.{Person}
@@ -14,8 +13,8 @@ use Rattle.miniircd.specs.declared.change.Change.{Change}
 use Rattle.miniircd.specs.declared.change.Change.TheVariants as change
 use Rattle.miniircd.specs.declared.standing.Standing.{Standing}
 use Rattle.miniircd.specs.declared.standing.Standing.TheVariants as standing
-use Rattle.miniircd.specs.People.{is_registered, held_at, holder, word_at}
-use Rattle.miniircd.specs.Rooms.{room, member_of, has_member, is_on_some, joined_each, rooms_after, Enter, Leave, Title, Mark}
+use Rattle.miniircd.specs.People.{is_registered, holder, word_at}
+use Rattle.miniircd.specs.Rooms.{room, member_of, is_on_some, joined_each, rooms_after, Leave, Title, Mark}
 use Rattle.miniircd.specs.declared.modes.Single.{Single}
 use Rattle.miniircd.specs.Modes.{singles}
 

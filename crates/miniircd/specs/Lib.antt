@@ -5,4 +5,5 @@ pub mod Lines
 pub mod Modes
 pub mod Commands
 pub mod Talk
+pub mod Whole
 pub mod Server

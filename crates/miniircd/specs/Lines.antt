@@ -1,14 +1,16 @@
 -- The lines that the server writes.
-use Rattle.std.specs.Prelude.{ℕ, zero, suc, ◌≤◌, ◌+◌, ◌-◌, ◌*◌, ◌/◌, Bool, ◌&&◌, ◌||◌, List, [], ◌∷◌, ◌++◌, Option, Some, None, take, drop, length, map, filter, not, nat_le, codes, if◌then◌else◌}
-use Rattle.std.specs.List.{flat_map}
+use Rattle.std.specs.Prelude.{true, ◌≡◌, ℕ, zero, suc, ◌≤◌, ◌+◌, ◌-◌, ◌*◌, ◌/◌, ◌&&◌, List, [], ◌∷◌, ◌++◌, Option, Some, None, take, drop, length, map, filter, not, nat_le, codes, if◌then◌else◌}
+use Rattle.std.specs.List.{flat_map, list_all}
 use Rattle.rfccase.specs.Channels.{is_channel_name}
-use Rattle.ircline.specs.Classes.{filled}
+use Rattle.ircline.specs.Classes.{filled, middle, trailing, names}
+use Rattle.ircline.specs.Carrying.{kept_command}
+use Rattle.ircline.specs.declared.message.Message.{Message}
 use Rattle.ircline.specs.Printing.{wants_colon, last_text}
 use Rattle.miniircd.specs.declared.person.Person.{Person}
 use Rattle.miniircd.specs.declared.member.Member.{Member}
 use Rattle.miniircd.specs.declared.member.Channel.{Channel}
 use Rattle.miniircd.specs.People.{held_at}
-use Rattle.miniircd.specs.Rooms.{room, has_member, is_on_some, is_client, joined}
+use Rattle.miniircd.specs.Rooms.{room, is_on_some, is_client, joined}
 use Rattle.miniircd.specs.Mail.{Letter}
 
 -- ---- one line
@@ -21,9 +23,13 @@ shown nick = if filled nick then nick else 42 ∷ []
 abbrev pub repeated : List ℕ → List ℕ
 repeated word = 32 ∷ take 100 word
 
--- a numbered reply (RFC 2812 section 5): the words have a space before each
+-- a numbered reply (RFC 2812 section 5) as far as its last parameter: the words have a space before each
+abbrev pub numbered_head : List ℕ → List ℕ → List ℕ → List ℕ
+numbered_head nick code words = codes ":irc.test " ++ code ++ codes " " ++ shown nick ++ words ++ codes " :"
+
+-- a numbered reply of at most 510 bytes: its last parameter is cut
 abbrev pub numbered : List ℕ → List ℕ → List ℕ → List ℕ → List ℕ
-numbered nick code words last = codes ":irc.test " ++ code ++ codes " " ++ shown nick ++ words ++ codes " :" ++ last
+numbered nick code words last = numbered_head nick code words ++ take (510 - length (numbered_head nick code words)) last
 
 -- a last parameter: its longest front that has room, with the colon that it may need
 abbrev pub cut : ℕ → List ℕ → List ℕ
@@ -42,6 +48,25 @@ head source command words = codes ":" ++ source ++ codes " " ++ command ++ words
 abbrev pub relayed : List ℕ → List ℕ → List ℕ → List ℕ → List ℕ
 relayed source command words last =
     head source command words ++ last_text (cut (509 - length (head source command words)) last)
+
+-- the parts of a message that is passed on: a source and words such as the protocol allows, with room for a last parameter
+pub record Relays (source command last : List ℕ) (middles : List (List ℕ)) : Type 0 where
+  pub named : names source ≡ true
+  pub there : filled source ≡ true
+  pub kept : kept_command command ≡ true
+  pub words : list_all middle middles ≡ true
+  pub few : length middles ≤ 14
+  pub text : trailing last ≡ true
+  pub short : length (head source command (flat_map (λ word. 32 ∷ word) middles)) ≤ 508
+
+-- the line of these parts, and the message with its last parameter cut
+abbrev pub relay : List ℕ → List ℕ → List ℕ → List (List ℕ) → List ℕ
+relay source command last middles = relayed source command (flat_map (λ word. 32 ∷ word) middles) last
+
+abbrev pub relay_message : List ℕ → List ℕ → List ℕ → List (List ℕ) → Message
+relay_message source command last middles =
+    let words = flat_map (λ word. 32 ∷ word) middles in
+    record { prefix = source; command = command; params = middles ++ cut (509 - length (head source command words)) last ∷ []; rest = [] }
 
 -- who a client's messages come from
 abbrev pub source_of : Person → List ℕ

@@ -1,9 +1,11 @@
 -- What goes out: to clients that are held, and in lines that the protocol allows.
-use Rattle.std.specs.Prelude.{◌≡◌, ℕ, Bool, true, false, not, ◌==◌, ◌&&◌, List, [], ◌∷◌, ◌++◌, Option, Some, None, is_some, filter, take, length, nat_le, if◌then◌else◌}
+use Rattle.std.specs.Prelude.{◌≡◌, ℕ, map, Bool, true, false, not, ◌==◌, ◌&&◌, List, [], ◌∷◌, ◌++◌, Option, Some, None, is_some, filter, take, length, nat_le, if◌then◌else◌}
 use Rattle.std.specs.List.{list_all}
 use Rattle.ircline.specs.Classes.{filled, octet}
+use Rattle.ircline.specs.Reading.{line_of}
+use Rattle.ircline.specs.declared.line.Line.{Line}
+use Rattle.ircline.specs.declared.line.Line.TheVariants as line
 use Rattle.miniircd.specs.declared.person.Person.{Person}
-use Rattle.miniircd.specs.declared.client.Client.{Client}
 use Rattle.miniircd.specs.declared.client.Sent.{Sent}
 use Rattle.miniircd.specs.People.{held_at}
 
@@ -34,6 +36,10 @@ pub record Letter : Type 0 where
   pub to : ℕ
   pub text : List ℕ
 
+-- a letter as it is
+abbrev pub sent : Letter → Sent
+sent letter = record { to = record { 0 = letter.to }; line = letter.text }
+
 -- what goes out of a letter
 abbrev pub delivery : List (Option Person) → Option ℕ → Letter → List Sent
 delivery clients leaver letter =
@@ -49,10 +55,26 @@ deliveries clients leaver (letter ∷ letters) = delivery clients leaver letter 
 abbrev pub posted : List Letter → Mail → Mail
 posted letters mail = record mail { lines = mail.lines ++ deliveries mail.clients mail.leaver letters }
 
+-- a line as the protocol allows it
+abbrev pub is_line : List ℕ → Bool
+is_line text = filled text && (nat_le (length text) 510 && list_all octet text)
+
+-- whether a text reads as a message
+abbrev pub is_message : Line → Bool
+is_message (line.Message m) = true
+is_message (line.Bad fault) = false
+
+abbrev pub is_readable : List ℕ → Bool
+is_readable text = is_message (line_of text)
+
 -- a line that a client may get
 abbrev pub is_sound : List (Option Person) → Option ℕ → Sent → Bool
-is_sound clients leaver sent =
-    serves clients leaver sent.to.0 && (filled sent.line && (nat_le (length sent.line) 510 && list_all octet sent.line))
+is_sound clients leaver sent = serves clients leaver sent.to.0 && is_line sent.line
 
 abbrev pub are_sound : List (Option Person) → Option ℕ → List Sent → Bool
 are_sound clients leaver lines = list_all (is_sound clients leaver) lines
+
+-- what goes out is these letters, none left out and none changed, and each reads as a message
+pub record IsTold (letters : List Letter) (lines : List Sent) : Type 0 where
+  pub as_they_are : lines ≡ map sent letters
+  pub readable : list_all (λ s. is_readable s.line) lines ≡ true

@@ -1,5 +1,5 @@
 -- The single modes of a MODE (RFC 2812 section 3.2.3).
-use Rattle.std.specs.Prelude.{ℕ, Bool, true, false, ◌||◌, ◌&&◌, not, ◌==◌, List, [], ◌∷◌, ◌++◌, drop, Option, Some, None, if◌then◌else◌}
+use Rattle.std.specs.Prelude.{ℕ, Bool, true, false, ◌||◌, ◌&&◌, not, ◌==◌, List, [], ◌∷◌, ◌++◌, drop, if◌then◌else◌}
 use Rattle.miniircd.specs.declared.modes.Single.{Single}
 use Rattle.miniircd.specs.People.{word_at}
 

@@ -1,5 +1,5 @@
 -- The clients of the server: what each has said of itself, by its number.
-use Rattle.std.specs.Prelude.{ℕ, ◌&&◌, ◌+◌, Bool, List, [], ◌∷◌, Option, Some, None, slice_get, slice_index_or, if◌then◌else◌}
+use Rattle.std.specs.Prelude.{ℕ, ◌&&◌, Bool, List, [], ◌∷◌, Option, Some, None, slice_get, slice_index_or, if◌then◌else◌}
 use Rattle.rfccase.specs.Casemapping.{is_same}
 use Rattle.ircline.specs.Classes.{filled}
 use Rattle.slab.specs.Slab.{entries_from}

@@ -1,5 +1,5 @@
 -- The server, and how the calls leave it.
-use Rattle.std.specs.Prelude.{◌≡◌, ◌≢◌, ℕ, ◌&&◌, ◌||◌, Bool, true, false, List, [], ◌∷◌, Option, Some, None, is_some, count_by, codes, slice_set, if◌then◌else◌}
+use Rattle.std.specs.Prelude.{◌≡◌, ◌≢◌, ℕ, true, List, [], Option, Some, None, is_some, count_by, codes, slice_set, if◌then◌else◌}
 use Rattle.ircline.specs.declared.message.Message.{Message}
 use Rattle.ircline.specs.declared.line.Line.{Line}
 use Rattle.ircline.specs.declared.line.Line.TheVariants as line

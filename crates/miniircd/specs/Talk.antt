@@ -1,5 +1,5 @@
 -- PRIVMSG, NOTICE and PING (RFC 2812 sections 3.3 and 3.7.2), and all that is told of the commands whose lines are exact.
-use Rattle.std.specs.Prelude.{ℕ, Bool, true, false, not, ◌==◌, ◌&&◌, List, [], ◌∷◌, ◌++◌, Option, Some, None, length, nat_lt, codes, if◌then◌else◌}
+use Rattle.std.specs.Prelude.{ℕ, Bool, true, false, ◌==◌, List, [], ◌∷◌, Option, Some, None, length, nat_lt, codes, if◌then◌else◌}
 use Rattle.std.specs.List.{slice_split}
 use Rattle.rfccase.specs.Channels.{is_channel_name}
 use Rattle.ircline.specs.declared.message.Message.{Message}

@@ -1,9 +1,9 @@
 // What the server answers to one line of a client that is held, before anything is changed.
-ghost use Rattle.std.specs.Prelude.{◌≡◌, None, IfOk, IfSome};
+ghost use Rattle.std.specs.Prelude.{◌≡◌, [], Some, None, IfOk, IfSome, OnErr};
 ghost use Rattle.ircline.specs.declared.line.Line.TheVariants.{Message as message_line};
 ghost use Rattle.ircline.specs.Words.{up_to};
 ghost use Rattle.ircline.specs.Classes.{is_end};
-ghost use Rattle.ircline.specs.Reading.{line_of};
+ghost use Rattle.ircline.specs.Reading.{line_of, TakesMemory};
 ghost use Rattle.miniircd.specs.declared.change.Effect.TheVariants.{Changed, Left};
 ghost use Rattle.miniircd.specs.Mail.{deliveries};
 ghost use Rattle.miniircd.specs.Rooms.{rooms_after, Leave};
@@ -60,6 +60,13 @@ fn reply_to_message(
     })
 }
 
+// No line yet of those for the clients that stay when one leaves.
+fn post_of_leaver(alloc: Global, clients: &Slab<Person>, leaver: usize) -> Post<'_>
+    ensures { result ≡ record { clients = clients.now.slots; leaver = Some leaver; lines = [] } }
+{
+    Post::new(alloc, clients, Some(leaver))
+}
+
 /// What a client leaves, with the reason that it may give.
 ///
 /// # Errors
@@ -74,7 +81,7 @@ pub fn farewell_of(
     ensures left { IfOk result (λ reply. reply.effect ≡ Left (rooms_after None (Leave me.now.key) channels.now)) }
     ensures sound { IfOk result (λ reply. IsSoundAfter me.now.key clients.now.slots reply.effect reply.lines) }
 {
-    let mut post = Post::new(alloc, clients, Some(me.key));
+    let mut post = post_of_leaver(alloc, clients, me.key);
     let source = source_of(alloc, me.person)?;
     let line = farewell(alloc, source.as_slice(), reason)?;
     spread_to_neighbours(alloc, &mut post, clients, channels, me.key, line.as_slice())?;
@@ -130,6 +137,7 @@ pub fn reply_to(
         (record { clients = clients.now.slots; channels = channels.now }))
         (λ letters. reply.lines ≡ deliveries clients.now.slots None letters)) }
     ensures sound { IfOk result (λ reply. IsSoundAfter me.now.key clients.now.slots reply.effect reply.lines) }
+    ensures memory { OnErr result (TakesMemory (line_of (up_to is_end text.now))) }
 {
     match read_line(alloc, text)? {
         Line::Bad(_) => Ok(Reply {

@@ -1,10 +1,14 @@
 // The server.
 ghost use Rattle.std.specs.Prelude.{◌≡◌, ◌≤◌, ◌↔◌, [], true, None, Some, Err, IfOk, IfSome, OnOk, OnErr, slice_set};
 ghost use Rattle.slab.specs.Slab.{ContainsKey};
-ghost use Rattle.bytetext.specs.declared.failure.Failure.TheVariants.{Refused};
+ghost use Rattle.bytetext.specs.declared.failure.Failure.TheVariants.{Refused, NoMemory};
+ghost use Rattle.ircline.specs.Words.{up_to};
+ghost use Rattle.ircline.specs.Classes.{is_end};
+ghost use Rattle.ircline.specs.Reading.{line_of, TakesMemory};
 ghost use Rattle.miniircd.specs.declared.fault.Fault.TheVariants.{Full, NoSuchClient};
 ghost use Rattle.miniircd.specs.People.{held_at};
-ghost use Rattle.miniircd.specs.Mail.{deliveries, are_sound};
+ghost use Rattle.miniircd.specs.Mail.{IsTold, are_sound};
+ghost use Rattle.miniircd.specs.Whole.{IsWhole};
 ghost use Rattle.miniircd.specs.Server.{count, Comes, effected, left, after, letters};
 
 use crate::answers::{Reply, farewell_of, reply_to};
@@ -40,10 +44,13 @@ pub struct Ircd {
 
 impl Model for Ircd {
     ghost use Rattle.miniircd.specs.Server.{Server};
+    ghost use Rattle.miniircd.specs.Whole.{IsWhole};
 
     ghost Value = { Server };
 
     ghost view = { λ s. record { clients = s.clients.slots; channels = s.channels } };
+
+    ghost invariant = { λ s. IsWhole s.clients.slots s.channels };
 }
 
 impl Ircd {
@@ -86,9 +93,11 @@ impl Ircd {
         ensures unknown { (result ≡ Err (Refused NoSuchClient)) ↔ (held_at self.old.clients client.0 ≡ None) }
         ensures after { OnOk result (self.new ≡ after client.0 text.now self.old) }
         ensures told { IfOk result (λ lines. IfSome (letters client.0 text.now self.old)
-            (λ letters. lines ≡ deliveries self.old.clients None letters)) }
+            (λ letters. IsTold letters lines)) }
         ensures sound { IfOk result (λ lines. are_sound self.new.clients None lines ≡ true) }
         ensures err { OnErr result (self.new ≡ self.old) }
+        // A bad line takes no memory.
+        ensures memory { (result ≡ Err NoMemory) → TakesMemory (line_of (up_to is_end text.now)) }
     {
         let Some(person) = self.clients.get(client.0) else {
             return Err(Failure::Refused(Fault::NoSuchClient));
@@ -124,6 +133,14 @@ impl Ircd {
         let Reply { effect, lines } = reply;
         commit(&mut self.clients, &mut self.channels, client.0, effect);
         Ok(lines)
+    }
+
+    /// Whatever was called before, each member of a channel is a client that is held, and nicks, user names and topics
+    /// are such as can stand in lines. This call says so, and does nothing.
+    pub fn is_whole(&self)
+        ensures { IsWhole self.now.clients self.now.channels }
+    {
+        let _ = &self.channels;
     }
 }
 

@@ -2,8 +2,8 @@
 ghost use Rattle.std.specs.Prelude.{◌≡◌, ◌≤◌, ◌-◌, ◌++◌, ◌∷◌, [], ℕ, List, true, length};
 ghost use Rattle.std.specs.List.{flat_map};
 ghost use Rattle.ircline.specs.Classes.{filled};
-ghost use Rattle.ircline.specs.Printing.{canonical};
-ghost use Rattle.miniircd.specs.Lines.{cut, head, relayed, IsLongest};
+ghost use Rattle.ircline.specs.Printing.{canonical, ReadsBack};
+ghost use Rattle.miniircd.specs.Lines.{cut, head, relayed, IsLongest, Relays, relay, relay_message};
 
 /// A line that is passed on is the canonical line of the message with its last parameter cut.
 pub fn relays_are_canonical()
@@ -16,4 +16,10 @@ pub fn relays_are_canonical()
 /// A last parameter is cut to its longest front that has room.
 pub fn cuts_are_the_longest()
     ensures { (room : ℕ) (last : List ℕ) → 1 ≤ room → IsLongest room last (cut room last) }
+{}
+
+/// A line that is passed on, of parts that the protocol allows, reads back as its message, the last parameter cut.
+pub fn relays_read_back()
+    ensures { (source command last : List ℕ) (middles : List (List ℕ)) → Relays source command last middles →
+        ReadsBack (relay source command last middles) (relay_message source command last middles) }
 {}

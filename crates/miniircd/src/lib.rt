@@ -7,9 +7,10 @@
 //!
 //! Contracts see a server as its clients by their numbers and its channels in the order in which they were made
 //! (`specs/Server.antt`). `after` in that file is what a line leaves, a definition for each command in
-//! `specs/Commands.antt`; for PING, JOIN, PRIVMSG and NOTICE of a registered client `letters` says which lines go out.
-//! Every line that goes out goes to a client that is held then, has 1 to 510 bytes, and no NUL, CR or LF.
-//! What one call needs of memory it takes before it changes anything.
+//! `specs/Commands.antt`; for PING, JOIN, PRIVMSG and NOTICE of a registered client `letters` says which lines go out:
+//! none is left out or changed, and each reads as a message. Every line that goes out goes to a client that is held then,
+//! has 1 to 510 bytes, and no NUL, CR or LF. Each member of a channel is a client that is held ([`Ircd::is_whole`]).
+//! What one call needs of memory it takes before it changes anything; a bad line takes none.
 #![tactic(auto)]
 
 mod answers;
@@ -41,6 +42,6 @@ mod who;
 pub use crate::client::{Client, Sent};
 pub use crate::fault::{Fault, IrcdError};
 pub use crate::ircd::{Ircd, MAX_CLIENTS};
-pub use crate::laws::{cuts_are_the_longest, relays_are_canonical};
+pub use crate::laws::{cuts_are_the_longest, relays_are_canonical, relays_read_back};
 pub use crate::member::{Channel, Member};
 pub use crate::person::Person;

@@ -1,11 +1,15 @@
 // The lines that the server writes.
 ghost use Rattle.std.specs.Prelude.{◌≡◌, ◌++◌, IfOk};
 ghost use Rattle.ircline.specs.Printing.{wants_colon};
-ghost use Rattle.miniircd.specs.Lines.{shown, repeated, numbered, cut, head, relayed, source_of};
+ghost use Rattle.miniircd.specs.Lines.{shown, repeated, numbered_head, numbered, cut, head, relayed, source_of};
 
 use crate::person::Person;
+use crate::texts::front;
 use bytetext::NoMemory;
 use std::alloc::Global;
+
+// The most bytes that a line has before CR and LF (RFC 2812 section 2.3).
+const MAX_LINE: usize = 510;
 
 // The most bytes that a line has before its last parameter and the space that goes before that.
 const ROOM: usize = 509;
@@ -19,7 +23,20 @@ fn shown(nick: &[u8]) -> &[u8]
     if nick.len() > 0 { nick } else { b"*" }
 }
 
-/// A numbered reply: its words have a space before each, and its last parameter a colon.
+// A numbered reply as far as its last parameter, with the colon of that.
+fn numbered_head(alloc: Global, nick: &[u8], code: &[u8], words: &[u8]) -> Result<Vec<u8>, NoMemory>
+    ensures { IfOk result (λ line. line.items ≡ numbered_head nick.now code.now words.now) }
+{
+    let mut line = Vec::from_slice(alloc, b":irc.test ")?;
+    line.extend_from_slice(code)?;
+    line.extend_from_slice(b" ")?;
+    line.extend_from_slice(shown(nick))?;
+    line.extend_from_slice(words)?;
+    line.extend_from_slice(b" :")?;
+    Ok(line)
+}
+
+/// A numbered reply, of at most 510 bytes: its words have a space before each, and its last parameter a colon.
 pub fn numbered(
     alloc: Global,
     nick: &[u8],
@@ -29,12 +46,8 @@ pub fn numbered(
 ) -> Result<Vec<u8>, NoMemory>
     ensures { IfOk result (λ line. line.items ≡ numbered nick.now code.now words.now last.now) }
 {
-    let mut line = Vec::from_slice(alloc, b":irc.test ")?;
-    line.extend_from_slice(code)?;
-    line.extend_from_slice(b" ")?;
-    line.extend_from_slice(shown(nick))?;
-    line.extend_from_slice(words)?;
-    line.extend_from_slice(b" :")?;
+    let mut line = numbered_head(alloc, nick, code, words)?;
+    let last = front(last, MAX_LINE.saturating_sub(line.len()));
     line.extend_from_slice(last)?;
     Ok(line)
 }

@@ -1,11 +1,11 @@
-use Rattle.std.proofs.Common.{◌∙◌, List, ℕ, [], ◌∷◌, ◌++◌, ap, sym, map, eqb, rules, tests}
+use Rattle.std.proofs.Common.{◌∙◌, [], ◌∷◌, ◌++◌, ap, sym, map, eqb, rules, tests}
 use Rattle.std.proofs.lemmas.List.{map-append}
 use Rattle.std.proofs.lemmas.Iterator.Consumers.{YieldsList-at, YieldsList-end}
 use Rattle.std.proofs.lemmas.Iterator.Splits.{YieldsList-from_slice_split}
 use Rattle.miniircd.specs.Mail.{posted}
 use Rattle.miniircd.specs.Rooms.{joined, joined_each}
 use Rattle.miniircd.specs.Lines.{join_letters, join_letters_each}
-use Rattle.miniircd.proofs.MailLemmas.{posted_none, posted_step}
+use Rattle.miniircd.proofs.MailLemmas.{posted_step}
 use Rattle.miniircd.proofs.LineLemmas.{joined_each_more, join_letters_more}
 use Rattle.miniircd.proofs.join.join_each.Goals as goal
 

@@ -1,4 +1,4 @@
-use Rattle.std.proofs.Common.{◌≡◌, ◌∙◌, ◌+◌, ◌-◌, ◌/◌, ◌++◌, ◌∷◌, [], length, sym, ap, refl, codes, arith}
+use Rattle.std.proofs.Common.{◌≡◌, ◌∙◌, ◌+◌, ◌-◌, ◌/◌, ◌++◌, ◌∷◌, [], length, sym, ap, codes, arith}
 use Rattle.miniircd.specs.Mail.{posted, readers}
 use Rattle.miniircd.specs.Lines.{told, repeated, listed, listed_before, listing}
 use Rattle.miniircd.proofs.MailLemmas.{posted_none, posted_step}

@@ -1,7 +1,17 @@
-use Rattle.std.proofs.Common.{◌∙◌, None, ap}
+use Rattle.std.proofs.Common.{◌∙◌, None, ap, is_some, sym}
 use Rattle.miniircd.specs.Mail.{are_sound}
+use Rattle.miniircd.specs.Server.{Server, left, effected}
 use Rattle.miniircd.proofs.SoundLemmas.{sound_after}
+use Rattle.miniircd.proofs.WholeLemmas.{effect_whole, left_whole}
 use Rattle.miniircd.proofs.ircd.Ircd.gone.Goals as goal
+
+pub invariant_of-self : goal.invariant_of-self
+invariant_of-self c =
+    let s : Server = record { clients = c.self.inside.clients.slots; channels = c.self.inside.channels } in
+    let k = c.args.client.0 in
+    effect_whole k c.in_ok-reply.reply.effect s (left k s) _ _ c.commit.ensures.clients c.commit.ensures.channels
+    (ap (λ e. effected k e s) (rw c.as_slice.ensures at c.in_ok-reply.ensures.left))
+    (left_whole k s (ap is_some (sym c.in-Some.ensures)) c.self.invariant)
 
 pub returns-clause-sound : goal.returns-clause-sound
 returns-clause-sound c =
