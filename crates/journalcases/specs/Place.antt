@@ -3,9 +3,10 @@ use Rattle.storage.specs.State.{IsSettled}
 use Rattle.disks.specs.Memory.{state_of}
 use Rattle.botjournal.specs.Journal.{IsSound}
 use Rattle.journalcases.specs.declared.place.Place.{Place}
-use Rattle.journalcases.specs.declared.place.Place.TheVariants.{OnDisks, InUse}
+use Rattle.journalcases.specs.declared.place.Place.TheVariants.{OnDisks, InUse, Kept}
 
--- disks may be opened, and a journal may be called
+-- disks may be opened, a journal may be called, and of a ledger nothing is asked
 abbrev pub IsReady : Place → Type 0
 IsReady (OnDisks disks) = IsSettled (state_of disks.first) × IsSettled (state_of disks.second)
 IsReady (InUse journal) = IsSound state_of journal
+IsReady (Kept ledger) = Unit {0}

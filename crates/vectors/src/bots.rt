@@ -36,8 +36,8 @@ fn config_of(alloc: Global, words: &[Text]) -> Result<Config, CaseError> {
 
 /// `bot NUMBER EXCLUSIVE STEP..`: what each step of a bot named `egg` answers, 0 for the hub and 1 for its leaf, with ` ; `
 /// between. EXCLUSIVE is `all` or `exclusive`. A step is one word: `bind KIND FLAGS PROC MASK` answers the bind's number,
-/// `line TEXT` and `clock MOMENT` each call as `BIND PROC KIND 'ARGUMENT'.. CODE`, each fault, and `logged` or `not logged`;
-/// the code of a refusal where one stands against the step.
+/// `connect`, `line TEXT` and `clock MOMENT` each call as `BIND PROC KIND 'ARGUMENT'.. CODE`, each line that is sent as `out
+/// 'LINE'`, each fault, and `logged` or `not logged`; the code of a refusal where one stands against the step.
 pub fn bot(alloc: Global, words: &[Text], out: &mut Sink) -> Result<(), CaseError> {
     let [own, exclusive, steps @ ..] = words else {
         return Err(BAD_WORDS);
@@ -51,7 +51,8 @@ pub fn bot(alloc: Global, words: &[Text], out: &mut Sink) -> Result<(), CaseErro
     Ok(())
 }
 
-fn bot_of(alloc: Global, number: u16, exclusive: &[u8]) -> Result<Bot, CaseError> {
+/// The bot `egg` of this number, for no channel.
+pub fn bot_of(alloc: Global, number: u16, exclusive: &[u8]) -> Result<Bot, CaseError> {
     let config = Config {
         number,
         leaves: 1,
@@ -96,6 +97,7 @@ fn event_of(alloc: Global, step: &[u8]) -> Result<Event, CaseError> {
     match name {
         b"bind" => Ok(Event::Bind(new_bind(alloc, rest)?)),
         b"clock" => Ok(Event::Clock(number(rest)?)),
+        b"connect" => Ok(Event::Connect),
         b"line" => Ok(Event::Line(read_line(alloc, rest)?)),
         _ => Err(BAD_WORDS),
     }
@@ -130,6 +132,11 @@ fn bind_of(
 fn report_shown(report: &Report, out: &mut Sink) {
     for call in report.calls.as_slice() {
         call_shown(call, out);
+    }
+    for line in report.lines.as_slice() {
+        out.put(b"out");
+        out.quoted(line.as_bytes());
+        out.put(b", ");
     }
     for fault in report.faults.as_slice() {
         fault_shown(fault, out);

@@ -3,8 +3,8 @@ use crate::civil::Form;
 use crate::sink::Sink;
 use crate::stop::{CaseError, NO_SUCH_CASE};
 use crate::{
-    binds, bots, casemapping, channels, civil, clock, cron, events, flags, frames, journals, lines,
-    masks, persons, queues, scripts, spellings, timers,
+    binds, bots, casemapping, channels, civil, clock, cron, drives, events, flags, frames,
+    journals, lines, masks, persons, queues, scripts, spellings, timers,
 };
 use bytetext::Text;
 use std::alloc::Global;
@@ -23,6 +23,7 @@ enum Asked {
     Config,
     Cron,
     CronArgs,
+    Drive,
     Events,
     Flags,
     Fold,
@@ -48,7 +49,7 @@ enum Asked {
     UserFlags,
 }
 
-const ASKED: [(&[u8], Asked); 34] = [
+const ASKED: [(&[u8], Asked); 35] = [
     (b"ban", Asked::Ban),
     (b"binds", Asked::Binds),
     (b"bot", Asked::Bot),
@@ -60,6 +61,7 @@ const ASKED: [(&[u8], Asked); 34] = [
     (b"config", Asked::Config),
     (b"cron", Asked::Cron),
     (b"cronargs", Asked::CronArgs),
+    (b"drive", Asked::Drive),
     (b"events", Asked::Events),
     (b"flags", Asked::Flags),
     (b"fold", Asked::Fold),
@@ -114,6 +116,7 @@ fn answer_to(asked: Asked, alloc: Global, words: &[Text], out: &mut Sink) -> Res
         Asked::Config => bots::config(alloc, words, out),
         Asked::Cron => cron::cron(words, out),
         Asked::CronArgs => civil::civil(alloc, Form::CronArgs, words, out),
+        Asked::Drive => drives::drive_case(alloc, words, out),
         Asked::Events => events::events(alloc, words, out),
         Asked::Flags => flags::met(words, out),
         Asked::Fold => casemapping::fold(alloc, words, out),

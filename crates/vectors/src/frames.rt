@@ -260,6 +260,16 @@ fn put_packet(alloc: Global, packet: &Packet, out: &mut Sink) {
             out.put(b" ");
             out.put(text.as_bytes());
         }
+        Packet::Part {
+            version,
+            part,
+            count,
+            records,
+        } => {
+            put_numbers(b"part", u64::from(*version), u64::from(*part), out);
+            put_number(u64::from(*count), out);
+            put_number(records.len() as u64, out);
+        }
     }
 }
 

@@ -21,6 +21,7 @@
 //! | `binds STEP..` | what each step answers |
 //! | `config NICK LEAVES NUMBER OFFSET CHANNEL..` | `ok`, or the code of why no bot can be made so |
 //! | `bot NUMBER EXCLUSIVE STEP..` | what each step answers |
+//! | `drive MOMENT MOST AFTER ROOM STREAM` | how driving a bot with a stream ends, what it wrote, and how many reads it made |
 //! | `spell CHANGE` | the bytes that spell the change, or the code of its shape |
 //! | `change BYTES`, `record BYTES` | how many bytes spell a change or record, and what they spell, or the code |
 //! | `respell change\|record BYTES` | the bytes that spell what was read, or the code |
@@ -67,18 +68,23 @@
 //! SUBJECT of cron is a moment, whose minute is that of UTC; and `list`, which answers `NUMBER KIND FLAGS PROC MASK` of
 //! each bind. The last two answer `none` where there is none.
 //!
-//! The binds of a `script` may call the procs `quiet`, which answers 0, `stop`, which answers 1, and `adduser`, which answers
-//! 0 and asks for a user by the call's last argument. `commands` writes each step as its bot and what that is told, steps
+//! The binds of a `script` may call the procs `quiet`, which answers 0, `stop`, which answers 1, `adduser`, which answers
+//! 0 and asks for a user by the call's last argument, and `echo`, which answers 0 and says what was said again. `commands` writes each step as its bot and what that is told, steps
 //! of one command with `, ` between, or `none` where there is no step.
 //!
 //! `bot` makes the bot `egg` of this number, 0 for the hub and 1 for its only leaf; EXCLUSIVE is `all` or `exclusive`. Its
-//! steps are `bind KIND FLAGS PROC MASK`, which answers the bind's number; and `line TEXT` and `clock MOMENT`, which answer
-//! each call as `BIND PROC KIND 'ARGUMENT'.. CODE`, then each fault, `Unbound PROC` or a code, and `logged` or `not logged`,
-//! with `, ` between. A step that is refused answers the code. The procs are `quiet`, `stop`, which answers 1, and
-//! `adduser`, which asks for a user named by its last argument.
+//! steps are `bind KIND FLAGS PROC MASK`, which answers the bind's number; and `connect`, `line TEXT` and `clock MOMENT`,
+//! which answer each call as `BIND PROC KIND 'ARGUMENT'.. CODE`, then each line that is sent as `out 'LINE'`, then each
+//! fault, `Unbound PROC` or a code, and `logged` or `not logged`, with `, ` between. A step that is refused answers the
+//! code. The procs are those of a `script`.
+//!
+//! `drive` reads STREAM, at most MOST bytes a read, where the clock of the bot `egg` shows MOMENT. AFTER says what follows
+//! the stream: its `end`, `wait`, where a read would block, `fault`, or `again`, the stream once more. The writer takes ROOM
+//! bytes and no more. The answer is `done`, `read` or `write`, what was written, and how many reads were made.
 //!
 //! A PACKET is words: `hello LEAF VERSION`, `change NUMBER ORIGIN REQUEST CHANGE`, `request LEAF REQUEST CHANGE`,
-//! `accepted LEAF REQUEST NUMBER`, `refused LEAF REQUEST CODE` or `text FROM TO TEXT`.
+//! `accepted LEAF REQUEST NUMBER`, `refused LEAF REQUEST CODE` or `text FROM TO TEXT`. `frames` also writes `part VERSION
+//! PART COUNT RECORDS`, RECORDS being how many records it has.
 //!
 //! In `chan` and `events` the bot has connected under NICK and reads the LINEs in order; the answer is the code of the
 //! first that is no message, if one is. Before a member's nick stand `@` for op, `%` for half-op and `+` for voice;
@@ -102,6 +108,7 @@ mod channels;
 mod civil;
 mod clock;
 mod cron;
+mod drives;
 mod events;
 mod flags;
 mod frames;

@@ -1,10 +1,11 @@
-// The procs that a script's binds may call: `quiet`, `stop` and `adduser`.
+// The procs that a script's binds may call: `quiet`, `stop`, `adduser` and `echo`.
 ghost use Rattle.std.specs.Prelude.{◌≡◌};
 ghost use Rattle.procstore.specs.declared.call.Call.{Call};
 ghost use Rattle.vectors.specs.Procs.{code_of};
 
-use bytetext::{NoMemory, Text};
-use procstore::{Action, Actions, Call, Code, Proc, ProcStore, Promise, Reply, Run};
+use bytetext::{NoMemory, Text, TryCopy};
+use outqueue::Queue;
+use procstore::{Action, Actions, Call, Code, Kind, Proc, ProcStore, Promise, PutWish, Reply, Run};
 use std::alloc::Global;
 use userfile::Change;
 
@@ -20,12 +21,23 @@ impl Promise for Ours {
     ghost may = { λ name call actions. Unit {0} };
 }
 
-/// A proc's body: its code, and whether it asks for a user by the call's last argument.
+/// What a body asks for, of the call's last argument.
+#[derive(Clone, Copy)]
+enum Wish {
+    /// Nothing.
+    Nothing,
+    /// A user of that handle.
+    User,
+    /// A line for the server that says it again where it was said.
+    Echo,
+}
+
+/// A proc's body: its code, and what it asks for.
 #[derive(Drop)]
 pub struct Built {
     alloc: Global,
     code: Code,
-    adds: bool,
+    wish: Wish,
 }
 
 impl Run for Built {
@@ -46,22 +58,56 @@ impl Run for Built {
 impl Built {
     // What the body asks for.
     fn actions(&self, call: &Call) -> Result<Actions, NoMemory> {
-        match call.args.as_slice().last() {
-            Some(last) if self.adds => {
-                let handle = Text::from_slice(self.alloc, last.as_bytes())?;
-                Actions::one(self.alloc, Action::Ask(Change::AddUser { handle }))
-            }
-            Some(_) | None => Ok(Actions::empty(self.alloc)),
+        let Some(last) = call.args.as_slice().last() else {
+            return Ok(Actions::empty(self.alloc));
+        };
+        match self.wish {
+            Wish::Nothing => Ok(Actions::empty(self.alloc)),
+            Wish::User => asked(self.alloc, last),
+            Wish::Echo => echoed(self.alloc, call, last),
         }
+    }
+}
+
+// A user is asked for.
+fn asked(alloc: Global, handle: &Text) -> Result<Actions, NoMemory> {
+    let handle = handle.copy(alloc)?;
+    Actions::one(alloc, Action::Ask(Change::AddUser { handle }))
+}
+
+// What was said is said again where it was said.
+fn echoed(alloc: Global, call: &Call, text: &Text) -> Result<Actions, NoMemory> {
+    let Some(target) = target_of(call) else {
+        return Ok(Actions::empty(alloc));
+    };
+    let mut line = Vec::new(alloc);
+    line.extend_from_slice(b"PRIVMSG ")?;
+    line.extend_from_slice(target.as_bytes())?;
+    line.extend_from_slice(b" :")?;
+    line.extend_from_slice(text.as_bytes())?;
+    let wish = PutWish {
+        queue: Queue::Help,
+        line: Text::new(line),
+    };
+    Actions::one(alloc, Action::Put(wish))
+}
+
+// The channel on which something was said, or the nick that said it privately.
+fn target_of(call: &Call) -> Option<&Text> {
+    match call.kind {
+        Kind::Pub | Kind::Pubm => call.args.as_slice().get(3),
+        Kind::Msg | Kind::Msgm => call.args.as_slice().get(0),
+        _ => None,
     }
 }
 
 /// A store of the procs.
 pub fn store_of(alloc: Global) -> Result<ProcStore<Ours, Built>, NoMemory> {
     let mut store = ProcStore::new(alloc);
-    add(alloc, &mut store, b"quiet", Code::Zero, false)?;
-    add(alloc, &mut store, b"stop", Code::One, false)?;
-    add(alloc, &mut store, b"adduser", Code::Zero, true)?;
+    add(alloc, &mut store, b"quiet", Code::Zero, Wish::Nothing)?;
+    add(alloc, &mut store, b"stop", Code::One, Wish::Nothing)?;
+    add(alloc, &mut store, b"adduser", Code::Zero, Wish::User)?;
+    add(alloc, &mut store, b"echo", Code::Zero, Wish::Echo)?;
     Ok(store)
 }
 
@@ -71,11 +117,11 @@ fn add(
     store: &mut ProcStore<Ours, Built>,
     name: &[u8],
     code: Code,
-    adds: bool,
+    wish: Wish,
 ) -> Result<(), NoMemory>
     requires { (call : Call) → code ≡ code_of name.now call }
 {
-    let body = Built { alloc, code, adds };
+    let body = Built { alloc, code, wish };
     let name = Text::from_slice(alloc, name)?;
     match store.add(alloc, Proc::new(name, body)) {
         Ok(()) => Ok(()),
