@@ -22,10 +22,10 @@ HearsPiece-none stalls code_of may names old held buffer before left (Some n) is
 
 pub HearsSome-read : (stalls : Bool) (code_of : List ℕ → Call → Code) (may : List ℕ → Call → List Action → Type 0) (names : List (List ℕ))
     (old : Course) (held buffer : List ℕ) (before left : Option (List ℕ)) (end : DriveEnd)
-    → GivesPiece stalls before left buffer (Err end) → HearsSome end code_of may names old held before old held left
+    → GivesPiece stalls before left buffer (Err end) → HearsSome end stalls code_of may names old held before old held left
 HearsSome-read stalls code_of may names old held buffer before left end given =
-    subst (λ x. HearsSome x code_of may names old held before old held left) (sym given.0)
-    ([], given.1, Hears-none code_of may names old held)
+    subst (λ x. HearsSome x stalls code_of may names old held before old held left) (sym given.0)
+    (given.1, ([], given.2, Hears-none code_of may names old held))
 
 -- ---- piece after piece
 
@@ -98,13 +98,16 @@ HearsAll-full stalls count code_of may names old new held after before left enou
 pub HearsSome-then : (stalls : Bool) (count : ℕ) (code_of : List ℕ → Call → Code) (may : List ℕ → Call → List Action → Type 0) (names : List (List ℕ))
     (old mid new : Course) (held between after : List ℕ) (before middle left : Option (List ℕ)) (end : DriveEnd)
     → HasHeard stalls count code_of may names old held before mid between middle
-    → HearsSome end code_of may names mid between middle new after left
-    → HearsSome end code_of may names old held before new after left
+    → HearsSome end stalls code_of may names mid between middle new after left
+    → HearsSome end stalls code_of may names old held before new after left
 HearsSome-then stalls count code_of may names old mid new held between after before middle left Done p q = absurd q
-HearsSome-then stalls count code_of may names old mid new held between after before middle left Read p (more, read, hears) = (
-  p.bytes ++ more,
-  Consumes-trans before middle left p.bytes more p.read read,
-  Hears-then code_of may names old mid new held between after p.bytes more p.hears hears,
+HearsSome-then stalls count code_of may names old mid new held between after before middle left Read p (fails, (more, read, hears)) = (
+  fails,
+  (
+    p.bytes ++ more,
+    Consumes-trans before middle left p.bytes more p.read read,
+    Hears-then code_of may names old mid new held between after p.bytes more p.hears hears,
+  ),
 )
 HearsSome-then stalls count code_of may names old mid new held between after before middle left Write p q = absurd q
 HearsSome-then stalls count code_of may names old mid new held between after before middle left NoMemory p (more, read, hears) = (
@@ -128,14 +131,14 @@ TakesAll-of stalls code_of may names now old mid new held after before left p q 
   makes = Makes-then code_of may names old mid new (line_events p.hears.lines) (Clock now ∷ []) p.hears.makes q;
 }
 
-pub TakesSome-of : (code_of : List ℕ → Call → Code) (may : List ℕ → Call → List Action → Type 0) (names : List (List ℕ)) (now : ℕ)
+pub TakesSome-of : (stalls : Bool) (code_of : List ℕ → Call → Code) (may : List ℕ → Call → List Action → Type 0) (names : List (List ℕ)) (now : ℕ)
     (old new : Course) (held after : List ℕ) (before left : Option (List ℕ)) (end : DriveEnd)
-    → HearsSome end code_of may names old held before new after left
-    → TakesSome end code_of may names now old held before new after left
-TakesSome-of code_of may names now old new held after before left Done p = absurd p
-TakesSome-of code_of may names now old new held after before left Read p = p
-TakesSome-of code_of may names now old new held after before left Write p = absurd p
-TakesSome-of code_of may names now old new held after before left NoMemory (bytes, read, hears) = record {
+    → HearsSome end stalls code_of may names old held before new after left
+    → TakesSome end stalls code_of may names now old held before new after left
+TakesSome-of stalls code_of may names now old new held after before left Done p = absurd p
+TakesSome-of stalls code_of may names now old new held after before left Read p = p
+TakesSome-of stalls code_of may names now old new held after before left Write p = absurd p
+TakesSome-of stalls code_of may names now old new held after before left NoMemory (bytes, read, hears) = record {
   bytes = hears.front;
   lost = hears.lost;
   lines = hears.lines;

@@ -1,5 +1,5 @@
 -- What a reader gives, and what a writer takes.
-use Rattle.std.proofs.Common.{◌≡◌, ◌⊎◌, ◌∙◌, ◌++◌, ℕ, ◌+◌, ◌<◌, ◌≤◌, List, [], ◌∷◌, length, take, drop, get_or, take-append-drop, Option, Some, None, Result, Ok, Err, IsErr, IfOk, IfErr, IfSome, IfNone, true, sym, ap, subst, append_assoc, append-nil, ◌-◌, length-drop, arith, inl, inr}
+use Rattle.std.proofs.Common.{◌≡◌, ◌⊎◌, ◌∙◌, ◌++◌, ℕ, ◌+◌, ◌<◌, ◌≤◌, List, [], ◌∷◌, length, take, drop, get_or, take-append-drop, Option, Some, None, Result, Ok, Err, IsErr, IfOk, IfErr, IfSome, IfNone, true, refl, sym, ap, subst, append_assoc, append-nil, ◌-◌, length-drop, arith, inl, inr}
 use Rattle.std.proofs.Math.Seq.{take_all}
 use Rattle.std.proofs.lemmas.List.{take_more}
 use Rattle.std.proofs.lemmas.Grind.{flat_map-append}
@@ -41,7 +41,7 @@ piece-given old new buffer (Ok k) (Ok None) bound reads some (inl is) err =
 piece-given old new buffer (Ok k) (Ok None) bound reads some (inr bad) err = cc
 piece-given old new buffer (Err e) (Ok None) bound reads some none err = (Consumes-none old new reads, tt)
 piece-given old new buffer (Ok k) (Err end) bound reads some none err = cc
-piece-given old new buffer (Err e) (Err end) bound reads some none err = (err.0, Consumes-none old new reads)
+piece-given old new buffer (Err e) (Err end) bound reads some none err = (err.0, refl, Consumes-none old new reads)
 
 -- ---- writing
 

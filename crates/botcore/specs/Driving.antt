@@ -90,7 +90,7 @@ pub record HearsFirst (code_of : List ℕ → Call → Code) (may : List ℕ →
 
 -- ---- what is read
 
--- so many bytes were read at least, unless the reader may stall
+-- so many bytes were read at least, unless the reader may stall or fail
 abbrev pub HasRead : Bool → ℕ → List ℕ → Type 0
 HasRead true count bytes = Unit {0}
 HasRead false count bytes = count ≤ length bytes
@@ -110,7 +110,7 @@ abbrev pub GivesPiece : Bool → Option (List ℕ) → Option (List ℕ) → Lis
 GivesPiece stalls old new buffer (Ok (Some n)) =
     (n ≤ length buffer) × Consumes old new (take n buffer) × HasRead stalls 1 (take n buffer)
 GivesPiece stalls old new buffer (Ok None) = Consumes old new [] × HasNoMore stalls new
-GivesPiece stalls old new buffer (Err e) = (e ≡ Read) × Consumes old new []
+GivesPiece stalls old new buffer (Err e) = (e ≡ Read) × (stalls ≡ true) × Consumes old new []
 
 -- A piece is read and taken in, and then there may be more; or there is none now.
 pub record HearsPiece (stalls : Bool) (code_of : List ℕ → Call → Code) (may : List ℕ → Call → List Action → Type 0)
@@ -132,13 +132,13 @@ pub record HearsAll (stalls : Bool) (code_of : List ℕ → Call → Code) (may 
   pub enough : HasEnough stalls left bytes
 
 -- some of it, until reading fails or memory runs out
-abbrev pub HearsSome : DriveEnd → (List ℕ → Call → Code) → (List ℕ → Call → List Action → Type 0) → List (List ℕ)
+abbrev pub HearsSome : DriveEnd → Bool → (List ℕ → Call → Code) → (List ℕ → Call → List Action → Type 0) → List (List ℕ)
     → Course → List ℕ → Option (List ℕ) → Course → List ℕ → Option (List ℕ) → Type 0
-HearsSome Done code_of may names old held before new after left = ⊥
-HearsSome Read code_of may names old held before new after left =
-    (bytes : List ℕ) × Consumes before left bytes × Hears code_of may names old held bytes new after
-HearsSome Write code_of may names old held before new after left = ⊥
-HearsSome NoMemory code_of may names old held before new after left =
+HearsSome Done stalls code_of may names old held before new after left = ⊥
+HearsSome Read stalls code_of may names old held before new after left =
+    (stalls ≡ true) × ((bytes : List ℕ) × Consumes before left bytes × Hears code_of may names old held bytes new after)
+HearsSome Write stalls code_of may names old held before new after left = ⊥
+HearsSome NoMemory stalls code_of may names old held before new after left =
     (bytes : List ℕ) × Consumes before left bytes × HearsFirst code_of may names old held bytes new
 
 -- ---- all steps of a drive
@@ -171,13 +171,13 @@ pub record TakesFirst (code_of : List ℕ → Call → Code) (may : List ℕ →
   pub makes : MakesFirst code_of may names old (all_events lines now) new
 
 -- some of them, until reading fails or memory runs out
-abbrev pub TakesSome : DriveEnd → (List ℕ → Call → Code) → (List ℕ → Call → List Action → Type 0) → List (List ℕ) → ℕ
+abbrev pub TakesSome : DriveEnd → Bool → (List ℕ → Call → Code) → (List ℕ → Call → List Action → Type 0) → List (List ℕ) → ℕ
     → Course → List ℕ → Option (List ℕ) → Course → List ℕ → Option (List ℕ) → Type 0
-TakesSome Done code_of may names now old held before new after left = ⊥
-TakesSome Read code_of may names now old held before new after left =
-    (bytes : List ℕ) × Consumes before left bytes × Hears code_of may names old held bytes new after
-TakesSome Write code_of may names now old held before new after left = ⊥
-TakesSome NoMemory code_of may names now old held before new after left =
+TakesSome Done stalls code_of may names now old held before new after left = ⊥
+TakesSome Read stalls code_of may names now old held before new after left =
+    (stalls ≡ true) × ((bytes : List ℕ) × Consumes before left bytes × Hears code_of may names old held bytes new after)
+TakesSome Write stalls code_of may names now old held before new after left = ⊥
+TakesSome NoMemory stalls code_of may names now old held before new after left =
     TakesFirst code_of may names now old held before new left
 
 -- ---- a whole drive
@@ -239,7 +239,8 @@ abbrev pub DrivesTo : DriveEnd → Bool → (List ℕ → Call → Code) → (Li
     → ℕ → Connection → List Outgoing → Connection → Type 0
 DrivesTo Done stalls code_of may names now old packets new =
     DrivesAll stalls Appends code_of may names now old packets new
-DrivesTo Read stalls code_of may names now old packets new = DrivesLines code_of may names old packets new
+DrivesTo Read stalls code_of may names now old packets new =
+    (stalls ≡ true) × DrivesLines code_of may names old packets new
 DrivesTo Write stalls code_of may names now old packets new =
     DrivesAll stalls AppendsFront code_of may names now old packets new
 DrivesTo NoMemory stalls code_of may names now old packets new = DrivesFirst code_of may names now old packets new

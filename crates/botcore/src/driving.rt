@@ -72,7 +72,7 @@ pub fn drive<P: Promise, B: Run, R: Read, W: Write>(
 }
 
 /// Drives a bot over bytes that are all there, of which the first are taken: it ends `Done` only where none is left, or
-/// 1,000 or more were taken. Otherwise as [`drive`].
+/// 1,000 or more were taken, and never `Read`. Otherwise as [`drive`].
 pub fn drive_bytes<P: Promise, B: Run, W: Write>(
     alloc: Global,
     bot: &mut Bot,
@@ -156,7 +156,7 @@ fn take_in<P: Promise, B: Run, I: Input>(
     ensures ok { OnOk result (TakesAll I.stalls P.code_of P.may store.now now
         (course_of bot.old outbox.old) lines.old (I.left input.old)
         (course_of bot.new outbox.new) lines.new (I.left input.new)) }
-    ensures err { IfErr result (λ end. TakesSome end P.code_of P.may store.now now
+    ensures err { IfErr result (λ end. TakesSome end I.stalls P.code_of P.may store.now now
         (course_of bot.old outbox.old) lines.old (I.left input.old)
         (course_of bot.new outbox.new) lines.new (I.left input.new)) }
 {

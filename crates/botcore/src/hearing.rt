@@ -30,7 +30,7 @@ pub(crate) fn hear_all<P: Promise, B: Run, I: Input>(
     ensures ok { OnOk result (HearsAll I.stalls P.code_of P.may store.now
         (course_of bot.old outbox.old) lines.old (I.left input.old)
         (course_of bot.new outbox.new) lines.new (I.left input.new)) }
-    ensures err { IfErr result (λ end. HearsSome end P.code_of P.may store.now
+    ensures err { IfErr result (λ end. HearsSome end I.stalls P.code_of P.may store.now
         (course_of bot.old outbox.old) lines.old (I.left input.old)
         (course_of bot.new outbox.new) lines.new (I.left input.new)) }
 {
@@ -56,7 +56,7 @@ fn hear_piece<P: Promise, B: Run, I: Input>(
     ensures ok { IfOk result (λ more. HearsPiece I.stalls P.code_of P.may store.now
         (course_of bot.old outbox.old) lines.old (I.left input.old) more
         (course_of bot.new outbox.new) lines.new (I.left input.new)) }
-    ensures err { IfErr result (λ end. HearsSome end P.code_of P.may store.now
+    ensures err { IfErr result (λ end. HearsSome end I.stalls P.code_of P.may store.now
         (course_of bot.old outbox.old) lines.old (I.left input.old)
         (course_of bot.new outbox.new) lines.new (I.left input.new)) }
 {

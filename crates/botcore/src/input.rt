@@ -11,7 +11,7 @@ use std::io::{ErrorKind, Read};
 pub(crate) trait Input {
     // The bytes that it has left, where they are known.
     ghost left: { Self → Option (List ℕ) };
-    // Whether it may stall: give none though some are left.
+    // Whether it may stall, which is to give none though some are left, or fail.
     ghost stalls: { Bool };
 
     // The next piece, which stands in the buffer's front: how long it is, or `None` where there is none now.
@@ -20,7 +20,7 @@ pub(crate) trait Input {
         ensures { GivesPiece stalls (left self.old) (left self.new) buffer.new result };
 }
 
-// Any reader: it may be interrupted, and it may block.
+// Any reader: it may be interrupted, block or fail.
 impl<R: Read> Input for R {
     ghost left = { R.remaining };
 

@@ -11,6 +11,6 @@ returns-in-Ok-step_clock-clause-ok g c =
 
 pub returns-in-Err-clause-err : goal.returns-in-Err-clause-err
 returns-in-Err-clause-err g c =
-    TakesSome-of g.P.Promise.code_of g.P.Promise.may c.args.store.now c.args.now (course_of c.args.bot.now c.args.outbox.now)
+    TakesSome-of g.I.Input.stalls g.P.Promise.code_of g.P.Promise.may c.args.store.now c.args.now (course_of c.args.bot.now c.args.outbox.now)
     (course_of c.hear_all.new.bot c.hear_all.new.outbox) c.args.lines.now c.hear_all.new.lines
     (g.I.Input.left c.args.input.now) (g.I.Input.left c.hear_all.new.input) c.in-Err.end c.in-Err.ensures.err
