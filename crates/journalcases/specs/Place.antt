@@ -3,10 +3,9 @@ use Rattle.storage.specs.State.{IsSettled}
 use Rattle.disks.specs.Memory.{state_of}
 use Rattle.botjournal.specs.Journal.{IsSound}
 use Rattle.journalcases.specs.declared.place.Place.{Place}
-use Rattle.journalcases.specs.declared.place.Place.TheVariants.{OnDisks, InUse, Kept}
+use Rattle.journalcases.specs.declared.place.Place.TheVariants.{OnDisks, InUse}
 
--- disks may be opened, a journal may be called, and of a ledger nothing is asked
+-- disks may be opened, and a journal may be called
 abbrev pub IsReady : Place → Type 0
 IsReady (OnDisks disks) = IsSettled (state_of disks.first) × IsSettled (state_of disks.second)
 IsReady (InUse journal) = IsSound state_of journal
-IsReady (Kept ledger) = Unit {0}

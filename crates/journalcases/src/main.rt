@@ -13,11 +13,9 @@
 //! | `restart` | opens the journal on what a crash leaves of its disks: as `open` |
 //! | `append ENTRY`, `rebase BASE` | `ok` or the code |
 //! | `spent` | whether the generations are: `spent` or `left` |
-//! | `keep` | opens the journal on the disks for a ledger: as `open` |
 //! | `bytes` | what the first and the second disk hold |
 //!
-//! After `keep`, `append`, `rebase`, `restart` and `spent` are the ledger's, and `down` is the answer of the first two where it
-//! is down. A step that takes disks crashes them where a journal has them. Calls are counted from 1, from the step on. TEAR says
+//! A step that takes disks crashes them where a journal has them. Calls are counted from 1, from the step on. TEAR says
 //! what the crash leaves in the ranges that weren't kept: `old` or `new` bytes, or this number in each byte. `a gate is
 //! missing` follows an answer of `open` or `restart` after which nothing can be written. A line that begins with `#` is
 //! printed as it is; an empty one says nothing.
@@ -31,7 +29,6 @@
 #![tactic(auto)]
 
 mod devices;
-mod kept;
 mod place;
 mod play;
 mod steps;

@@ -6,7 +6,7 @@ ghost use Rattle.botjournal.specs.Journal.{IsSound};
 ghost use Rattle.journalcases.specs.Place.{IsReady};
 
 use crate::stop::{CaseError, CaseFault};
-use botjournal::{Journal, Ledger};
+use botjournal::Journal;
 use bytejournal::Disks;
 use bytetext::Failure;
 use disks::MemDisk;
@@ -19,8 +19,6 @@ pub enum Place {
     OnDisks(Disks<MemDisk>),
     /// In use.
     InUse(Journal<MemDisk>),
-    /// Kept through faults by a ledger.
-    Kept(Ledger<MemDisk>),
 }
 
 /// The disks, as they are or, where a journal has them, as a crash leaves them.
@@ -32,7 +30,6 @@ pub fn disks_of(place: Place) -> Disks<MemDisk>
     match place {
         Place::OnDisks(disks) => disks,
         Place::InUse(journal) => crashed(journal.into_disks()),
-        Place::Kept(ledger) => crashed(ledger.into_disks()),
     }
 }
 
@@ -54,6 +51,6 @@ pub fn journal_of(place: Place) -> Result<Journal<MemDisk>, CaseError>
 {
     match place {
         Place::InUse(journal) => Ok(journal),
-        Place::OnDisks(_) | Place::Kept(_) => Err(Failure::Refused(CaseFault::NoJournal)),
+        Place::OnDisks(_) => Err(Failure::Refused(CaseFault::NoJournal)),
     }
 }

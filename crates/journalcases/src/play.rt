@@ -3,12 +3,10 @@ ghost use Rattle.std.specs.Prelude.{IfOk};
 ghost use Rattle.journalcases.specs.Place.{IsReady};
 
 use crate::devices::{bytes, fail, misread, new_disks};
-use crate::kept;
-use crate::place::{Place, crashed, disks_of, journal_of};
+use crate::place::{Place, disks_of, journal_of};
 use crate::steps::{append, create, open, rebase, restart, spent};
 use crate::stop::{CaseError, CaseFault, Stop};
 use crate::words::cut;
-use botjournal::Ledger;
 use bytejournal::Disks;
 use bytetext::Failure;
 use disks::MemDisk;
@@ -65,7 +63,6 @@ enum Step {
     Create,
     Disks,
     Fail,
-    Keep,
     Misread,
     Open,
     Rebase,
@@ -73,13 +70,12 @@ enum Step {
     Spent,
 }
 
-const STEPS: [(&[u8], Step); 11] = [
+const STEPS: [(&[u8], Step); 10] = [
     (b"append", Step::Append),
     (b"bytes", Step::Bytes),
     (b"create", Step::Create),
     (b"disks", Step::Disks),
     (b"fail", Step::Fail),
-    (b"keep", Step::Keep),
     (b"misread", Step::Misread),
     (b"open", Step::Open),
     (b"rebase", Step::Rebase),
@@ -95,52 +91,12 @@ fn play(alloc: Global, place: Place, line: &[u8], out: &mut Vec<u8>) -> Result<P
     let Some((_, step)) = STEPS.iter().find(|(name, _)| *name == word) else {
         return Err(Failure::Refused(CaseFault::NoSuchStep));
     };
-    match place {
-        Place::Kept(ledger) => play_kept(alloc, ledger, *step, rest, out),
-        place => play_at(alloc, place, *step, rest, out),
-    }
-}
-
-// A step where a ledger keeps the journal.
-fn play_kept(
-    alloc: Global,
-    ledger: Ledger<MemDisk>,
-    step: Step,
-    rest: &[u8],
-    out: &mut Vec<u8>,
-) -> Result<Place, CaseError>
-    ensures { IfOk result IsReady }
-{
-    match step {
-        Step::Append => kept::append(alloc, ledger, rest, out),
-        Step::Rebase => kept::rebase(alloc, ledger, rest, out),
-        Step::Restart => kept::restart(alloc, ledger, out),
-        Step::Spent => kept::spent(ledger, out),
-        step => {
-            let disks = crashed(ledger.into_disks());
-            play_at(alloc, Place::OnDisks(disks), step, rest, out)
-        }
-    }
-}
-
-// A step where none does.
-fn play_at(
-    alloc: Global,
-    place: Place,
-    step: Step,
-    rest: &[u8],
-    out: &mut Vec<u8>,
-) -> Result<Place, CaseError>
-    requires { IsReady place }
-    ensures { IfOk result IsReady }
-{
-    match step {
+    match *step {
         Step::Append => append(alloc, journal_of(place)?, rest, out),
         Step::Bytes => bytes(alloc, disks_of(place), out),
         Step::Create => create(alloc, disks_of(place), rest, out),
         Step::Disks => new_disks(alloc, rest),
         Step::Fail => fail(disks_of(place), rest),
-        Step::Keep => kept::keep(alloc, disks_of(place), out),
         Step::Misread => misread(disks_of(place), rest),
         Step::Open => open(alloc, disks_of(place), out),
         Step::Rebase => rebase(alloc, journal_of(place)?, rest, out),

@@ -127,8 +127,8 @@ fn tell(answer: Result<(), JournalError>, out: &mut Vec<u8>) -> Result<(), CaseE
     Ok(())
 }
 
-/// Tells why there is no journal, and crashes the disks: after a fault something may be pending.
-pub fn handed_back(returned: Returned<MemDisk>, out: &mut Vec<u8>) -> Result<Place, CaseError>
+// Tells why there is no journal, and crashes the disks: after a fault something may be pending.
+fn handed_back(returned: Returned<MemDisk>, out: &mut Vec<u8>) -> Result<Place, CaseError>
     ensures { IfOk result IsReady }
 {
     tell(Err(returned.error), out)?;
@@ -151,16 +151,14 @@ fn found(alloc: Global, opened: Opened<MemDisk>, out: &mut Vec<u8>) -> Result<Pl
     Ok(Place::OnDisks(crashed(opened.journal.into_disks())))
 }
 
-/// Adds the bytes of a base.
-pub fn put_base(alloc: Global, base: &Base, out: &mut Vec<u8>) -> Result<(), NoMemory>
+fn put_base(alloc: Global, base: &Base, out: &mut Vec<u8>) -> Result<(), NoMemory>
     requires { IsGoodBase base.now }
 {
     let bytes = write_base(alloc, base)?;
     put_hex(alloc, &bytes, out)
 }
 
-/// Adds the bytes of each entry, after a space.
-pub fn put_entries(alloc: Global, entries: &[Entry], out: &mut Vec<u8>) -> Result<(), NoMemory>
+fn put_entries(alloc: Global, entries: &[Entry], out: &mut Vec<u8>) -> Result<(), NoMemory>
     requires { AllByRecursion IsGoodEntry entries.now }
 {
     for entry in entries {
