@@ -13,7 +13,7 @@ use Rattle.botcore.specs.declared.fault.ActionFault.{ActionFault}
 use Rattle.botcore.specs.declared.fault.Fault.{Fault}
 use Rattle.botcore.specs.declared.link.Link.{Link}
 use Rattle.botcore.specs.declared.link.Link.TheVariants.{Hub as hub_end, Leaf as leaf_end}
-use Rattle.botcore.specs.declared.made_call.MadeCall.{MadeCall}
+use Rattle.botcalls.specs.declared.made_call.MadeCall.{MadeCall}
 use Rattle.botcore.specs.Acting.{Acting, acted, acted_all, with_fault, action_faults, actions_of}
 use Rattle.botcore.specs.Links.{link_asked, link_with_asks, link_with_oldest, ask_count}
 use Rattle.botcore.specs.Progress.{Progress, Leaves, LeavesAll, HasMoreAsks, acting_at}

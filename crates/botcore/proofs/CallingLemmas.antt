@@ -5,21 +5,21 @@ use Rattle.std.proofs.lemmas.List.Elements.{filter_map-append}
 use Rattle.procstore.specs.declared.action.Action.{Action}
 use Rattle.procstore.specs.declared.call.Call.{Call}
 use Rattle.procstore.specs.declared.reply.Code.{Code}
-use Rattle.botcore.specs.declared.made_call.MadeCall.{MadeCall}
-use Rattle.botcore.specs.declared.made_call.Unbound.{Unbound}
+use Rattle.botcalls.specs.declared.made_call.MadeCall.{MadeCall}
+use Rattle.botcalls.specs.declared.made_call.Unbound.{Unbound}
 use Rattle.botcore.specs.declared.fault.Fault.{Fault}
 use Rattle.botcore.specs.declared.report.Note.{Note}
 use Rattle.botcore.specs.declared.report.Report.{Report}
 use Rattle.sharelink.specs.declared.answer.Outgoing.{Outgoing}
 use Rattle.bottimers.specs.Seconds.{seconds_run}
-use Rattle.botcore.specs.declared.occasion.Occasion.{Occasion}
+use Rattle.botcalls.specs.declared.occasion.Occasion.{Occasion}
 use Rattle.botcore.specs.Bots.{Bot, bot_setting}
 use Rattle.botcore.specs.Acting.{faults_of}
-use Rattle.botcore.specs.Calls.{Telling, called_in, calls_in}
-use Rattle.botcore.specs.Dispatching.{is_logged, told_of}
+use Rattle.botcalls.specs.Calls.{Telling, called_in, calls_in}
+use Rattle.botcalls.specs.Dispatching.{is_logged, told_of}
 use Rattle.botcore.specs.Happenings.{seconds_of}
 use Rattle.botcore.specs.Lines.{acting_of, acting_after, Finish, finish_reading}
-use Rattle.botcore.specs.Made.{Made, IsMade, IsFrontMade, AllKept, entry_of}
+use Rattle.botcalls.specs.Made.{Made, IsMade, IsFrontMade, AllKept, entry_of}
 use Rattle.botcore.specs.Reports.{cut_short, told as told_as}
 use Rattle.botcore.specs.Steps.{IsCutShort, TakesCalls, TakesSeconds, run_to}
 use Rattle.botcore.specs.Shown.{AreOccasions, AreTaken}

@@ -3,13 +3,7 @@ pub mod BackLemmas
 pub mod AutomaticLemmas
 pub mod Calendar
 pub mod CallingLemmas
-pub mod DriveLemmas
-pub mod DrivingLemmas
-pub mod HeardLemmas
 pub mod JoiningLemmas
-pub mod MakingLemmas
-pub mod NextLemmas
-pub mod OutputLemmas
 pub mod PacketLemmas
 pub mod PutLemmas
 pub mod ReachLemmas

@@ -21,8 +21,8 @@ use Rattle.botcore.specs.declared.link.Link.{Link}
 use Rattle.botcore.specs.declared.link.Link.TheVariants.{Hub as hub_end, Leaf as leaf_end}
 use Rattle.botcore.specs.declared.report.Report.{Report}
 use Rattle.botcore.specs.Bots.{Bot, bot_setting}
-use Rattle.botcore.specs.Calls.{calls_in}
-use Rattle.botcore.specs.Dispatching.{told_of}
+use Rattle.botcalls.specs.Calls.{calls_in}
+use Rattle.botcalls.specs.Dispatching.{told_of}
 use Rattle.botcore.specs.Happenings.{Saying, saying_in, saying_of}
 use Rattle.botcore.specs.Links.{link_received}
 use Rattle.botcore.specs.Reports.{answer_report, link_report, out_of_memory}

@@ -8,8 +8,8 @@ use Rattle.std.specs.List.{range_with_len}
 use Rattle.bytetext.specs.declared.moment.TheConstants.{MOMENTS_END}
 use Rattle.bottimers.specs.Held.{Held, IsAbove, passed}
 use Rattle.bottimers.specs.Seconds.{seconds_run, last_after}
-use Rattle.botcore.specs.declared.occasion.Occasion.{Occasion}
-use Rattle.botcore.specs.declared.occasion.Occasion.TheVariants.{Due as due_occasion}
+use Rattle.botcalls.specs.declared.occasion.Occasion.{Occasion}
+use Rattle.botcalls.specs.declared.occasion.Occasion.TheVariants.{Due as due_occasion}
 use Rattle.botcore.specs.Happenings.{Happening, second_of, seconds_of, passed_all}
 use Rattle.botcore.specs.Happenings.Happening.{Due}
 use Rattle.botcore.specs.Rising.{IsReached, Rise}

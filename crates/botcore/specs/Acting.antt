@@ -23,8 +23,8 @@ use Rattle.botcore.specs.declared.fault.ActionFault.TheVariants.{Link as link_fa
 use Rattle.botcore.specs.declared.fault.Fault.{Fault}
 use Rattle.botcore.specs.declared.fault.Fault.TheVariants.{Unbound as unbound_fault, Action as action_fault}
 use Rattle.botcore.specs.declared.link.Link.{Link}
-use Rattle.botcore.specs.declared.made_call.MadeCall.{MadeCall}
-use Rattle.botcore.specs.declared.made_call.Unbound.{Unbound}
+use Rattle.botcalls.specs.declared.made_call.MadeCall.{MadeCall}
+use Rattle.botcalls.specs.declared.made_call.Unbound.{Unbound}
 use Rattle.botcore.specs.Links.{link_asked, link_text}
 
 -- what actions change: the link, the timers, the texts that are sent, and the queues of lines for the server; new timers are

@@ -13,8 +13,8 @@ use Rattle.botcore.specs.declared.config.Config.{Config}
 use Rattle.botcore.specs.declared.fault.BotFault.{BotFault}
 use Rattle.botcore.specs.declared.link.Link.{Link}
 use Rattle.botcore.specs.Configs.{IsGood}
-use Rattle.botcore.specs.Dispatching.{Setting}
-use Rattle.botcore.specs.Dispatched.{setting_of}
+use Rattle.botcalls.specs.Dispatching.{Setting}
+use Rattle.botcalls.specs.Dispatched.{setting_of}
 use Rattle.botcore.specs.Links.{new_link, link_records}
 
 -- who it is, its end of the link, its binds, oldest first, the channels that it is on, the last second of its clock, its

@@ -6,13 +6,13 @@ use Rattle.chanstate.specs.Steps.{after}
 use Rattle.outqueue.specs.Sending.{sent, after as after_sending}
 use Rattle.procstore.specs.declared.action.PutWish.{PutWish}
 use Rattle.botcore.specs.declared.fault.Fault.{Fault}
-use Rattle.botcore.specs.declared.made_call.MadeCall.{MadeCall}
+use Rattle.botcalls.specs.declared.made_call.MadeCall.{MadeCall}
 use Rattle.botcore.specs.Acting.{Acting, actions_of, acted_all}
 use Rattle.botcore.specs.Automatic.{automatic_lines, is_welcome}
 use Rattle.botcore.specs.Bots.{Bot}
-use Rattle.botcore.specs.Dispatching.{has_raw_one}
+use Rattle.botcalls.specs.Dispatching.{has_raw_one}
 use Rattle.botcore.specs.Links.{link_records}
-use Rattle.botcore.specs.Made.{entry_of}
+use Rattle.botcalls.specs.Made.{entry_of}
 use Rattle.botcore.specs.Putting.{put_all, put_faults}
 
 -- before the first action

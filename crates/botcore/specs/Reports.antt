@@ -9,14 +9,14 @@ use Rattle.sharelink.specs.declared.error.LinkFault.{LinkFault}
 use Rattle.botcore.specs.declared.fault.Fault.{Fault}
 use Rattle.botcore.specs.declared.fault.Refusal.{Refusal}
 use Rattle.botcore.specs.declared.fault.Refusal.TheVariants.{Link as link_refusal, Bind as bind_refusal}
-use Rattle.botcore.specs.declared.made_call.MadeCall.{MadeCall}
+use Rattle.botcalls.specs.declared.made_call.MadeCall.{MadeCall}
 use Rattle.botcore.specs.declared.report.End.{End}
 use Rattle.botcore.specs.declared.report.End.TheVariants.{Done, Refused, NoMemory}
 use Rattle.botcore.specs.declared.report.Note.{Note}
 use Rattle.botcore.specs.declared.report.Note.TheVariants.{Link as link_note, Bound, Unbound}
 use Rattle.botcore.specs.declared.report.Report.{Report}
-use Rattle.botcore.specs.Dispatching.{is_logged}
-use Rattle.botcore.specs.Made.{entry_of}
+use Rattle.botcalls.specs.Dispatching.{is_logged}
+use Rattle.botcalls.specs.Made.{entry_of}
 
 -- an end and a note, no call, nothing to send, and no fault
 abbrev pub plain : End → Option Note → Report

@@ -25,15 +25,15 @@ use Rattle.botcore.specs.declared.fault.Refusal.TheVariants.{Bind as bind_refusa
 use Rattle.botcore.specs.declared.link.Link.{Link}
 use Rattle.botcore.specs.declared.report.End.{End}
 use Rattle.botcore.specs.declared.report.End.TheVariants.{Done, Refused, NoMemory}
-use Rattle.botcore.specs.declared.made_call.MadeCall.{MadeCall}
-use Rattle.botcore.specs.declared.occasion.Occasion.{Occasion}
-use Rattle.botcore.specs.declared.occasion.Occasion.TheVariants.{Heard, Said}
+use Rattle.botcalls.specs.declared.made_call.MadeCall.{MadeCall}
+use Rattle.botcalls.specs.declared.occasion.Occasion.{Occasion}
+use Rattle.botcalls.specs.declared.occasion.Occasion.TheVariants.{Heard, Said}
 use Rattle.botcore.specs.declared.report.Note.{Note}
 use Rattle.botcore.specs.declared.report.Note.TheVariants.{Link as link_note, Bound, Unbound, Bad}
 use Rattle.botcore.specs.declared.report.Report.{Report}
 use Rattle.botcore.specs.Bots.{Bot, bot_setting}
-use Rattle.botcore.specs.Calls.{Entry, Telling, calls_in, unbound_in}
-use Rattle.botcore.specs.Dispatching.{told_of, is_logged}
+use Rattle.botcalls.specs.Calls.{Entry, Telling, calls_in, unbound_in}
+use Rattle.botcalls.specs.Dispatching.{told_of, is_logged}
 use Rattle.botcore.specs.Acting.{faults_of}
 use Rattle.botcore.specs.Happenings.{Saying, saying_of, seconds_of, passed_all}
 use Rattle.botcore.specs.Automatic.{greeting}
@@ -42,7 +42,7 @@ use Rattle.botcore.specs.Putting.{put_all, put_faults}
 use Rattle.outqueue.specs.Sending.{idle}
 use Rattle.botcore.specs.Shown.{AreTaken}
 use Rattle.botcore.specs.Links.{link_asked, link_pumped, link_received}
-use Rattle.botcore.specs.Made.{entry_of, AllKept}
+use Rattle.botcalls.specs.Made.{entry_of, AllKept}
 use Rattle.botcore.specs.Reports.{done, refused, out_of_memory, link_report}
 
 -- ---- events that call nothing

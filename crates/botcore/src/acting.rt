@@ -2,9 +2,9 @@
 
 use crate::fault::{ActionFault, Fault};
 use crate::link::Link;
-use crate::made_call::MadeCall;
 use crate::putting::put;
 use crate::report::Faults;
+use botcalls::MadeCall;
 use bottimers::{TimerKind, Timers};
 use bytetext::{Failure, NoMemory, Seq, TryCopy};
 use outqueue::Queues;

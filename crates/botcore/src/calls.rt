@@ -5,12 +5,9 @@ ghost use Rattle.botcore.specs.Acting.{actions_of};
 
 use crate::acting::Doing;
 use crate::bot::Bot;
-use crate::dispatch::{Dispatch, call_procs};
 use crate::fault::Fault;
-use crate::made_call::{MadeCall, Unbound};
-use crate::occasion::Occasion;
 use crate::report::Faults;
-use crate::scene::Scene;
+use botcalls::{Dispatch, MadeCall, Occasion, Scene, Unbound, call_procs};
 use bottimers::Timers;
 use bytetext::{NoMemory, Seq, Texts, TryCopy};
 use outqueue::Queues;
@@ -47,7 +44,7 @@ impl Bot {
     ghost use Rattle.sharelink.specs.declared.TheConstants.{MAX_TEXTS};
     ghost use Rattle.botcore.specs.Acting.{action_faults, actions_of, faults_of};
     ghost use Rattle.botcore.specs.Bots.{bot_setting};
-    ghost use Rattle.botcore.specs.Dispatched.{IsDispatched};
+    ghost use Rattle.botcalls.specs.Dispatched.{IsDispatched};
     ghost use Rattle.botcore.specs.Lines.{acting_of, acting_after};
     ghost use Rattle.botcore.specs.Progress.{HasMore};
 

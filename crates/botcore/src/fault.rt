@@ -4,8 +4,8 @@ ghost use Rattle.std.specs.Option.{option_copied};
 ghost use Rattle.botcore.specs.Configs.{code_of};
 ghost use Rattle.botcore.specs.Codes.{action_code, refusal_code, fault_word, fault_proc};
 
-use crate::made_call::Unbound;
 use bindtable::BindFault;
+use botcalls::Unbound;
 use bottimers::ClockFault;
 use bytetext::{Failure, NoMemory, TryCopy};
 use outqueue::QueueFault;

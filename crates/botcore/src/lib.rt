@@ -5,13 +5,10 @@
 //! that the caller lends; every other event calls none.
 //!
 //! What a step may report and leave is stated whole in `specs/Steps.antt`. What happens is in `specs/Happenings.antt`, its
-//! calls are those of `specs/Dispatching.antt`, each with a reply that keeps its proc's promise, and what their actions do
+//! calls are those of `botcalls`, each with a reply that keeps its proc's promise, and what their actions do
 //! is in `specs/Acting.antt`. Lines for the server wait in queues: those that procs put, and those that the bot puts by
 //! itself (`specs/Automatic.antt`). A reading of the clock reports the lines that may go. A step that runs out of memory
 //! leaves the bot as it was.
-//!
-//! [`drive`] takes a bot's steps over a connection: it reads what a server has sent, makes a step of each line and one of a
-//! reading of the clock, and writes what the bot says. What it may read, make and write is in `specs/Driving.antt`.
 //!
 //! ```text
 //! let mut bot = Bot::new(alloc, config)?;
@@ -30,40 +27,25 @@ mod bot;
 mod calls;
 mod config;
 mod cue;
-mod dispatch;
-mod driving;
 mod event;
 mod fault;
-mod heard;
-mod hearing;
-mod input;
 mod joining;
 mod limits;
 mod line;
 mod link;
-mod made_call;
 mod marks;
-mod next;
-mod occasion;
-mod outbox;
-mod output;
 mod putting;
 mod reading;
 mod report;
 mod running;
-mod scene;
 mod step;
 mod wish;
-mod words;
 
 pub use crate::automatic_laws::laws_of_automatic_lines;
 pub use crate::bot::Bot;
 pub use crate::config::Config;
-pub use crate::driving::{DriveEnd, DriveReport, drive, drive_bytes};
 pub use crate::event::{Event, NewBind, OldBind};
 pub use crate::fault::{ActionFault, BotError, BotFault, Fault, Refusal};
 pub use crate::limits::MAX_NICK;
 pub use crate::link::Link;
-pub use crate::made_call::{MadeCall, Unbound};
-pub use crate::occasion::Occasion;
-pub use crate::report::{End, Faults, MadeCalls, Note, Report};
+pub use crate::report::{End, Faults, Note, Report};

@@ -1,19 +1,15 @@
 // What a line of the server and a text of another bot make of a bot.
 ghost use Rattle.std.specs.Prelude.{◌≡◌, map, IfOk};
 ghost use Rattle.chanstate.specs.Events.{events_of};
-ghost use Rattle.botcore.specs.declared.occasion.Occasion.TheVariants.{Heard};
+ghost use Rattle.botcalls.specs.declared.occasion.Occasion.TheVariants.{Heard};
 ghost use Rattle.botcore.specs.Steps.{said_occasions};
 
 use crate::automatic::is_welcome;
 use crate::bot::Bot;
 use crate::calls::{Left, Told};
-use crate::dispatch::Dispatch;
-use crate::made_call::{MadeCall, Unbound};
-use crate::next::has_raw_one;
-use crate::occasion::Occasion;
 use crate::putting::put_all;
 use crate::report::{Faults, Note, Report};
-use crate::words::starts_with_word;
+use botcalls::{Dispatch, MadeCall, Occasion, Unbound, has_raw_one, starts_with_word};
 use bytetext::{NoMemory, Seq, Text, TryCopy};
 use chanstate::{ChanState, events};
 use ircline::Message;
@@ -24,10 +20,10 @@ impl Bot {
     ghost use Rattle.std.specs.Prelude.{◌≡◌, ◌≤◌, ◌++◌, [], length, map, IfOk, OnOk, OnErr};
     ghost use Rattle.chanstate.specs.Events.{events_of};
     ghost use Rattle.sharelink.specs.declared.TheConstants.{MAX_TEXTS};
-    ghost use Rattle.botcore.specs.declared.occasion.Occasion.TheVariants.{Heard as heard_event};
+    ghost use Rattle.botcalls.specs.declared.occasion.Occasion.TheVariants.{Heard as heard_event};
     ghost use Rattle.botcore.specs.Acting.{faults_of};
     ghost use Rattle.botcore.specs.Bots.{bot_setting};
-    ghost use Rattle.botcore.specs.Dispatched.{IsDispatched};
+    ghost use Rattle.botcalls.specs.Dispatched.{IsDispatched};
     ghost use Rattle.botcore.specs.Lines.{acting_of, acting_after, after_calls, after_line, finish_line};
     ghost use Rattle.botcore.specs.Lines.{channels_after, own_lines, welcomed_after};
     ghost use Rattle.botcore.specs.Progress.{HasMore};

@@ -5,10 +5,9 @@ ghost use Rattle.botcore.specs.Steps.{is_stale};
 use crate::bot::Bot;
 use crate::calls::{Left, Told};
 use crate::fault::Refusal;
-use crate::made_call::{MadeCall, Unbound};
-use crate::occasion::Occasion;
 use crate::report::Report;
 use crate::running::run_seconds;
+use botcalls::{MadeCall, Occasion, Unbound};
 use bottimers::{Clock, ClockFault, Timers};
 use bytetext::{MOMENTS_END, NoMemory, Seq, Texts, TryCopy};
 use procstore::{ProcStore, Promise, Run};
@@ -37,8 +36,8 @@ impl Bot {
     ghost use Rattle.botcore.specs.Shown.{AreOccasions};
     ghost use Rattle.botcore.specs.Steps.{TakesReading, TakesSeconds, is_stale, run_to};
 
-    // A reading of the clock: the seconds that run call procs, and then all that they ask for is done, or nothing is.
-    pub(crate) fn read_clock<P: Promise, B: Run>(
+    /// Does the step of a reading of the clock: as [`Bot::step`] of [`Event::Clock`]. At most 64 packets are to be sent.
+    pub fn read_clock<P: Promise, B: Run>(
         &mut self,
         alloc: Global,
         store: &ProcStore<P, B>,

@@ -5,9 +5,8 @@ ghost use Rattle.botcore.specs.Reports.{plain, done, refused, out_of_memory};
 ghost use Rattle.botcore.specs.Reports.{answer_report, bind_report, unbind_report};
 
 use crate::fault::{Fault, Refusal};
-use crate::made_call::MadeCall;
-use crate::next::is_logged;
 use bindtable::{BindError, BindFault};
+use botcalls::{MadeCalls, is_logged};
 use bytetext::{Failure, NoMemory, Seq, Texts, TryCopy};
 use sharelink::{Answer, LinkError, Outgoings};
 use std::alloc::Global;
@@ -46,9 +45,6 @@ impl TryCopy for Note {
         }
     }
 }
-
-/// Calls in order.
-pub type MadeCalls = Seq<MadeCall>;
 
 /// Faults in order.
 pub type Faults = Seq<Fault>;

@@ -4,12 +4,12 @@ ghost use Rattle.bytetext.specs.declared.moment.TheConstants.{MOMENTS_END};
 ghost use Rattle.bottimers.specs.Civil.{IsOffset};
 ghost use Rattle.bottimers.specs.Held.{IsAbove, calls_at, passed};
 ghost use Rattle.botcore.specs.Happenings.{minute_of, second_of, seconds_of, passed_all};
-ghost use Rattle.botcore.specs.declared.occasion.Occasion.TheVariants.{Due};
+ghost use Rattle.botcalls.specs.declared.occasion.Occasion.TheVariants.{Due};
 ghost use Rattle.botcore.specs.Shown.{AreOccasions};
 ghost use Rattle.botcore.specs.Rising.{Rise};
 
 use crate::config::Config;
-use crate::occasion::Occasion;
+use botcalls::Occasion;
 use bottimers::{Timers, civil};
 use bytetext::NoMemory;
 use std::alloc::Global;

@@ -88,8 +88,8 @@ impl Bot {
         Ok(faults)
     }
 
-    // A line of the server: nothing is done for one that is no message.
-    pub(crate) fn take_line<P: Promise, B: Run>(
+    /// Does the step of a line that stays the caller's: as [`Bot::step`] of [`Event::Line`]. At most 64 packets are to be sent.
+    pub fn take_line<P: Promise, B: Run>(
         &mut self,
         alloc: Global,
         store: &ProcStore<P, B>,

@@ -12,12 +12,12 @@ use Rattle.procstore.specs.Calling.{holds}
 use Rattle.bindtable.specs.declared.bind.Bind.{Bind}
 use Rattle.bindtable.specs.Calls.{Occurrence, is_called, called}
 use Rattle.bindtable.specs.Tables.{Asked, with_number}
-use Rattle.botcore.specs.declared.occasion.Occasion.{Occasion}
-use Rattle.botcore.specs.declared.occasion.Occasion.TheVariants.{Heard, Due, Time, Cron, Said}
-use Rattle.botcore.specs.Calls.{Entry, Telling, told_all, called_in, calls_in}
-use Rattle.botcore.specs.Dispatching.{Setting, occurrence_of, told_seen, told_alone, told, is_word, is_one, has_one, is_raw, is_whole, next_of, told_from, told_of}
-use Rattle.botcore.specs.Heard.{person_of, call_by}
-use Rattle.botcore.specs.Occasions.{time_seen, cron_seen, said_seen, time_call, cron_call, said_call, kind_for}
+use Rattle.botcalls.specs.declared.occasion.Occasion.{Occasion}
+use Rattle.botcalls.specs.declared.occasion.Occasion.TheVariants.{Heard, Due, Time, Cron, Said}
+use Rattle.botcalls.specs.Calls.{Entry, Telling, told_all, called_in, calls_in}
+use Rattle.botcalls.specs.Dispatching.{Setting, occurrence_of, told_seen, told_alone, told, is_word, is_one, has_one, is_raw, is_whole, next_of, told_from, told_of}
+use Rattle.botcalls.specs.Heard.{person_of, call_by}
+use Rattle.botcalls.specs.Occasions.{time_seen, cron_seen, said_seen, time_call, cron_call, said_call, kind_for}
 use Rattle.botworld.specs.Calling.{ProcCall, asked_in}
 
 -- what tellings come to, whichever binds they are of

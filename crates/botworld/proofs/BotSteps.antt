@@ -18,13 +18,13 @@ use Rattle.botcore.specs.declared.event.Event.TheVariants.{Connect, Line, Ask, P
 use Rattle.botcore.specs.declared.event.OldBind.{OldBind}
 use Rattle.botcore.specs.declared.fault.Refusal.TheVariants.{Link as link_refusal}
 use Rattle.botcore.specs.declared.link.Link.{Link}
-use Rattle.botcore.specs.declared.made_call.MadeCall.{MadeCall}
+use Rattle.botcalls.specs.declared.made_call.MadeCall.{MadeCall}
 use Rattle.botcore.specs.declared.report.End.{End}
 use Rattle.botcore.specs.declared.report.End.TheVariants.{Done, Refused, NoMemory}
 use Rattle.botcore.specs.declared.report.Note.{Note}
 use Rattle.botcore.specs.declared.report.Report.{Report}
 use Rattle.botcore.specs.Bots.{Bot}
-use Rattle.botcore.specs.Calls.{Telling}
+use Rattle.botcalls.specs.Calls.{Telling}
 use Rattle.botcore.specs.Acting.{actions_of}
 use Rattle.botcore.specs.Happenings.{Saying, saying_of}
 use Rattle.botcore.specs.Lines.{acting_of, acting_after, Finish, finish_text, finish_line, finish_reading}

@@ -26,22 +26,22 @@ use Rattle.botcore.specs.declared.event.Event.TheVariants.{Connect, Line, Ask, P
 use Rattle.botcore.specs.declared.event.OldBind.{OldBind}
 use Rattle.botcore.specs.declared.fault.Refusal.{Refusal}
 use Rattle.botcore.specs.declared.fault.Refusal.TheVariants.{Clock as clock_refusal}
-use Rattle.botcore.specs.declared.made_call.MadeCall.{MadeCall}
-use Rattle.botcore.specs.declared.occasion.Occasion.{Occasion}
-use Rattle.botcore.specs.declared.occasion.Occasion.TheVariants.{Heard, Said}
+use Rattle.botcalls.specs.declared.made_call.MadeCall.{MadeCall}
+use Rattle.botcalls.specs.declared.occasion.Occasion.{Occasion}
+use Rattle.botcalls.specs.declared.occasion.Occasion.TheVariants.{Heard, Said}
 use Rattle.botcore.specs.declared.report.Note.{Note}
 use Rattle.botcore.specs.declared.report.End.{End}
 use Rattle.botcore.specs.declared.report.End.TheVariants.{Done, Refused, NoMemory}
 use Rattle.botcore.specs.declared.report.Report.{Report as BotReport}
 use Rattle.botcore.specs.Bots.{Bot, bot_setting}
-use Rattle.botcore.specs.Calls.{Telling}
-use Rattle.botcore.specs.Dispatched.{setting_of}
-use Rattle.botcore.specs.Dispatching.{Setting, told_of}
+use Rattle.botcalls.specs.Calls.{Telling}
+use Rattle.botcalls.specs.Dispatched.{setting_of}
+use Rattle.botcalls.specs.Dispatching.{Setting, told_of}
 use Rattle.botcore.specs.Happenings.{Happening, Saying, saying_of, said, said_if, seconds_of, happenings_of}
 use Rattle.botcore.specs.Happenings.Happening.{Heard as heard_event, Said as said_text}
 use Rattle.botcore.specs.Lines.{Finish}
 use Rattle.botcore.specs.Links.{link_version, link_received}
-use Rattle.botcore.specs.Made.{entry_of}
+use Rattle.botcalls.specs.Made.{entry_of}
 use Rattle.botcore.specs.Reports.{refused, link_report}
 use Rattle.botcore.specs.Shown.{AreOccasions, AreTaken}
 use Rattle.botcore.specs.Steps.{Due, link_due, bind_due, unbind_due, bind_to_go, asked_of, Gives, TakesCalls, said_occasions, TakesPacket}

@@ -3,7 +3,8 @@ ghost use Rattle.std.specs.Prelude.{◌≡◌, IfOk};
 ghost use Rattle.std.specs.Option.{option_copied};
 ghost use Rattle.botworld.specs.Codes.{outcome_code};
 
-use botcore::{End, Faults, MadeCalls, Note};
+use botcalls::MadeCalls;
+use botcore::{End, Faults, Note};
 use bytetext::{NoMemory, Seq, Texts, TryCopy};
 use std::alloc::Global;
 

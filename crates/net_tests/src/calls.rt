@@ -2,7 +2,8 @@
 use crate::nets::lone_hub;
 use crate::procs::{Counted, Plain, add};
 use bindtable::BindKind;
-use botcore::{Event, MadeCall, NewBind};
+use botcalls::MadeCall;
+use botcore::{Event, NewBind};
 use botworld::{Outcome, Step, Transcript};
 use bytetext::{NoMemory, Text};
 use ircline::read_line;

@@ -18,7 +18,7 @@ use Rattle.outqueue.specs.Refusals.{code_of as queue_code}
 use Rattle.botcore.specs.Codes.{refusal_code, action_code}
 use Rattle.botcore.specs.declared.fault.Fault.{Fault}
 use Rattle.botcore.specs.declared.fault.Fault.TheVariants.{Unbound as unbound_fault, Action as action_fault, Line as line_fault}
-use Rattle.botcore.specs.declared.made_call.MadeCall.{MadeCall}
+use Rattle.botcalls.specs.declared.made_call.MadeCall.{MadeCall}
 use Rattle.botcore.specs.declared.report.End.{End}
 use Rattle.botcore.specs.declared.report.End.TheVariants.{Done as ended, Refused as ended_refused, NoMemory as ended_no_memory}
 use Rattle.botcore.specs.declared.report.Note.{Note}

@@ -7,7 +7,7 @@ use crate::procs::store_of;
 use crate::sink::Sink;
 use crate::stop::{BAD_NUMBER, BAD_WORDS, CaseError};
 use crate::words::number;
-use botcore::{DriveEnd, drive};
+use botdrive::{DriveEnd, drive};
 use bytetext::Text;
 use ircline::LineReader;
 use std::alloc::Global;

@@ -1,7 +1,7 @@
 use Rattle.std.proofs.Common.{refl, sym, subst}
 use Rattle.bottimers.specs.Seconds.{seconds_run}
 use Rattle.botcore.specs.Bots.{bot_setting}
-use Rattle.botcore.specs.Dispatching.{told_of}
+use Rattle.botcalls.specs.Dispatching.{told_of}
 use Rattle.botcore.specs.Happenings.{seconds_of}
 use Rattle.botcore.specs.Shown.{AreOccasions}
 use Rattle.botcore.proofs.CallingLemmas.{cut_short-seconds, front_all}

@@ -1,0 +1,3 @@
+pub mod HeardLemmas
+pub mod MakingLemmas
+pub mod NextLemmas

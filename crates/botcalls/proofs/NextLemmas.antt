@@ -1,0 +1,58 @@
+-- What follows an occasion, by the calls that were made.
+use Rattle.std.proofs.Common.{◌≡◌, ◌∙◌, ℕ, List, [], ◌∷◌, ◌++◌, Bool, ◌||◌, ◌&&◌, not, map, length, drop, refl, ap, sym, append_assoc}
+use Rattle.std.proofs.Math.Seq.{drop-append_seam}
+use Rattle.std.proofs.lemmas.List.Elements.{filter_map-append}
+use Rattle.procstore.specs.declared.action.Action.{Action}
+use Rattle.procstore.specs.declared.call.Call.{Call}
+use Rattle.procstore.specs.declared.reply.Code.{Code}
+use Rattle.botcalls.specs.Calls.{Telling, called_in, calls_in}
+use Rattle.std.specs.List.{list_any}
+use Rattle.std.proofs.lemmas.List.{length-map, drop-map}
+use Rattle.botcalls.specs.declared.made_call.MadeCall.{MadeCall}
+use Rattle.botcalls.specs.Made.{Made, IsMade, IsFrontMade, entry_of}
+use Rattle.botcalls.specs.Dispatching.{Setting, is_one, is_raw, has_one, has_raw_one, is_logged, is_silencing, next_after, told, told_from}
+use Rattle.botcalls.specs.Occasions.{kind_for}
+use Rattle.botcalls.specs.declared.next.Next.{Next}
+use Rattle.botcalls.specs.declared.next.Next.TheVariants.{Go}
+use Rattle.botcalls.specs.declared.occasion.Occasion.{Occasion}
+
+pub has_one_entries : (calls : List MadeCall) → has_one (map entry_of calls) ≡ list_any (λ m. is_one m.reply.code) calls
+has_one_entries [] = refl
+has_one_entries (m ∷ ms) = ap (λ b. is_one m.reply.code || b) (has_one_entries ms)
+
+pub length_entries : (calls : List MadeCall) → length (map entry_of calls) ≡ length calls
+length_entries calls = length-map calls entry_of
+
+pub is_logged_entries : (calls : List MadeCall) → is_logged (map entry_of calls) ≡ not (list_any (λ m. is_silencing m.call.kind && is_one m.reply.code) calls)
+is_logged_entries calls = ap not (by calls)
+  where
+    by : (calls : List MadeCall) → list_any (λ e. is_silencing e.call.kind && is_one e.code) (map entry_of calls)
+        ≡ list_any (λ m. is_silencing m.call.kind && is_one m.reply.code) calls
+    by [] = refl
+    by (m ∷ ms) = ap (λ b. (is_silencing m.call.kind && is_one m.reply.code) || b) (by ms)
+
+pub has_raw_one_entries : (calls : List MadeCall) → has_raw_one (map entry_of calls) ≡ list_any (λ m. is_raw m.call.kind && is_one m.reply.code) calls
+has_raw_one_entries [] = refl
+has_raw_one_entries (m ∷ ms) = ap (λ b. (is_raw m.call.kind && is_one m.reply.code) || b) (has_raw_one_entries ms)
+
+-- the calls that came with a part of what was made
+pub calls_since-part : (code_of : List ℕ → Call → Code) (may : List ℕ → Call → List Action → Type 0) (old new : Made) (before part : List Telling) (count : ℕ)
+    → IsMade code_of may old before → IsMade code_of may new (before ++ part) → count ≡ length old.calls
+    → map entry_of (drop count new.calls) ≡ calls_in part
+calls_since-part code_of may old new before part count made more is =
+    let count_is : count ≡ length (calls_in before) = is ∙ sym (length-map old.calls entry_of) ∙ ap length made.calls in
+    let all : map entry_of new.calls ≡ calls_in before ++ calls_in part = more.calls ∙ filter_map-append called_in before part in
+    sym (drop-map entry_of count new.calls) ∙ ap (drop count) all ∙ ap (λ (n : ℕ). drop n (calls_in before ++ calls_in part)) count_is
+    ∙ drop-append_seam (calls_in before) (calls_in part)
+
+-- where an occasion stops early, the first calls of all have been made
+pub IsFrontMade-occasion : (setting : Setting) (may : List ℕ → Call → List Action → Type 0) (new : Made)
+    (next : Next) (taken : Bool) (occasion : Occasion) (rest behind : List Occasion) (done all : List Telling)
+    → rest ≡ occasion ∷ behind → next ≡ Go taken → done ++ told_from setting next rest ≡ all
+    → IsFrontMade setting.code_of may new (done ++ told setting taken occasion) → IsFrontMade setting.code_of may new all
+IsFrontMade-occasion setting may new next taken occasion rest behind done all first goes whole front =
+    let more : List Telling = told_from setting (next_after (kind_for occasion) (told setting taken occasion)) behind in
+    let split : told_from setting next rest ≡ told setting taken occasion ++ more = rw (goes, first) refl in
+    let shown : all ≡ (done ++ told setting taken occasion) ++ more
+    = sym whole ∙ ap (λ (ts : List Telling). done ++ ts) split ∙ sym (append_assoc done (told setting taken occasion) more) in
+    (front.0, front.1 ++ more, shown ∙ ap (λ (ts : List Telling). ts ++ more) front.2 ∙ append_assoc front.0 front.1 more, front.3)

@@ -1,0 +1,17 @@
+use Rattle.std.proofs.Common.{◌≡◌, ◌++◌, List, length}
+use Rattle.botcalls.specs.Calls.{Telling}
+use Rattle.botcalls.specs.Made.{IsMade}
+use Rattle.botcalls.specs.Dispatching.{told_from, told_of}
+use Rattle.botcalls.specs.Dispatched.{setting_of}
+use Rattle.botcalls.proofs.dispatch.call_procs.Given as goal
+
+-- the occasions so far have been dispatched, and the rest are left
+abbrev pub invariant-loop-occasion : goal.invariant-loop-occasion
+invariant-loop-occasion g l =
+    let scene = l.fn.scene in
+    let setting = setting_of g.P.Promise.code_of scene.store.now scene.userfile.now.users scene.binds.now.binds scene.exclusive in
+    (done : List Telling) × IsMade g.P.Promise.code_of g.P.Promise.may l.made done
+    × (done ++ told_from setting l.next l.rest ≡ told_of setting l.fn.occasions)
+
+abbrev pub decreases-loop-occasion : goal.decreases-loop-occasion
+decreases-loop-occasion g l = length l.rest

@@ -1,0 +1,58 @@
+-- What binds and procs see of an occasion.
+use Rattle.std.specs.Prelude.{ℕ, ◌==◌, List, [], ◌∷◌, ◌++◌, Option, Some, None, if◌then◌else◌, codes, decimal}
+use Rattle.chanstate.specs.Speech.{first_word, after_word}
+use Rattle.bottimers.specs.declared.calendar.CivilMinute.{CivilMinute}
+use Rattle.bottimers.specs.Civil.{time_line, time_words, cron_words}
+use Rattle.procstore.specs.declared.call.Call.{Call}
+use Rattle.procstore.specs.declared.kind.Kind.{Kind}
+use Rattle.procstore.specs.declared.kind.Kind.TheVariants.{Timer as timer_call, Time as time_kind, Cron as cron_kind, Bot as bot_kind}
+use Rattle.bindtable.specs.declared.bind_kind.BindKind.{BindKind}
+use Rattle.bindtable.specs.declared.bind_kind.BindKind.TheVariants.{Bot as bot_bind, Time as time_bind, Cron as cron_bind}
+use Rattle.bindtable.specs.Calls.{Occurrence}
+use Rattle.bindtable.specs.Kinds.{call_kind_of}
+use Rattle.botcalls.specs.declared.occasion.Occasion.{Occasion}
+use Rattle.botcalls.specs.declared.occasion.Occasion.TheVariants.{Heard, Due, Time, Cron, Said}
+use Rattle.botcalls.specs.Heard.{kind_of}
+
+-- ---- what binds see of those that are by nobody
+
+abbrev pub by_nobody : BindKind → List ℕ → Option CivilMinute → Occurrence
+by_nobody kind subject minute = record { kind = kind; subject = subject; minute = minute; global = 0; channel = 0; bot = 0 }
+
+-- a time bind goes by the time text, and a cron bind by the minute
+abbrev pub time_seen : CivilMinute → Occurrence
+time_seen minute = by_nobody time_bind (time_line minute) None
+
+abbrev pub cron_seen : CivilMinute → Occurrence
+cron_seen minute = by_nobody cron_bind [] (Some minute)
+
+-- a bot bind goes by the first word
+abbrev pub said_seen : List ℕ → Occurrence
+said_seen text = by_nobody bot_bind (first_word text) None
+
+-- ---- what procs are called with
+
+abbrev pub due_call : Call
+due_call = record { kind = timer_call; args = [] }
+
+abbrev pub time_call : CivilMinute → Call
+time_call minute = record { kind = time_kind; args = time_words minute }
+
+abbrev pub cron_call : CivilMinute → Call
+cron_call minute = record { kind = cron_kind; args = cron_words minute }
+
+-- bot 0 is the hub
+abbrev pub bot_name : ℕ → List ℕ
+bot_name number = if number == 0 then codes "hub" else codes "leaf" ++ decimal number
+
+-- who says it, the first word, and what stands behind it and the spaces after it
+abbrev pub said_call : ℕ → List ℕ → Call
+said_call from text = record { kind = bot_kind; args = bot_name from ∷ first_word text ∷ after_word text ∷ [] }
+
+-- the kind of its calls
+abbrev pub kind_for : Occasion → Kind
+kind_for (Heard event) = call_kind_of (kind_of event.kind)
+kind_for (Due proc) = timer_call
+kind_for (Time minute) = time_kind
+kind_for (Cron minute) = cron_kind
+kind_for (Said from text) = bot_kind

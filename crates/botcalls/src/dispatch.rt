@@ -1,0 +1,419 @@
+// Calling the procs that occasions call.
+ghost use Rattle.std.specs.Prelude.{◌≡◌, ◌&&◌};
+ghost use Rattle.bindtable.specs.Calls.{seen};
+ghost use Rattle.botcalls.specs.Dispatching.{is_word};
+ghost use Rattle.botcalls.specs.Dispatched.{setting_in, IsDispatched};
+ghost use Rattle.botcalls.specs.Occasions.{by_nobody};
+
+use crate::heard::{call_by, kind_of, person_of};
+use crate::made_call::{MadeCall, MadeCalls, Unbound};
+use crate::next::{Next, is_word, next_of};
+use crate::occasion::{Occasion, cron_call, due_call, said_call, time_call};
+use crate::scene::Scene;
+use crate::words::first_word;
+use bindtable::{Bind, BindKind, Called, Event as Occurrence};
+use bottimers::{CivilMinute, time_text};
+use bytetext::{Failure, NoMemory, Seq, Text, TryCopy};
+use chanstate::Event;
+use flagexpr::Flags;
+use procstore::{Call, CallFault, Kind, ProcStore, Promise, Run};
+use std::alloc::Global;
+use std::marker::Model;
+
+/// The calls that were made for some occasions, and the binds and timers that were left out since the store lacks their
+/// procs: one stands there once for each occasion that calls it. Contracts see the two lists, each in order.
+#[derive(Drop)]
+pub struct Dispatch {
+    calls: Vec<MadeCall>,
+    unbound: Vec<Unbound>,
+}
+
+impl Model for Dispatch {
+    ghost use Rattle.botcalls.specs.Made.{Made};
+
+    ghost Value = { Made };
+
+    ghost view = { λ d. record { calls = d.calls.items; unbound = d.unbound.items } };
+}
+
+impl Dispatch {
+    ghost use Rattle.std.specs.Prelude.{◌≡◌, ◌∷◌, [], OnOk, OnErr, IfOk, drop, length, false};
+    ghost use Rattle.bindtable.specs.Calls.{seen};
+    ghost use Rattle.botcalls.specs.Calls.{told_proc, told_all};
+    ghost use Rattle.botcalls.specs.Occasions.{time_seen, cron_seen, said_seen, time_call, cron_call, said_call};
+    ghost use Rattle.botcalls.specs.Made.{Adds, AddsFront};
+    ghost use Rattle.botcalls.specs.Dispatching.{told, told_alone, told_heard, told_seen, told_due};
+    ghost use Rattle.botcalls.specs.Dispatched.{setting_in, AddsOccasion};
+
+    /// No call, and no bind left out. Takes no memory.
+    pub fn new(alloc: Global) -> Dispatch
+        ensures { result ≡ record { calls = []; unbound = [] } }
+    {
+        Dispatch {
+            calls: Vec::new(alloc),
+            unbound: Vec::new(alloc),
+        }
+    }
+
+    /// The calls and the binds, each in order. Takes no memory.
+    pub fn into_parts(self) -> (MadeCalls, Vec<Unbound>)
+        ensures calls { result.0 ≡ self.calls }
+        ensures unbound { result.1.items ≡ self.unbound }
+    {
+        (Seq::new(self.calls), self.unbound)
+    }
+
+    // Calls a proc for the bind of this number, or notes that the store lacks it.
+    fn call_proc<P: Promise, B: Run>(
+        &mut self,
+        alloc: Global,
+        store: &ProcStore<P, B>,
+        call: &Call,
+        number: u32,
+        name: &Text,
+    ) -> Result<(), NoMemory>
+        ensures ok { OnOk result (Adds P.code_of P.may self.old
+            (told_proc P.code_of store.now call.now number name.now ∷ []) self.new) }
+        ensures err { OnErr result (self.new ≡ self.old) }
+    {
+        // Room for the call is made before it, so that each call that is made is told.
+        self.calls.reserve(1)?;
+        let proc = name.copy(alloc)?;
+        let call_copy = call.copy(alloc)?;
+        match store.call(name.as_bytes(), call) {
+            Ok(reply) => self.calls.push_reserved(MadeCall {
+                bind: number,
+                proc,
+                call: call_copy,
+                reply,
+            }),
+            Err(Failure::Refused(CallFault::NoSuchProc)) => self
+                .unbound
+                .push(Unbound { bind: number, proc })?,
+            Err(Failure::NoMemory) => return Err(NoMemory),
+        }
+        Ok(())
+    }
+
+    // Calls the proc of each of these binds, in order.
+    fn call_each<P: Promise, B: Run>(
+        &mut self,
+        alloc: Global,
+        store: &ProcStore<P, B>,
+        call: &Call,
+        mut binds: Called<'_, '_>,
+    ) -> Result<(), NoMemory>
+        ensures ok { OnOk result (Adds P.code_of P.may self.old
+            (told_all P.code_of store.now call.now binds.entry) self.new) }
+        ensures err { OnErr result (AddsFront P.code_of P.may self.old
+            (told_all P.code_of store.now call.now binds.entry) self.new) }
+    {
+        while let Some(bind) = binds.next() {
+            match self.call_proc(alloc, store, call, bind.number, &bind.proc) {
+                Ok(()) => {}
+                Err(NoMemory) => return Err(NoMemory),
+            }
+        }
+        Ok(())
+    }
+
+    // Calls the proc of a bind, and then those of the binds that follow it.
+    fn call_first<P: Promise, B: Run>(
+        &mut self,
+        alloc: Global,
+        store: &ProcStore<P, B>,
+        call: &Call,
+        first: &Bind,
+        rest: Called<'_, '_>,
+    ) -> Result<(), NoMemory>
+        ensures ok { OnOk result (Adds P.code_of P.may self.old
+            (told_all P.code_of store.now call.now (first.now ∷ rest.entry)) self.new) }
+        ensures err { OnErr result (AddsFront P.code_of P.may self.old
+            (told_all P.code_of store.now call.now (first.now ∷ rest.entry)) self.new) }
+    {
+        match self.call_proc(alloc, store, call, first.number, &first.proc) {
+            Ok(()) => {}
+            Err(NoMemory) => return Err(NoMemory),
+        }
+        match self.call_each(alloc, store, call, rest) {
+            Ok(()) => Ok(()),
+            Err(NoMemory) => Err(NoMemory),
+        }
+    }
+
+    // Calls the procs of the binds that see this.
+    fn call_seen<P: Promise, B: Run>(
+        &mut self,
+        alloc: Global,
+        scene: &Scene<'_, P, B>,
+        seen_by: &Occurrence<'_>,
+        call: &Call,
+    ) -> Result<(), NoMemory>
+        ensures ok { OnOk result (Adds P.code_of P.may self.old
+            (told_seen (setting_in P.code_of scene.now) (seen seen_by.now) call.now) self.new) }
+        ensures err { OnErr result (AddsFront P.code_of P.may self.old
+            (told_seen (setting_in P.code_of scene.now) (seen seen_by.now) call.now) self.new) }
+    {
+        let found = scene.binds.called(seen_by);
+        match self.call_each(alloc, scene.store, call, found) {
+            Ok(()) => Ok(()),
+            Err(NoMemory) => Err(NoMemory),
+        }
+    }
+
+    // Calls the proc of a due timer.
+    #[tactic(auto, using(crate::proofs::MakingLemmas::front_none))]
+    fn call_due<P: Promise, B: Run>(
+        &mut self,
+        alloc: Global,
+        scene: &Scene<'_, P, B>,
+        proc: &Text,
+    ) -> Result<(), NoMemory>
+        ensures ok { OnOk result (Adds P.code_of P.may self.old
+            (told_due (setting_in P.code_of scene.now) proc.now) self.new) }
+        ensures err { OnErr result (AddsFront P.code_of P.may self.old
+            (told_due (setting_in P.code_of scene.now) proc.now) self.new) }
+    {
+        let call = due_call(alloc);
+        match self.call_proc(alloc, scene.store, &call, 0, proc) {
+            Ok(()) => Ok(()),
+            Err(NoMemory) => Err(NoMemory),
+        }
+    }
+
+    // Calls the procs of time binds.
+    #[tactic(auto, using(crate::proofs::MakingLemmas::front_none))]
+    fn call_time<P: Promise, B: Run>(
+        &mut self,
+        alloc: Global,
+        scene: &Scene<'_, P, B>,
+        minute: &CivilMinute,
+    ) -> Result<(), NoMemory>
+        ensures ok { OnOk result (Adds P.code_of P.may self.old
+            (told_seen (setting_in P.code_of scene.now) (time_seen minute.now) (time_call minute.now)) self.new) }
+        ensures err { OnErr result (AddsFront P.code_of P.may self.old
+            (told_seen (setting_in P.code_of scene.now) (time_seen minute.now) (time_call minute.now)) self.new) }
+    {
+        let text = match time_text(alloc, minute) {
+            Ok(text) => text,
+            Err(NoMemory) => return Err(NoMemory),
+        };
+        let call = match time_call(alloc, minute) {
+            Ok(call) => call,
+            Err(NoMemory) => return Err(NoMemory),
+        };
+        let seen = by_nobody(BindKind::Time, text.as_bytes(), None);
+        self.call_seen(alloc, scene, &seen, &call)
+    }
+
+    // Calls the procs of cron binds.
+    #[tactic(auto, using(crate::proofs::MakingLemmas::front_none))]
+    fn call_cron<P: Promise, B: Run>(
+        &mut self,
+        alloc: Global,
+        scene: &Scene<'_, P, B>,
+        minute: &CivilMinute,
+    ) -> Result<(), NoMemory>
+        ensures ok { OnOk result (Adds P.code_of P.may self.old
+            (told_seen (setting_in P.code_of scene.now) (cron_seen minute.now) (cron_call minute.now)) self.new) }
+        ensures err { OnErr result (AddsFront P.code_of P.may self.old
+            (told_seen (setting_in P.code_of scene.now) (cron_seen minute.now) (cron_call minute.now)) self.new) }
+    {
+        let call = match cron_call(alloc, minute) {
+            Ok(call) => call,
+            Err(NoMemory) => return Err(NoMemory),
+        };
+        let seen = by_nobody(BindKind::Cron, b"", Some(*minute));
+        self.call_seen(alloc, scene, &seen, &call)
+    }
+
+    // Calls the procs of bot binds.
+    #[tactic(auto, using(crate::proofs::MakingLemmas::front_none))]
+    fn call_said<P: Promise, B: Run>(
+        &mut self,
+        alloc: Global,
+        scene: &Scene<'_, P, B>,
+        from: u16,
+        text: &Text,
+    ) -> Result<(), NoMemory>
+        ensures ok { OnOk result (Adds P.code_of P.may self.old
+            (told_seen (setting_in P.code_of scene.now) (said_seen text.now) (said_call from text.now)) self.new) }
+        ensures err { OnErr result (AddsFront P.code_of P.may self.old
+            (told_seen (setting_in P.code_of scene.now) (said_seen text.now) (said_call from text.now)) self.new) }
+    {
+        let call = match said_call(alloc, from, text.as_bytes()) {
+            Ok(call) => call,
+            Err(NoMemory) => return Err(NoMemory),
+        };
+        let seen = by_nobody(BindKind::Bot, first_word(text.as_bytes()), None);
+        self.call_seen(alloc, scene, &seen, &call)
+    }
+
+    // Calls the procs of an event of a message.
+    #[tactic(auto, using(crate::proofs::MakingLemmas::front_none))]
+    fn call_heard<P: Promise, B: Run>(
+        &mut self,
+        alloc: Global,
+        scene: &Scene<'_, P, B>,
+        event: &Event,
+    ) -> Result<(), NoMemory>
+        ensures ok { OnOk result (Adds P.code_of P.may self.old
+            (told_heard (setting_in P.code_of scene.now) event.now) self.new) }
+        ensures err { OnErr result (AddsFront P.code_of P.may self.old
+            (told_heard (setting_in P.code_of scene.now) event.now) self.new) }
+    {
+        let person = match person_of(alloc, scene.userfile, event) {
+            Ok(person) => person,
+            Err(NoMemory) => return Err(NoMemory),
+        };
+        let seen = Occurrence {
+            kind: kind_of(event.kind),
+            subject: event.subject.as_bytes(),
+            minute: None,
+            global: person.flags.global,
+            channel: person.flags.chan,
+            bot: person.flags.bot,
+        };
+        let mut found = scene.binds.called(&seen);
+        let Some(first) = found.next() else {
+            return Ok(());
+        };
+        let call = match call_by(alloc, person.handle, event) {
+            Ok(call) => call,
+            Err(NoMemory) => return Err(NoMemory),
+        };
+        self.call_first(alloc, scene.store, &call, first, found)
+    }
+
+    // Calls the procs of an occasion, as if it were the only one.
+    fn call_alone<P: Promise, B: Run>(
+        &mut self,
+        alloc: Global,
+        scene: &Scene<'_, P, B>,
+        occasion: &Occasion,
+    ) -> Result<(), NoMemory>
+        ensures ok { OnOk result (Adds P.code_of P.may self.old
+            (told_alone (setting_in P.code_of scene.now) occasion.now) self.new) }
+        ensures err { OnErr result (AddsFront P.code_of P.may self.old
+            (told_alone (setting_in P.code_of scene.now) occasion.now) self.new) }
+    {
+        match occasion {
+            Occasion::Heard(event) => self.call_heard(alloc, scene, event),
+            Occasion::Due(proc) => self.call_due(alloc, scene, proc),
+            Occasion::Time(minute) => self.call_time(alloc, scene, minute),
+            Occasion::Cron(minute) => self.call_cron(alloc, scene, minute),
+            Occasion::Said { from, text } => self.call_said(alloc, scene, *from, text),
+        }
+    }
+
+    // Calls the procs of an occasion whose text may be taken already.
+    fn call_unless_taken<P: Promise, B: Run>(
+        &mut self,
+        alloc: Global,
+        scene: &Scene<'_, P, B>,
+        occasion: &Occasion,
+        taken: bool,
+    ) -> Result<(), NoMemory>
+        ensures ok { OnOk result (Adds P.code_of P.may self.old
+            (told (setting_in P.code_of scene.now) taken occasion.now) self.new) }
+        ensures err { OnErr result (AddsFront P.code_of P.may self.old
+            (told (setting_in P.code_of scene.now) taken occasion.now) self.new) }
+    {
+        if is_silent(scene.exclusive, taken, occasion.kind()) {
+            return Ok(());
+        }
+        match self.call_alone(alloc, scene, occasion) {
+            Ok(()) => Ok(()),
+            Err(NoMemory) => Err(NoMemory),
+        }
+    }
+
+    // Calls the procs of an occasion whose text may be taken already, and says what follows it.
+    fn call_occasion<P: Promise, B: Run>(
+        &mut self,
+        alloc: Global,
+        scene: &Scene<'_, P, B>,
+        occasion: &Occasion,
+        taken: bool,
+    ) -> Result<Next, NoMemory>
+        ensures ok { IfOk result (λ next.
+            AddsOccasion (setting_in P.code_of scene.now) P.may self.old taken occasion.now next self.new) }
+        ensures err { OnErr result (AddsFront P.code_of P.may self.old
+            (told (setting_in P.code_of scene.now) taken occasion.now) self.new) }
+    {
+        let before = self.call_count();
+        match self.call_unless_taken(alloc, scene, occasion, taken) {
+            Ok(()) => Ok(next_of(occasion.kind(), self.calls_since(before))),
+            Err(NoMemory) => Err(NoMemory),
+        }
+    }
+
+    // How many calls have been made.
+    fn call_count(&self) -> usize
+        ensures { result ≡ length self.now.calls }
+    {
+        self.calls.len()
+    }
+
+    // The calls after so many.
+    fn calls_since(&self, count: usize) -> &[MadeCall]
+        ensures { result.now ≡ drop count self.now.calls }
+    {
+        match self.calls.as_slice().get(count..) {
+            Some(calls) => calls,
+            None => &[],
+        }
+    }
+}
+
+/// Calls the procs that occasions call.
+///
+/// Each calls the binds of its kind whose mask and flags let it, oldest first; a due timer calls its proc. Where a raw proc
+/// answers 1, nothing follows the raw event. Where the scene is exclusive, the first word of a text calls nothing once a
+/// proc was called for the whole of that text. A bind or timer whose proc is not in the store is left out and told.
+///
+/// # Errors
+/// An error has the calls that were made before memory ran out: they are the first of those that would be made.
+pub fn call_procs<P: Promise, B: Run>(
+    alloc: Global,
+    scene: &Scene<'_, P, B>,
+    occasions: &[Occasion],
+) -> Result<Dispatch, Dispatch>
+    ensures { IsDispatched (setting_in P.code_of scene.now) P.may occasions.now result }
+{
+    let mut made = Dispatch::new(alloc);
+    let mut next = Next::Go { taken: false };
+    let mut rest = occasions;
+    while let Some((occasion, behind)) = rest.split_first() {
+        match next {
+            Next::Stop => return Ok(made),
+            Next::Go { taken } => match made.call_occasion(alloc, scene, occasion, taken) {
+                Ok(after) => next = after,
+                Err(NoMemory) => return Err(made),
+            },
+        }
+        rest = behind;
+    }
+    Ok(made)
+}
+
+// Whether an occasion of this kind calls nothing, since a proc was called for the whole of its text.
+fn is_silent(exclusive: bool, taken: bool, kind: Kind) -> bool
+    ensures { result ≡ (exclusive && (taken && is_word kind)) }
+{
+    exclusive && taken && is_word(kind)
+}
+
+// What binds see of an occasion that is by nobody.
+fn by_nobody<'a>(kind: BindKind, subject: &'a [u8], minute: Option<CivilMinute>) -> Occurrence<'a>
+    ensures { seen result ≡ by_nobody kind subject.now minute }
+{
+    Occurrence {
+        kind,
+        subject,
+        minute,
+        global: Flags::empty(),
+        channel: Flags::empty(),
+        bot: Flags::empty(),
+    }
+}

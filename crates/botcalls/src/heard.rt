@@ -1,0 +1,145 @@
+// What binds and procs see of an event of a message.
+ghost use Rattle.std.specs.Prelude.{◌≡◌, [], IfOk};
+ghost use Rattle.std.specs.Option.{option_copied};
+ghost use Rattle.botcalls.specs.Heard.{kind_of, is_personal, text_at, who_of, flags_on, person_of, call_by};
+
+use bindtable::BindKind;
+use bytetext::{NoMemory, Text, Texts, copies_of};
+use chanstate::{Event, Kind as EventKind};
+use flagexpr::Flags;
+use procstore::Call;
+use std::alloc::Global;
+use userfile::{PersonFlags, Userfile};
+
+// Whom an event is by, as far as the userfile knows.
+#[derive(Clone, Copy)]
+pub(crate) struct Person<'a> {
+    // Empty where it is by nobody.
+    pub(crate) handle: &'a [u8],
+    pub(crate) flags: PersonFlags,
+}
+
+// The kind under which binds know an event.
+pub(crate) fn kind_of(kind: EventKind) -> BindKind
+    ensures { result ≡ kind_of kind }
+{
+    match kind {
+        EventKind::Raw => BindKind::Raw,
+        EventKind::Msg => BindKind::Msg,
+        EventKind::Msgm => BindKind::Msgm,
+        EventKind::Notc => BindKind::Notc,
+        EventKind::Pub => BindKind::Pub,
+        EventKind::Pubm => BindKind::Pubm,
+        EventKind::Join => BindKind::Join,
+        EventKind::Part => BindKind::Part,
+        EventKind::Sign => BindKind::Sign,
+        EventKind::Kick => BindKind::Kick,
+        EventKind::Nick => BindKind::Nick,
+        EventKind::Mode => BindKind::Mode,
+        EventKind::Topc => BindKind::Topc,
+    }
+}
+
+// Whether an event is by somebody.
+fn is_personal(kind: EventKind) -> bool
+    ensures { result ≡ is_personal kind }
+{
+    match kind {
+        EventKind::Raw => false,
+        EventKind::Msg
+        | EventKind::Msgm
+        | EventKind::Notc
+        | EventKind::Pub
+        | EventKind::Pubm
+        | EventKind::Join
+        | EventKind::Part
+        | EventKind::Sign
+        | EventKind::Kick
+        | EventKind::Nick
+        | EventKind::Mode
+        | EventKind::Topc => true,
+    }
+}
+
+// Whom an event is by.
+pub(crate) fn person_of<'a>(
+    alloc: Global,
+    userfile: &'a Userfile,
+    event: &Event,
+) -> Result<Person<'a>, NoMemory>
+    ensures handle { IfOk result (λ person. person.handle.now ≡ (person_of userfile.now.users event.now).handle) }
+    ensures flags { IfOk result (λ person. person.flags ≡ (person_of userfile.now.users event.now).flags) }
+{
+    if !is_personal(event.kind) {
+        return Ok(nobody());
+    }
+    let who = who_of(alloc, event.arguments.as_slice())?;
+    let handle = userfile.handle_of(who.as_bytes());
+    let channel = event.channel.as_ref().map(|name| name.as_bytes());
+    let flags = flags_on(userfile, handle, channel);
+    Ok(Person { handle, flags })
+}
+
+// By nobody.
+fn nobody<'a>() -> Person<'a>
+    ensures handle { result.handle.now ≡ [] }
+    ensures flags { result.flags ≡ record { global = 0; chan = 0; bot = 0 } }
+{
+    let flags = PersonFlags {
+        global: Flags::empty(),
+        chan: Flags::empty(),
+        bot: Flags::empty(),
+    };
+    Person { handle: b"", flags }
+}
+
+// A text of a list, and the empty one where there is none.
+fn text_at(texts: &[Text], place: usize) -> &[u8]
+    ensures { result.now ≡ text_at texts.now place }
+{
+    match texts.get(place) {
+        Some(text) => text.as_bytes(),
+        None => b"",
+    }
+}
+
+// The person of these arguments, as hostmasks match one.
+fn who_of(alloc: Global, arguments: &[Text]) -> Result<Text, NoMemory>
+    ensures { IfOk result (λ who. who ≡ who_of arguments.now) }
+{
+    let mut who = Vec::from_slice(alloc, text_at(arguments, 0))?;
+    who.push(b'!')?;
+    who.extend_from_slice(text_at(arguments, 1))?;
+    Ok(Text::new(who))
+}
+
+// The flags of a handle where an event is on this channel, or on none.
+fn flags_on(userfile: &Userfile, handle: &[u8], channel: Option<&[u8]>) -> PersonFlags
+    ensures { result ≡ flags_on userfile.now.users handle.now (option_copied channel.entry) }
+{
+    match channel {
+        Some(channel) => userfile.flags_of(handle, channel),
+        None => {
+            let flags = userfile.flags_of(handle, b"");
+            PersonFlags {
+                global: flags.global,
+                chan: Flags::empty(),
+                bot: flags.bot,
+            }
+        }
+    }
+}
+
+// What procs are called with for an event by this handle.
+pub(crate) fn call_by(alloc: Global, handle: &[u8], event: &Event) -> Result<Call, NoMemory>
+    ensures { IfOk result (λ call. call ≡ call_by handle.now event.now) }
+{
+    let mut args = copies_of(alloc, event.arguments.as_slice())?;
+    if is_personal(event.kind) && args.len() >= 2 {
+        args.insert(2, Text::from_slice(alloc, handle)?)?;
+    }
+    Ok(Call {
+        kind: kind_of(event.kind).kind(),
+        args: Texts::new(args),
+    })
+}

@@ -1,0 +1,53 @@
+// A call that was made, and a bind that was left out.
+use bytetext::{NoMemory, Seq, Text, TryCopy};
+use procstore::{Call, Reply};
+use std::alloc::Global;
+
+/// A call that was made, and what it answered.
+#[derive(Debug, Drop)]
+pub struct MadeCall {
+    /// The number of the bind that it was made for; 0 where a timer was due.
+    pub bind: u32,
+    /// The name of the proc.
+    pub proc: Text,
+    /// What the proc was called with.
+    pub call: Call,
+    /// What it answered.
+    pub reply: Reply,
+}
+
+/// The calls that were made, in order.
+pub type MadeCalls = Seq<MadeCall>;
+
+impl TryCopy for MadeCall {
+    fn copy(&self, alloc: Global) -> Result<MadeCall, NoMemory> {
+        let proc = self.proc.copy(alloc)?;
+        let call = self.call.copy(alloc)?;
+        let reply = self.reply.copy(alloc)?;
+        Ok(MadeCall {
+            bind: self.bind,
+            proc,
+            call,
+            reply,
+        })
+    }
+}
+
+/// A bind or a due timer that calls, whose proc is not in the store.
+#[derive(Debug, Drop)]
+pub struct Unbound {
+    /// The number of the bind; 0 where a timer was due.
+    pub bind: u32,
+    /// The name of the proc.
+    pub proc: Text,
+}
+
+impl TryCopy for Unbound {
+    fn copy(&self, alloc: Global) -> Result<Unbound, NoMemory> {
+        let proc = self.proc.copy(alloc)?;
+        Ok(Unbound {
+            bind: self.bind,
+            proc,
+        })
+    }
+}

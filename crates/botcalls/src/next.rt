@@ -1,0 +1,107 @@
+// What follows an occasion.
+ghost use Rattle.std.specs.Prelude.{◌≡◌, ◌&&◌, not, ◌==◌, map, length};
+ghost use Rattle.std.specs.List.{list_any};
+ghost use Rattle.botcalls.specs.Dispatching.{is_one, is_raw, is_whole, is_word, is_logged, is_silencing, next_of};
+ghost use Rattle.botcalls.specs.Dispatching.{has_raw_one};
+ghost use Rattle.botcalls.specs.Made.{entry_of};
+
+use crate::made_call::MadeCall;
+use procstore::{Code, Kind};
+
+// What follows an occasion.
+#[derive(Clone, Copy, Debug)]
+pub(crate) enum Next {
+    // Nothing: a raw proc has answered 1.
+    Stop,
+    // The next occasion.
+    Go {
+        // Whether a proc was called for the whole of a text, which its first word may follow.
+        taken: bool,
+    },
+}
+
+// What follows an occasion of this kind and these calls.
+#[tactic(auto, using(crate::proofs::NextLemmas::has_one_entries, crate::proofs::NextLemmas::length_entries))]
+pub(crate) fn next_of(kind: Kind, calls: &[MadeCall]) -> Next
+    ensures { result ≡ next_of kind (map entry_of calls.now) }
+{
+    if is_raw(kind) && has_one(calls) {
+        return Next::Stop;
+    }
+    Next::Go {
+        taken: is_whole(kind) && !calls.is_empty(),
+    }
+}
+
+// Whether a call has code 1.
+fn has_one(calls: &[MadeCall]) -> bool
+    ensures { result ≡ list_any (λ m. is_one m.reply.code) calls.now }
+{
+    calls.iter().any(|made| is_one(made.reply.code))
+}
+
+fn is_one(code: Code) -> bool
+    ensures { result ≡ is_one code }
+{
+    match code {
+        Code::Zero => false,
+        Code::One => true,
+    }
+}
+
+fn is_raw(kind: Kind) -> bool
+    ensures { result ≡ is_raw kind }
+{
+    matches!(kind, Kind::Raw)
+}
+
+fn is_whole(kind: Kind) -> bool
+    ensures { result ≡ is_whole kind }
+{
+    matches!(kind, Kind::Msgm | Kind::Pubm)
+}
+
+// Whether a kind goes by a text's first word.
+pub(crate) fn is_word(kind: Kind) -> bool
+    ensures { result ≡ is_word kind }
+{
+    matches!(kind, Kind::Msg | Kind::Pub)
+}
+
+/// Whether a raw call has code 1, after which a line is not taken into the channel state.
+#[tactic(auto, using(crate::proofs::NextLemmas::has_raw_one_entries))]
+pub fn has_raw_one(calls: &[MadeCall]) -> bool
+    ensures { result ≡ has_raw_one (map entry_of calls.now) }
+{
+    any_raw_one(calls)
+}
+
+fn any_raw_one(calls: &[MadeCall]) -> bool
+    ensures { result ≡ list_any (λ m. is_raw m.call.kind && is_one m.reply.code) calls.now }
+{
+    calls
+        .iter()
+        .any(|made| is_raw(made.call.kind) && is_one(made.reply.code))
+}
+
+/// Whether a line of these calls is logged: no call of a raw, msgm, notc or pubm bind answered 1.
+#[tactic(auto, using(crate::proofs::NextLemmas::is_logged_entries))]
+pub fn is_logged(calls: &[MadeCall]) -> bool
+    ensures { result ≡ is_logged (map entry_of calls.now) }
+{
+    !has_silencer(calls)
+}
+
+// Whether a call keeps its line out of the log.
+fn has_silencer(calls: &[MadeCall]) -> bool
+    ensures { result ≡ list_any (λ m. is_silencing m.call.kind && is_one m.reply.code) calls.now }
+{
+    calls.iter().any(|made| is_silencing(made.call.kind) && is_one(made.reply.code))
+}
+
+// Whether a code 1 of this kind keeps a line out of the log.
+fn is_silencing(kind: Kind) -> bool
+    ensures { result ≡ is_silencing kind }
+{
+    matches!(kind, Kind::Raw | Kind::Msgm | Kind::Notc | Kind::Pubm)
+}

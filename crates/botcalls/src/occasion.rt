@@ -1,0 +1,92 @@
+// What calls procs.
+ghost use Rattle.std.specs.Prelude.{◌≡◌, IfOk};
+ghost use Rattle.botcalls.specs.Occasions.{due_call, time_call, cron_call, said_call};
+
+use crate::heard::kind_of;
+use crate::words::{after_word, bot_name, first_word};
+use bottimers::{CivilMinute, cron_args, time_args};
+use bytetext::{NoMemory, Text, Texts};
+use chanstate::Event;
+use procstore::{Call, Kind};
+use std::alloc::Global;
+
+/// What calls procs.
+#[derive(Drop)]
+pub enum Occasion {
+    /// An event of a message.
+    Heard(Event),
+    /// A timer of this proc is due.
+    Due(Text),
+    /// A minute begins, for time binds.
+    Time(CivilMinute),
+    /// A minute begins, for cron binds.
+    Cron(CivilMinute),
+    /// A bot tells this one a text.
+    Said {
+        /// The number of the bot that tells it.
+        from: u16,
+        /// The text.
+        text: Text,
+    },
+}
+
+impl Occasion {
+    ghost use Rattle.std.specs.Prelude.{◌≡◌};
+    ghost use Rattle.botcalls.specs.Occasions.{kind_for};
+
+    // What procs are called for.
+    pub(crate) fn kind(&self) -> Kind
+        ensures { result ≡ kind_for self.now }
+    {
+        match self {
+            Occasion::Heard(event) => kind_of(event.kind).kind(),
+            Occasion::Due(_) => Kind::Timer,
+            Occasion::Time(_) => Kind::Time,
+            Occasion::Cron(_) => Kind::Cron,
+            Occasion::Said { .. } => Kind::Bot,
+        }
+    }
+}
+
+// What a due timer calls its proc with. Takes no memory.
+pub(crate) fn due_call(alloc: Global) -> Call
+    ensures { result ≡ due_call }
+{
+    Call {
+        kind: Kind::Timer,
+        args: Texts::new(Vec::new(alloc)),
+    }
+}
+
+// What time binds call their procs with.
+pub(crate) fn time_call(alloc: Global, minute: &CivilMinute) -> Result<Call, NoMemory>
+    ensures { IfOk result (λ call. call ≡ time_call minute.now) }
+{
+    Ok(Call {
+        kind: Kind::Time,
+        args: time_args(alloc, minute)?,
+    })
+}
+
+// What cron binds call their procs with.
+pub(crate) fn cron_call(alloc: Global, minute: &CivilMinute) -> Result<Call, NoMemory>
+    ensures { IfOk result (λ call. call ≡ cron_call minute.now) }
+{
+    Ok(Call {
+        kind: Kind::Cron,
+        args: cron_args(alloc, minute)?,
+    })
+}
+
+// What bot binds call their procs with.
+pub(crate) fn said_call(alloc: Global, from: u16, text: &[u8]) -> Result<Call, NoMemory>
+    ensures { IfOk result (λ call. call ≡ said_call from text.now) }
+{
+    let name = bot_name(alloc, from)?;
+    let word = Text::from_slice(alloc, first_word(text))?;
+    let rest = Text::from_slice(alloc, after_word(text))?;
+    Ok(Call {
+        kind: Kind::Bot,
+        args: Texts::new(vec![in alloc; name, word, rest]?),
+    })
+}

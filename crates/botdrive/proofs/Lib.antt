@@ -1,0 +1,3 @@
+pub mod DriveLemmas
+pub mod DrivingLemmas
+pub mod OutputLemmas

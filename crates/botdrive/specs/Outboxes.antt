@@ -1,0 +1,9 @@
+-- What stands in an outbox.
+use Rattle.std.specs.List.{flat_map}
+use Rattle.botdrive.specs.declared.outbox.Outbox.{Outbox}
+use Rattle.botcore.specs.Bots.{Bot}
+use Rattle.botdrive.specs.Driving.{Course, text_of}
+
+-- a bot, and what its outbox holds
+abbrev pub course_of : Bot → Outbox → Course
+course_of bot outbox = record { bot = bot; packets = outbox.packets.items; text = flat_map text_of outbox.lines.items }

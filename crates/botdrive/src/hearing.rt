@@ -1,0 +1,92 @@
+// What a bot is told over a connection.
+ghost use Rattle.std.specs.Prelude.{◌≡◌, IfOk, OnOk, OnErr, IfErr};
+ghost use Rattle.botdrive.specs.Driving.{Hears, HearsFirst, HearsPiece, HearsAll, HearsSome};
+ghost use Rattle.botdrive.specs.Outboxes.{course_of};
+
+use crate::driving::DriveEnd;
+use crate::input::Input;
+use crate::outbox::{Outbox, step_lines};
+use botcore::Bot;
+use bytetext::NoMemory;
+use ircline::LineReader;
+use procstore::{ProcStore, Promise, Run};
+use std::alloc::Global;
+
+// How often a drive reads at most.
+const MAX_READS: usize = 1000;
+
+// How many bytes one read takes at most.
+const PIECE: usize = 4096;
+
+// Reads all that there is now, or 1,000 pieces of it, and makes a step of each line that they end.
+pub(crate) fn hear_all<P: Promise, B: Run, I: Input>(
+    alloc: Global,
+    bot: &mut Bot,
+    store: &ProcStore<P, B>,
+    lines: &mut LineReader,
+    input: &mut I,
+    outbox: &mut Outbox,
+) -> Result<(), DriveEnd>
+    ensures ok { OnOk result (HearsAll I.stalls P.code_of P.may store.now
+        (course_of bot.old outbox.old) lines.old (I.left input.old)
+        (course_of bot.new outbox.new) lines.new (I.left input.new)) }
+    ensures err { IfErr result (λ end. HearsSome end I.stalls P.code_of P.may store.now
+        (course_of bot.old outbox.old) lines.old (I.left input.old)
+        (course_of bot.new outbox.new) lines.new (I.left input.new)) }
+{
+    for _read in 0..MAX_READS {
+        match hear_piece(alloc, bot, store, lines, input, outbox) {
+            Ok(true) => {}
+            Ok(false) => return Ok(()),
+            Err(end) => return Err(end),
+        }
+    }
+    Ok(())
+}
+
+// Reads a piece, and makes a step of each line that it ends. Whether there may be more.
+fn hear_piece<P: Promise, B: Run, I: Input>(
+    alloc: Global,
+    bot: &mut Bot,
+    store: &ProcStore<P, B>,
+    lines: &mut LineReader,
+    input: &mut I,
+    outbox: &mut Outbox,
+) -> Result<bool, DriveEnd>
+    ensures ok { IfOk result (λ more. HearsPiece I.stalls P.code_of P.may store.now
+        (course_of bot.old outbox.old) lines.old (I.left input.old) more
+        (course_of bot.new outbox.new) lines.new (I.left input.new)) }
+    ensures err { IfErr result (λ end. HearsSome end I.stalls P.code_of P.may store.now
+        (course_of bot.old outbox.old) lines.old (I.left input.old)
+        (course_of bot.new outbox.new) lines.new (I.left input.new)) }
+{
+    let mut buffer = [0; PIECE];
+    match input.next_piece(&mut buffer) {
+        Ok(Some(count)) => {
+            match hear_bytes(alloc, bot, store, lines, &buffer[..count], outbox) {
+                Ok(()) => Ok(true),
+                Err(NoMemory) => Err(DriveEnd::NoMemory),
+            }
+        }
+        Ok(None) => Ok(false),
+        Err(end) => Err(end),
+    }
+}
+
+// Takes bytes in, and makes a step of each line that they end.
+fn hear_bytes<P: Promise, B: Run>(
+    alloc: Global,
+    bot: &mut Bot,
+    store: &ProcStore<P, B>,
+    lines: &mut LineReader,
+    bytes: &[u8],
+    outbox: &mut Outbox,
+) -> Result<(), NoMemory>
+    ensures ok { OnOk result (Hears P.code_of P.may store.now (course_of bot.old outbox.old) lines.old bytes.now
+        (course_of bot.new outbox.new) lines.new) }
+    ensures err { OnErr result (HearsFirst P.code_of P.may store.now (course_of bot.old outbox.old) lines.old bytes.now
+        (course_of bot.new outbox.new)) }
+{
+    let ended = lines.feed(alloc, bytes)?;
+    step_lines(alloc, bot, store, ended.as_slice(), outbox)
+}

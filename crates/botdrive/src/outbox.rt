@@ -1,0 +1,136 @@
+// What the steps of a drive have to send, and the steps that put it there.
+ghost use Rattle.std.specs.Prelude.{◌≡◌, ◌≢◌, ◌≤◌, ◌<◌, ◌+◌, ◌++◌, ◌∷◌, [], length, OnOk, OnErr, IfErr, vec_len, vec_capacity};
+ghost use Rattle.std.specs.List.{flat_map};
+ghost use Rattle.sharelink.specs.declared.TheConstants.{MAX_TEXTS as most_texts};
+ghost use Rattle.botcore.specs.declared.event.Event.TheVariants.{Line as line_event, Clock as clock_event};
+ghost use Rattle.botcore.specs.declared.report.End.TheVariants.{NoMemory as ends_no_memory};
+ghost use Rattle.botdrive.specs.Driving.{Makes, MakesFirst, line_events, text_of};
+ghost use Rattle.botdrive.specs.Outboxes.{course_of};
+
+use botcore::{Bot, End, Report};
+use bytetext::{NoMemory, Texts};
+use ircline::Line;
+use procstore::{ProcStore, Promise, Run};
+use sharelink::{MAX_TEXTS, Outgoing, Outgoings};
+use std::alloc::Global;
+
+// What steps have to send: packets over the link, and lines to the server, of each step that has some.
+#[derive(Drop)]
+pub(crate) struct Outbox {
+    pub(crate) packets: Vec<Outgoing>,
+    pub(crate) lines: Vec<Texts>,
+}
+
+impl Outbox {
+    // Before the first step. Takes no memory.
+    pub(crate) fn new(alloc: Global) -> Outbox
+        ensures packets { result.packets.items ≡ [] }
+        ensures lines { result.lines.items ≡ [] }
+    {
+        Outbox {
+            packets: Vec::new(alloc),
+            lines: Vec::new(alloc),
+        }
+    }
+
+    // Makes room for what one step has to send.
+    fn make_room(&mut self) -> Result<(), NoMemory>
+        ensures packets { self.new.packets.items ≡ self.old.packets.items }
+        ensures lines { self.new.lines.items ≡ self.old.lines.items }
+        ensures packets_room { OnOk result (vec_len self.new.packets + most_texts ≤ vec_capacity self.new.packets) }
+        ensures lines_room { OnOk result (vec_len self.new.lines < vec_capacity self.new.lines) }
+    {
+        self.packets.reserve(MAX_TEXTS)?;
+        self.lines.reserve(1)?;
+        Ok(())
+    }
+
+    // Takes what a step has to send. Takes no memory.
+    fn put(&mut self, packets: Outgoings, lines: Texts)
+        requires few { length packets ≤ most_texts }
+        requires packets_room { vec_len self.old.packets + most_texts ≤ vec_capacity self.old.packets }
+        requires lines_room { vec_len self.old.lines < vec_capacity self.old.lines }
+        ensures packets { self.new.packets.items ≡ self.old.packets.items ++ packets }
+        ensures text { flat_map text_of self.new.lines.items ≡ flat_map text_of self.old.lines.items ++ text_of lines }
+    {
+        let mut packets = packets.into_vec();
+        let _ = self.packets.append(&mut packets);
+        if !lines.is_empty() {
+            self.lines.push_reserved(lines);
+        }
+    }
+
+    // Takes what a step has to send, unless it ran out of memory. Takes no memory.
+    fn put_report(&mut self, report: Report) -> Result<(), NoMemory>
+        requires few { length report.packets ≤ most_texts }
+        requires packets_room { vec_len self.old.packets + most_texts ≤ vec_capacity self.old.packets }
+        requires lines_room { vec_len self.old.lines < vec_capacity self.old.lines }
+        ensures made { OnOk result (report.end ≢ ends_no_memory) }
+        ensures packets { OnOk result (self.new.packets.items ≡ self.old.packets.items ++ report.packets) }
+        ensures text { OnOk result
+            (flat_map text_of self.new.lines.items ≡ flat_map text_of self.old.lines.items ++ text_of report.lines) }
+        ensures not_made { OnErr result (report.end ≡ ends_no_memory) }
+        ensures same { OnErr result (self.new ≡ self.old) }
+    {
+        match report.end {
+            End::NoMemory => Err(NoMemory),
+            End::Done | End::Refused(_) => {
+                self.put(report.packets, report.lines);
+                Ok(())
+            }
+        }
+    }
+}
+
+// Makes a step of a line. Out of memory the bot is as it was.
+fn step_line<P: Promise, B: Run>(
+    alloc: Global,
+    bot: &mut Bot,
+    store: &ProcStore<P, B>,
+    line: &Line,
+    outbox: &mut Outbox,
+) -> Result<(), NoMemory>
+    ensures ok { OnOk result (Makes P.code_of P.may store.now (course_of bot.old outbox.old) (line_event line.now ∷ [])
+        (course_of bot.new outbox.new)) }
+    ensures err { OnErr result (course_of bot.new outbox.new ≡ course_of bot.old outbox.old) }
+{
+    outbox.make_room()?;
+    let report = bot.take_line(alloc, store, line);
+    outbox.put_report(report)
+}
+
+// Makes a step of a reading of the clock. Out of memory the bot is as it was.
+pub(crate) fn step_clock<P: Promise, B: Run>(
+    alloc: Global,
+    bot: &mut Bot,
+    store: &ProcStore<P, B>,
+    now: u64,
+    outbox: &mut Outbox,
+) -> Result<(), NoMemory>
+    ensures ok { OnOk result (Makes P.code_of P.may store.now (course_of bot.old outbox.old) (clock_event now ∷ [])
+        (course_of bot.new outbox.new)) }
+    ensures err { OnErr result (course_of bot.new outbox.new ≡ course_of bot.old outbox.old) }
+{
+    outbox.make_room()?;
+    let report = bot.read_clock(alloc, store, now);
+    outbox.put_report(report)
+}
+
+// Makes a step of each line, in order. Out of memory the first of them are made.
+pub(crate) fn step_lines<P: Promise, B: Run>(
+    alloc: Global,
+    bot: &mut Bot,
+    store: &ProcStore<P, B>,
+    lines: &[Line],
+    outbox: &mut Outbox,
+) -> Result<(), NoMemory>
+    ensures ok { OnOk result (Makes P.code_of P.may store.now (course_of bot.old outbox.old) (line_events lines.now)
+        (course_of bot.new outbox.new)) }
+    ensures err { OnErr result (MakesFirst P.code_of P.may store.now (course_of bot.old outbox.old)
+        (line_events lines.now) (course_of bot.new outbox.new)) }
+{
+    for line in lines {
+        step_line(alloc, bot, store, line, outbox)?;
+    }
+    Ok(())
+}
