@@ -10,22 +10,44 @@ use Rattle.botcore.proofs.bot.Bot.receive.Goals as goal
 pub returns-in-Ok-clause-takes : goal.returns-in-Ok-clause-takes
 returns-in-Ok-clause-takes g c =
     let old : Bot
-    = record { config = c.self.inside.config; link = c.self.inside.link; binds = c.self.inside.binds; channels = c.self.inside.channels; clock = c.self.inside.clock; timers = c.self.inside.timers; queues = c.self.inside.queues; welcomed = c.self.inside.welcomed } in
+    = record {
+      config = c.self.inside.config;
+      link = c.self.inside.link;
+      binds = c.self.inside.binds;
+      channels = c.self.inside.channels;
+      clock = c.self.inside.clock;
+      timers = c.self.inside.timers;
+      queues = c.self.inside.queues;
+      welcomed = c.self.inside.welcomed;
+    } in
     let row = c.in-Ok.ensures.row in
     subst
-    (λ (b : Bot). TakesPacket (saying_of (link_received b.link c.args.packet.now).answer) g.P.Promise.code_of g.P.Promise.may c.args.store.now b c.args.packet.now
+    (λ (b : Bot).
+    TakesPacket (saying_of (link_received b.link c.args.packet.now).answer) g.P.Promise.code_of g.P.Promise.may c.args.store.now
+    b c.args.packet.now
     c.take_answer.result c.take_answer.new.self) c.self.view_is
-    (answered g.P.Promise.code_of g.P.Promise.may c.args.store.now old (record old { link = c.receive.new.self }) c.take_answer.new.self c.args.packet.now
-    c.in-Ok.answer c.take_answer.result row.0 (ap (λ (l : Link). record old { link = l }) row.1) c.take_answer.ensures.text c.take_answer.ensures.report
-    c.take_answer.ensures.same)
+    (answered g.P.Promise.code_of g.P.Promise.may c.args.store.now old (record old { link = c.receive.new.self })
+    c.take_answer.new.self c.args.packet.now c.in-Ok.answer c.take_answer.result row.0
+    (ap (λ (l : Link). record old { link = l }) row.1) c.take_answer.ensures.text c.take_answer.ensures.report c.take_answer.ensures.same)
 
 pub returns-in-Err-clause-takes : goal.returns-in-Err-clause-takes
 returns-in-Err-clause-takes g c =
     let old : Bot
-    = record { config = c.self.inside.config; link = c.self.inside.link; binds = c.self.inside.binds; channels = c.self.inside.channels; clock = c.self.inside.clock; timers = c.self.inside.timers; queues = c.self.inside.queues; welcomed = c.self.inside.welcomed } in
+    = record {
+      config = c.self.inside.config;
+      link = c.self.inside.link;
+      binds = c.self.inside.binds;
+      channels = c.self.inside.channels;
+      clock = c.self.inside.clock;
+      timers = c.self.inside.timers;
+      queues = c.self.inside.queues;
+      welcomed = c.self.inside.welcomed;
+    } in
     let new : Bot = record old { link = c.receive.new.self } in
     subst
-    (λ (b : Bot). TakesPacket (saying_of (link_received b.link c.args.packet.now).answer) g.P.Promise.code_of g.P.Promise.may c.args.store.now b c.args.packet.now
+    (λ (b : Bot).
+    TakesPacket (saying_of (link_received b.link c.args.packet.now).answer) g.P.Promise.code_of g.P.Promise.may c.args.store.now
+    b c.args.packet.now
     c.of_answer.result new) c.self.view_is
     (failed g.P.Promise.code_of g.P.Promise.may c.args.store.now old new c.receive.new.self c.args.packet.now c.in-Err.why c.of_answer.result
     c.in-Err.ensures.row refl c.of_answer.ensures)
