@@ -1,9 +1,9 @@
 use Rattle.std.proofs.Common.{ap}
 use Rattle.std.specs.List.{flat_map}
-use Rattle.botcore.specs.Driving.{text_of}
-use Rattle.botcore.specs.Outboxes.{course_of}
-use Rattle.botcore.proofs.DrivingLemmas.{Makes-if}
-use Rattle.botcore.proofs.outbox.step_line.Goals as goal
+use Rattle.botdrive.specs.Driving.{text_of}
+use Rattle.botdrive.specs.Outboxes.{course_of}
+use Rattle.botdrive.proofs.DrivingLemmas.{Makes-if}
+use Rattle.botdrive.proofs.outbox.step_line.Goals as goal
 
 pub returns-clause-ok : goal.returns-clause-ok
 returns-clause-ok g c =

@@ -1,6 +1,6 @@
-use Rattle.botcore.specs.Outboxes.{course_of}
-use Rattle.botcore.proofs.DrivingLemmas.{Makes-none, Makes-next, MakesFirst-at, OnErr-of}
-use Rattle.botcore.proofs.outbox.step_lines.Goals as goal
+use Rattle.botdrive.specs.Outboxes.{course_of}
+use Rattle.botdrive.proofs.DrivingLemmas.{Makes-none, Makes-next, MakesFirst-at, OnErr-of}
+use Rattle.botdrive.proofs.outbox.step_lines.Goals as goal
 
 pub loop-line-init : goal.loop-line-init
 loop-line-init g c = Makes-none g.P.Promise.code_of g.P.Promise.may c.args.store.now (course_of c.args.bot.now c.args.outbox.now)

@@ -1,7 +1,7 @@
 use Rattle.std.proofs.Common.{take}
-use Rattle.botcore.specs.Driving.{Makes, line_events}
-use Rattle.botcore.specs.Outboxes.{course_of}
-use Rattle.botcore.proofs.outbox.step_lines.Given as goal
+use Rattle.botdrive.specs.Driving.{Makes, line_events}
+use Rattle.botdrive.specs.Outboxes.{course_of}
+use Rattle.botdrive.proofs.outbox.step_lines.Given as goal
 
 -- the lines so far are stepped
 abbrev pub invariant-loop-line : goal.invariant-loop-line

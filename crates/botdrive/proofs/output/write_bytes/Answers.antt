@@ -1,5 +1,5 @@
-use Rattle.botcore.proofs.OutputLemmas.{IsWritten-more}
-use Rattle.botcore.proofs.output.write_bytes.Goals as goal
+use Rattle.botdrive.proofs.OutputLemmas.{IsWritten-more}
+use Rattle.botdrive.proofs.output.write_bytes.Goals as goal
 
 pub loop-turn-preserved : goal.loop-turn-preserved
 loop-turn-preserved g c =

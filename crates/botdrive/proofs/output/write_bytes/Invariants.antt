@@ -1,5 +1,5 @@
-use Rattle.botcore.proofs.OutputLemmas.{IsWritten}
-use Rattle.botcore.proofs.output.write_bytes.Given as goal
+use Rattle.botdrive.proofs.OutputLemmas.{IsWritten}
+use Rattle.botdrive.proofs.output.write_bytes.Given as goal
 
 -- all but the rest is written
 abbrev pub invariant-loop-turn : goal.invariant-loop-turn

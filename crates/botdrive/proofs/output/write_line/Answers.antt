@@ -1,7 +1,7 @@
 use Rattle.std.proofs.Common.{◌++◌, ◌∷◌, []}
-use Rattle.botcore.specs.Driving.{AppendsFront}
-use Rattle.botcore.proofs.OutputLemmas.{AppendsFront-more, AppendsFront-then, IfErr-means}
-use Rattle.botcore.proofs.output.write_line.Goals as goal
+use Rattle.botdrive.specs.Driving.{AppendsFront}
+use Rattle.botdrive.proofs.OutputLemmas.{AppendsFront-more, AppendsFront-then, IfErr-means}
+use Rattle.botdrive.proofs.output.write_line.Goals as goal
 
 pub returns-in-Ok-clause-err : goal.returns-in-Ok-clause-err
 returns-in-Ok-clause-err g c =

@@ -1,6 +1,6 @@
 use Rattle.std.proofs.Common.{◌∙◌, ◌++◌, ◌∷◌, []}
-use Rattle.botcore.proofs.OutputLemmas.{AppendsFront-next}
-use Rattle.botcore.proofs.output.write_lines.Goals as goal
+use Rattle.botdrive.proofs.OutputLemmas.{AppendsFront-next}
+use Rattle.botdrive.proofs.output.write_lines.Goals as goal
 
 pub returns-in-Err-clause-err : goal.returns-in-Err-clause-err
 returns-in-Err-clause-err g c = (

@@ -1,7 +1,7 @@
 use Rattle.std.proofs.Common.{take}
 use Rattle.std.specs.Io.KnownBytes.{Appends}
-use Rattle.botcore.specs.Driving.{text_of}
-use Rattle.botcore.proofs.output.write_lines.Given as goal
+use Rattle.botdrive.specs.Driving.{text_of}
+use Rattle.botdrive.proofs.output.write_lines.Given as goal
 
 -- the lines so far are written
 abbrev pub invariant-loop-line : goal.invariant-loop-line

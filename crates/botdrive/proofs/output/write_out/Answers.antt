@@ -1,7 +1,7 @@
 use Rattle.std.proofs.Common.{◌∙◌}
-use Rattle.botcore.specs.Driving.{text_of}
-use Rattle.botcore.proofs.OutputLemmas.{AppendsFront-next}
-use Rattle.botcore.proofs.output.write_out.Goals as goal
+use Rattle.botdrive.specs.Driving.{text_of}
+use Rattle.botdrive.proofs.OutputLemmas.{AppendsFront-next}
+use Rattle.botdrive.proofs.output.write_out.Goals as goal
 
 pub returns-in-Err-clause-err : goal.returns-in-Err-clause-err
 returns-in-Err-clause-err g c = (

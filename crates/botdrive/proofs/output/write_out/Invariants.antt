@@ -1,8 +1,8 @@
 use Rattle.std.proofs.Common.{take}
 use Rattle.std.specs.Io.KnownBytes.{Appends}
 use Rattle.std.specs.List.{flat_map}
-use Rattle.botcore.specs.Driving.{text_of}
-use Rattle.botcore.proofs.output.write_out.Given as goal
+use Rattle.botdrive.specs.Driving.{text_of}
+use Rattle.botdrive.proofs.output.write_out.Given as goal
 
 -- the lists so far are written
 abbrev pub invariant-loop-lines : goal.invariant-loop-lines
