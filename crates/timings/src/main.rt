@@ -8,6 +8,7 @@
 //! | `channels` | 100,000 lines on 200 channels of 1,000 people; 8,000 who quit and come back; 10,000 QUITs' events |
 //! | `timers` | 200 timers over ten minutes, and 500 cron masks over a day |
 //! | `lines` | a stream of about 10 MB, to its lines |
+//! | `drive` | a bot that is driven over streams: empty lines, PINGs, JOINs of somebody banned, and 10 MB said on a channel, with one bind and with 50 |
 //! | `frames` | three packets, each written 100,000 times, and the stream of these frames, which is read |
 //! | `journal FILE FILE` | 1,000 appends to a journal in these files; 100,000 to one in memory, which is opened again |
 //! | `all` | each of these, but for a journal in files |
@@ -21,8 +22,11 @@
 #![tactic(auto)]
 
 mod binds;
+mod bots;
 mod channels;
+mod connections;
 mod crowd;
+mod driving;
 mod frames;
 mod journals;
 mod lines;
@@ -30,6 +34,7 @@ mod masks;
 mod minutes;
 mod netsplit;
 mod persons;
+mod quiet;
 mod quits;
 mod report;
 mod sizes;
@@ -75,19 +80,21 @@ enum Part {
     Channels,
     Timers,
     Lines,
+    Drive,
     Frames,
     Journal,
     All,
     Small,
 }
 
-const PARTS: [(&[u8], Part); 10] = [
+const PARTS: [(&[u8], Part); 11] = [
     (b"persons", Part::Persons),
     (b"masks", Part::Masks),
     (b"binds", Part::Binds),
     (b"channels", Part::Channels),
     (b"timers", Part::Timers),
     (b"lines", Part::Lines),
+    (b"drive", Part::Drive),
     (b"frames", Part::Frames),
     (b"journal", Part::Journal),
     (b"all", Part::All),
@@ -109,6 +116,7 @@ where
         Part::Channels => channels::measure(rt, &FULL),
         Part::Timers => timers::measure(rt),
         Part::Lines => lines::measure(rt, &FULL),
+        Part::Drive => driving::measure(rt, &FULL),
         Part::Frames => frames::measure(rt, &FULL),
         Part::Journal => both_journals(rt),
         Part::All => all(rt, &FULL),
@@ -124,6 +132,7 @@ fn all<R: AllocGlobal + Clock + Eprint>(rt: &R, sizes: &Sizes) -> Result<(), Sto
     channels::measure(rt, sizes)?;
     timers::measure(rt)?;
     lines::measure(rt, sizes)?;
+    driving::measure(rt, sizes)?;
     frames::measure(rt, sizes)?;
     journals::measure(rt, sizes)
 }
