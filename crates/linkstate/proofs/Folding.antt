@@ -1,5 +1,5 @@
 -- Entries folded in, and an end on a base alone.
-use Rattle.std.proofs.Common.{◌≡◌, ◌<◌, ℕ, ◌+◌, nat_le, Bool, true, false, if◌then◌else◌, List, [], ◌∷◌, ◌++◌, length, drop, get_or, Option, None, Some, Err, refl, ap, sym, subst, ◌∙◌, eq-eqb}
+use Rattle.std.proofs.Common.{◌≡◌, ◌<◌, ℕ, ◌+◌, Bool, true, false, if◌then◌else◌, List, [], ◌∷◌, ◌++◌, length, drop, get_or, Option, None, Some, Err, refl, ap, sym, subst, ◌∙◌, eq-eqb}
 use Rattle.std.specs.List.{list_all}
 use Rattle.std.specs.Option.{option_map}
 use Rattle.bytetext.specs.declared.failure.Failure.{Failure}
@@ -15,7 +15,7 @@ use Rattle.protocol.specs.Snapshots.{records_from}
 use Rattle.botjournal.specs.declared.reply.Answer.TheVariants.{Taken, Refused as refused_request}
 use Rattle.protocol.specs.Packets.{AcceptedChange}
 use Rattle.protocol.specs.HubRules.{HubState, Accept, Settle, version_of, with_reply, hub_folded}
-use Rattle.protocol.specs.Journals.{read_next, reads, stand_together, record_if, replies_of, hub_of, is_hub_base, hub_record, hub_meaning, leaf_of, is_leaf_base, leaf_record, leaf_meaning}
+use Rattle.protocol.specs.Journals.{read_next, reads, stand_together, record_if, replies_of, hub_of, is_to_leaf, is_hub_base, hub_record, hub_meaning, leaf_of, is_leaf_base, leaf_record, leaf_meaning}
 use Rattle.protocol.specs.LeafRules.{LeafState, leaf_folded}
 use Rattle.userfile.specs.declared.change.Change.{Change}
 use Rattle.protocol.specs.Network.{new_hub}
@@ -41,7 +41,7 @@ sound-is items held e = by (stand_together (records_from items)) refl e
 -- a hub on a base
 pub hub_on-is : (leaves generation : ℕ) (base : Base) (tail : List AcceptedChange) (held : Records) (replies : List (Option Reply))
     → base.bot ≡ 0 → tail ≡ []
-    → list_all (λ reply. nat_le reply.leaf leaves) base.replies ≡ true → sound_records base.records ≡ Some held
+    → list_all (is_to_leaf leaves) base.replies ≡ true → sound_records base.records ≡ Some held
     → replies ≡ replies_of 1 leaves base.replies
     → hub_on leaves generation base ≡ Some (record { floor = base.version; tail = tail; records = held; replies = replies; generation = generation })
 hub_on-is leaves generation base tail held replies bot empty within sound placed =

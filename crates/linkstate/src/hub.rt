@@ -258,14 +258,16 @@ impl HubState {
     }
 }
 
-ghost use Rattle.std.specs.Prelude.{nat_le};
 ghost use Rattle.std.specs.List.{list_all};
+ghost use Rattle.protocol.specs.Journals.{is_to_leaf};
 
 // Whether each reply is to one of so many leaves.
 fn are_within(replies: &[Reply], leaves: u16) -> bool
-    ensures { result ≡ list_all (λ reply. nat_le reply.leaf leaves) replies.now }
+    ensures { result ≡ list_all (is_to_leaf leaves) replies.now }
 {
-    replies.iter().all(|reply| reply.leaf <= leaves)
+    replies
+        .iter()
+        .all(|reply| 0 < reply.leaf && reply.leaf <= leaves)
 }
 
 // Makes a change that isn't refused, and puts it after the others.

@@ -1,5 +1,5 @@
 -- What a link writes into its journal reads as the state that the link then has.
-use Rattle.std.proofs.Common.{◌≡◌, ◌<◌, ◌≤◌, ℕ, zero, suc, ◌+◌, ◌==◌, nat_le, Bool, true, false, if◌then◌else◌, List, [], ◌∷◌, ◌++◌, length, slice_get, length-set, Option, None, Some, is_none, is_some, refl, ap, sym, ◌∙◌, arith, eq-eqb}
+use Rattle.std.proofs.Common.{◌≡◌, ◌<◌, ◌≤◌, ℕ, zero, suc, ◌+◌, ◌==◌, nat_le, nat_lt, Bool, true, false, if◌then◌else◌, List, [], ◌∷◌, ◌++◌, length, slice_get, length-set, Option, None, Some, is_none, is_some, refl, ap, sym, ◌∙◌, arith, eq-eqb}
 use Rattle.std.proofs.lemmas.Bool.{ne_eqb}
 use Rattle.std.proofs.lemmas.Bool.Decides.{nat_tests}
 use Rattle.std.specs.List.{list_all}
@@ -17,7 +17,7 @@ use Rattle.protocol.specs.Numbers.{item_at}
 use Rattle.protocol.specs.Snapshots.{items_of, records_from}
 use Rattle.protocol.specs.HubRules.{HubState, HubRecord, Accept, Settle, Rebase, last_request, next_number, with_reply, hub_folded}
 use Rattle.protocol.specs.LeafRules.{LeafState, LeafRecord, Apply, Out, Done, Install, Compact, leaf_folded}
-use Rattle.protocol.specs.Journals.{read_next, reads, stand_together, reply_among, replies_of, replies_in, hub_of, hub_base, is_hub_base, is_next_of, hub_record, hub_meaning, hub_written, HubMay, IsHubState, leaf_of, leaf_base, is_leaf_base, leaf_record, leaf_meaning, leaf_written, LeafMay}
+use Rattle.protocol.specs.Journals.{read_next, reads, stand_together, reply_among, replies_of, replies_in, hub_of, hub_base, is_to_leaf, is_hub_base, is_next_of, hub_record, hub_meaning, hub_written, HubMay, IsHubState, leaf_of, leaf_base, is_leaf_base, leaf_record, leaf_meaning, leaf_written, LeafMay}
 use Rattle.protocol.proofs.Lists.{set-elim}
 use Rattle.protocol.proofs.Snapshots.{records_from-items}
 
@@ -102,16 +102,18 @@ replies_back first (Some reply ∷ held) placed =
 -- ---- the hub
 
 -- each reply is to a leaf that has a place
-all_within : (first : ℕ) (held : List (Option Reply)) (leaves : ℕ) → ArePlaced first held → first + length held ≤ leaves + 1
-    → list_all (λ (reply : Reply). nat_le reply.leaf leaves) (replies_in held) ≡ true
-all_within first [] leaves placed few = refl
-all_within first (None ∷ held) leaves placed few =
-    all_within (first + 1) held leaves (placed-rest first None held placed) (omega (arith, few))
-all_within first (Some reply ∷ held) leaves placed few =
+all_within : (first : ℕ) (held : List (Option Reply)) (leaves : ℕ) → 0 < first → ArePlaced first held
+    → first + length held ≤ leaves + 1 → list_all (is_to_leaf leaves) (replies_in held) ≡ true
+all_within first [] leaves from placed few = refl
+all_within first (None ∷ held) leaves from placed few =
+    all_within (first + 1) held leaves (omega arith) (placed-rest first None held placed) (omega (arith, few))
+all_within first (Some reply ∷ held) leaves from placed few =
+    let above : 0 < reply.leaf = omega (arith, placed 0 reply refl, from) in
     let below : reply.leaf ≤ leaves = omega (arith, placed 0 reply refl, few) in
-    let rest = all_within (first + 1) held leaves (placed-rest first (Some reply) held placed) (omega (arith, few)) in
+    let rest = all_within (first + 1) held leaves (omega arith) (placed-rest first (Some reply) held placed) (omega (arith, few)) in
+    let is_one : nat_lt 0 reply.leaf ≡ true = grind (arith, nat_tests, above) in
     let within : nat_le reply.leaf leaves ≡ true = grind (arith, nat_tests, below) in
-    rw within rest
+    rw (is_one, within) rest
 
 pub hub_reads_back : (leaves : ℕ) (contents : Contents) (hub : HubState) (rec : HubRecord)
     → hub_meaning leaves contents ≡ Some hub → hub.generation ≡ contents.generation
@@ -144,7 +146,7 @@ hub_reads_back leaves contents hub rec means generation is may = by (is_hub_base
         placed place reply at = omega (arith, is.placed place reply at)
 
         good : is_hub_base leaves (hub_base hub) ≡ true
-        good = rw (all_within 1 hub.replies leaves placed (omega (arith, is.places))) (together_back hub.records is.records)
+        good = rw (all_within 1 hub.replies leaves (omega arith) placed (omega (arith, is.places))) (together_back hub.records is.records)
 
         back : replies_of 1 leaves (replies_in hub.replies) ≡ hub.replies
         back = ap (λ n. replies_of 1 n (replies_in hub.replies)) (sym is.places) ∙ replies_back 1 hub.replies placed

@@ -71,10 +71,14 @@ hub_base hub = record {
   out = None;
 }
 
+-- the reply is to one of so many leaves, which are numbered from 1 on
+abbrev pub is_to_leaf : ℕ → Reply → Bool
+is_to_leaf leaves reply = nat_lt 0 reply.leaf && nat_le reply.leaf leaves
+
 -- the base is a hub's with no more than so many leaves
 abbrev pub is_hub_base : ℕ → Base → Bool
 is_hub_base leaves base =
-    (base.bot == 0) && (list_all (λ reply. nat_le reply.leaf leaves) base.replies && stand_together (records_from base.records))
+    (base.bot == 0) && (list_all (is_to_leaf leaves) base.replies && stand_together (records_from base.records))
 
 -- the request is the leaf's next one, of a leaf that has a place
 abbrev pub is_next_of : Option (Option Reply) → ℕ → Bool
