@@ -145,7 +145,7 @@ Applies old change (Ok _) new = (refusal old change ≡ None) × (new ≡ change
 Applies old change (Err (Refused fault)) new = (refusal old change ≡ Some fault) × (new ≡ old)
 Applies old change (Err NoMemory) new = (refusal old change ≡ None) × (new ≡ old)
 
--- whether a change adds something, for which memory is asked
+-- whether a change is one that memory is asked for: it adds a user, a hostmask or a ban, or sets flags on a channel
 abbrev pub grows : Change → Bool
 grows (AddUser handle) = true
 grows (DelUser handle) = false

@@ -25,8 +25,8 @@ impl Userfile {
     /// Takes all memory that a change needs, before anything that is seen changes.
     ///
     /// # Errors
-    /// `Refused` with the first fault that holds, or `NoMemory`, only for a change that adds something; both leave the
-    /// userfile as it was.
+    /// `Refused` with the first fault that holds, or `NoMemory`, only for a change that adds a user, a hostmask or a ban,
+    /// or that sets flags on a channel. Both leave the userfile as it was.
     pub fn ready<'a, 'c>(
         &'a mut self,
         alloc: Global,
@@ -61,8 +61,9 @@ impl Update<'_, '_, Plan> {
         userfile.settle(change, plan);
     }
 
-    /// Gives the change up: the records are as before it was made ready. Takes no memory. Where a hostmask was to be
-    /// added, the look-up index is gone through.
+    /// Gives the change up: the records are as before it was made ready. Takes no memory. A user, a hostmask or a ban that
+    /// was to be added is looked up among the others and taken out again; for a user or a hostmask the look-up index is
+    /// gone through too.
     pub fn cancel(self)
         requires { IsSuited self }
         ensures { self.exit.0.now ≡ records_before self.entry }
