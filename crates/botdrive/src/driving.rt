@@ -23,7 +23,8 @@ pub enum DriveEnd {
     Done,
     /// The reader answered a fault. The lines before it are stepped; the clock is not read, and nothing is written.
     Read,
-    /// The writer answered a fault, or took nothing. All steps are made, and a front of what the bot says is written.
+    /// The writer answered a fault, or took nothing. All steps are made, and a front of what the bot says is written: all
+    /// of it where only the flush failed.
     Write,
     /// A growth was refused. The steps before it stand, and nothing is written.
     NoMemory,
@@ -41,9 +42,13 @@ pub struct DriveReport {
 /// Drives a bot over a connection to a server: takes in what has come, reads the clock, and writes what the bot says.
 ///
 /// The reader is read until it is at its end or would block, at most 1,000 times for 4,096 bytes each. Each line that
-/// this ends, after what `lines` holds of it, is one step of the bot, in order. Then the reading `now` is one. The lines
-/// that these steps say are written, each with CR and LF, and the writer is flushed. An interrupted read or write is made
-/// again. The writer gets a line's bytes and its end apart: hand in a `BufWriter` where that matters.
+/// this ends, after what `lines` holds of it, is one step of the bot, in order. Then the reading `now` is one: it is a
+/// moment, so before [`MOMENTS_END`](bytetext::MOMENTS_END). The lines that these steps say are written, each with CR and
+/// LF, and the writer is flushed, even where they say nothing. The writer gets a line's bytes and its end apart: hand in a
+/// `BufWriter` where that matters.
+///
+/// An interrupted write is made again, and so is an interrupted read, which counts among the 1,000: the last of them is not
+/// made again. Nor is a flush: one that is interrupted ends the drive as `Write`, though all is written.
 ///
 /// After `Done` the next drive goes on where this one ended. After each other end, connect again: with a new
 /// [`LineReader`], and the bot by [`Event::Connect`](botcore::Event::Connect).
@@ -72,7 +77,7 @@ pub fn drive<P: Promise, B: Run, R: Read, W: Write>(
 }
 
 /// Drives a bot over bytes that are all there, of which the first are taken: it ends `Done` only where none is left, or
-/// 1,000 or more were taken, and never `Read`. Otherwise as [`drive`].
+/// 1,000 or more were taken, and never `Read`. Otherwise as [`drive`], for the moment `now` too.
 pub fn drive_bytes<P: Promise, B: Run, W: Write>(
     alloc: Global,
     bot: &mut Bot,
