@@ -1,0 +1,58 @@
+// What a call of a link answers.
+ghost use Rattle.std.specs.Prelude.{◌≡◌, []};
+
+use crate::note::Note;
+use bytetext::{NoMemory, Seq, TryCopy};
+use sharewire::Packet;
+use std::alloc::Global;
+
+/// A packet and the bot that it goes to.
+#[derive(Drop)]
+pub struct Outgoing {
+    /// The addressee's number.
+    pub to: u16,
+    /// What is sent.
+    pub packet: Packet,
+}
+
+impl TryCopy for Outgoing {
+    fn copy(&self, alloc: Global) -> Result<Outgoing, NoMemory> {
+        Ok(Outgoing {
+            to: self.to,
+            packet: self.packet.copy(alloc)?,
+        })
+    }
+}
+
+/// Packets to send, in order.
+pub type Outgoings = Seq<Outgoing>;
+
+/// What a call answers: what came of it, and what is to be sent.
+#[derive(Drop)]
+pub struct Answer {
+    /// What came of the call.
+    pub note: Note,
+    /// The packets to send, in order.
+    pub packets: Outgoings,
+}
+
+impl Answer {
+    /// A note and nothing to send. Takes no memory.
+    pub fn only(alloc: Global, note: Note) -> Answer
+        ensures { result ≡ record { note = note; packets = [] } }
+    {
+        Answer {
+            note,
+            packets: Seq::empty(alloc),
+        }
+    }
+}
+
+impl TryCopy for Answer {
+    fn copy(&self, alloc: Global) -> Result<Answer, NoMemory> {
+        Ok(Answer {
+            note: self.note.copy(alloc)?,
+            packets: self.packets.copy(alloc)?,
+        })
+    }
+}
