@@ -177,6 +177,17 @@ impl<D: Disk> Ledger<D> {
         }
     }
 
+    /// The journal's generation: 1 at first, and one more with each base that is put in place. Where the ledger is down
+    /// nothing is said of the answer.
+    pub fn generation(&self) -> u32
+        ensures { self.now.account.down ≡ false → result ≡ self.now.account.contents.generation }
+    {
+        match &self.store {
+            Store::Open(journal) => journal.generation(),
+            Store::Shut(_) | Store::InHand => 0,
+        }
+    }
+
     /// Crashes both disks, as where the program that used them ended, and opens what that left. A ledger that is down is
     /// up again at `Ok`, and nothing is in doubt any more.
     ///

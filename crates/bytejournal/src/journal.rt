@@ -106,4 +106,12 @@ impl<D: Disk> Journal<D> {
     {
         self.generation == u32::MAX
     }
+
+    /// The active disk's generation: 1 in a new journal, and one more with each base that is put in place. After a fault
+    /// nothing is said of the answer.
+    pub fn generation(&self) -> u32
+        ensures { result ≡ self.now.generation }
+    {
+        self.generation
+    }
 }
