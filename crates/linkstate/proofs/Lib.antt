@@ -1,3 +1,4 @@
 pub mod Lists
 pub mod Folding
 pub mod Goodness
+mod LeafGoodness

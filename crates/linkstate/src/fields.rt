@@ -1,13 +1,15 @@
 // What the types of records say of their fields: masks are hostmasks, flags are letters, a moment has eight bytes. These
 // calls change nothing; who writes records down makes them for their clauses.
-ghost use Rattle.std.specs.Prelude.{◌≡◌, ◌^◌, true, nat_lt};
+ghost use Rattle.std.specs.Prelude.{◌≡◌, ◌^◌, true, nat_lt, None};
 ghost use Rattle.std.specs.List.{AllByRecursion, list_all};
 ghost use Rattle.userfile.specs.Shapes.{is_hostmask};
 ghost use Rattle.usercodec.specs.declared.records.Record.TheVariants.{User as a_user, Ban as a_ban};
+ghost use Rattle.userfile.specs.Apply.{bad_shape};
+ghost use Rattle.usercodec.specs.Changes.{IsGoodChange};
 ghost use Rattle.usercodec.specs.Records.{HasFields};
 
 use usercodec::Record;
-use userfile::{Ban, ChannelFlags, Hostmask, User};
+use userfile::{Ban, Change, ChannelFlags, Hostmask, User};
 
 pub(crate) fn know_records(items: &[Record])
     ensures { AllByRecursion HasFields items.now }
@@ -66,6 +68,28 @@ fn know_entries(entries: &[ChannelFlags])
         [entry, rest @ ..] => {
             let _ = entry.flags.bits();
             know_entries(rest);
+        }
+    }
+}
+
+/// What holds of a change of good shape: it has a spelling. There is nothing to run.
+pub fn know_change(change: &Change)
+    requires { bad_shape change.now ≡ None }
+    ensures { IsGoodChange change.now }
+{
+    match change {
+        Change::AddUser { .. }
+        | Change::DelUser { .. }
+        | Change::AddHost { .. }
+        | Change::DelHost { .. }
+        | Change::DelBan { .. } => {}
+        Change::SetGlobal { flags, .. }
+        | Change::SetChan { flags, .. }
+        | Change::SetBot { flags, .. } => {
+            let _ = flags.bits();
+        }
+        Change::AddBan { expires, .. } => {
+            let _expires = *expires;
         }
     }
 }

@@ -2,11 +2,14 @@
 ghost use Rattle.std.specs.Prelude.{◌≡◌, IfOk};
 
 use crate::fault::{StateError, StateFault};
+use crate::fields::know_change;
+use crate::journaled::change_journaled;
 use crate::records::{items_of, userfile_of};
-use botjournal::{Base, Entry};
+use botjournal::{Base, Entry, Ledger, LedgerError};
 use bytetext::{Failure, NoMemory, Seq, TryCopy};
 use std::alloc::Global;
 use std::marker::Model;
+use storage::Disk;
 use usercodec::Record;
 use userfile::{Change, Userfile};
 
@@ -36,14 +39,17 @@ impl Model for LeafState {
 }
 
 impl LeafState {
-    ghost use Rattle.std.specs.Prelude.{◌≡◌, ◌≢◌, ◌<◌, ℕ, ◌+◌, ◌==◌, ◌&&◌, true, nat_lt, is_none, is_some, Err, IfOk};
+    ghost use Rattle.std.specs.Prelude.{◌≡◌, ◌≢◌, ◌<◌, ℕ, ◌+◌, ◌==◌, ◌&&◌, true, false, nat_lt, is_none, is_some, None, Err, IfOk, OnOk, OnErr};
     ghost use Rattle.std.specs.Option.{option_copied};
     ghost use Rattle.bytetext.specs.declared.failure.Failure.TheVariants.{NoMemory as no_memory};
     ghost use Rattle.userfile.specs.Apply.{refusal, grows};
+    ghost use Rattle.std.specs.List.{AllByRecursion};
     ghost use Rattle.botjournal.specs.Bases.{IsGoodBase, IsGoodOut};
+    ghost use Rattle.botjournal.specs.Entries.{IsGoodEntry};
+    ghost use Rattle.botjournal.specs.Ledger.{Appends};
     ghost use Rattle.botjournal.specs.declared.entry.Entry.TheVariants.{Applied, ReqOut, ReqDone};
     ghost use Rattle.protocol.specs.Numbers.{last_number};
-    ghost use Rattle.protocol.specs.LeafRules.{leaf_folded};
+    ghost use Rattle.protocol.specs.LeafRules.{Apply, Out, Done, Install, Compact, leaf_folded};
     ghost use Rattle.protocol.specs.Network.{new_leaf};
     ghost use Rattle.protocol.specs.Journals.{leaf_of, leaf_base, leaf_record, leaf_meaning};
     ghost use Rattle.linkstate.specs.States.{Reads, Takes, TakesAll, leaf_on, empty_base, wants_room};
@@ -76,7 +82,8 @@ impl LeafState {
         entries: &[Entry],
     ) -> Result<LeafState, StateError>
         requires good { IsGoodBase base.now }
-        ensures { Reads (leaf_meaning number (record { generation = generation; base = base.now; entries = entries.now })) result }
+        ensures reads { Reads (leaf_meaning number (record { generation = generation; base = base.now; entries = entries.now })) result }
+        ensures good { IfOk result (λ leaf. AllByRecursion IsGoodEntry entries.now → IsGoodOut leaf.out) }
     {
         let mut leaf = LeafState::on_base(alloc, number, generation, base)?;
         match leaf.take_all(alloc, entries) {
@@ -231,6 +238,74 @@ impl LeafState {
         ensures { result ≡ (is_some self.now.out && (request == self.now.last)) }
     {
         self.out.is_some() && request == self.last
+    }
+
+    /// Applies the hub's next change, which goes into the journal first. All memory is taken before that.
+    ///
+    /// # Errors
+    /// What [`Ledger::append`] is refused for, and `NoMemory` for what else the change takes; all leave the state as it
+    /// was.
+    pub fn apply_next<D: Disk>(
+        &mut self,
+        alloc: Global,
+        ledger: &mut Ledger<D>,
+        change: &Change,
+    ) -> Result<(), LedgerError>
+        requires up { ledger.old.account.down ≡ false }
+        requires numbered { nat_lt self.old.version last_number ≡ true }
+        requires taken { refusal self.old.records change.now ≡ None }
+        ensures row { Appends ledger.old (Applied (self.old.version + 1) change.now) result ledger.new }
+        ensures applies { OnOk result (self.new ≡ leaf_folded self.old (Apply change.now)) }
+        ensures stays { OnErr result (self.new ≡ self.old) }
+    {
+        know_change(change);
+        let number = self.version + 1;
+        let entry = Entry::Applied {
+            number,
+            change: change.copy(alloc)?,
+        };
+        match change_journaled(alloc, &mut self.userfile, ledger, change, &entry) {
+            Ok(()) => {
+                self.version = number;
+                Ok(())
+            }
+            Err(error) => Err(error),
+        }
+    }
+
+    /// Lets a change be out under the next request number. Takes no memory.
+    pub fn put_out(&mut self, change: Change)
+        requires numbered { nat_lt self.old.last last_number ≡ true }
+        ensures { self.new ≡ leaf_folded self.old (Out change) }
+    {
+        self.last += 1;
+        self.out = Some(change);
+    }
+
+    /// Ends the request that is out. Takes no memory.
+    pub fn end_request(&mut self)
+        ensures { self.new ≡ leaf_folded self.old Done }
+    {
+        self.out = None;
+    }
+
+    /// Puts the records of a version in the place of what there was, in the next generation of the journal. Takes no
+    /// memory.
+    pub fn install(&mut self, version: u32, userfile: Userfile)
+        requires { nat_lt self.old.generation last_number ≡ true }
+        ensures { self.new ≡ leaf_folded self.old (Install version userfile) }
+    {
+        self.version = version;
+        self.userfile = userfile;
+        self.generation += 1;
+    }
+
+    /// Counts one more generation of the journal. Takes no memory.
+    pub fn count_generation(&mut self)
+        requires { nat_lt self.old.generation last_number ≡ true }
+        ensures { self.new ≡ leaf_folded self.old Compact }
+    {
+        self.generation += 1;
     }
 
     /// The base of this state of the leaf of this number: what a journal that is written anew starts from. It has a

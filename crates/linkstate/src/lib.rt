@@ -21,11 +21,13 @@ mod accepted;
 mod fault;
 mod fields;
 mod hub;
+mod journaled;
 mod leaf;
 mod records;
 mod replies;
 
 pub use crate::accepted::AcceptedChange;
 pub use crate::fault::{StateError, StateFault};
+pub use crate::fields::know_change;
 pub use crate::hub::HubState;
 pub use crate::leaf::LeafState;
