@@ -39,7 +39,7 @@ all_good [] shapes fields = tt
 all_good (item ∷ items) shapes fields = (record { shape = shapes.0; fields = fields.0 }, all_good items shapes.1 fields.1)
 
 few_items : (held : Records) → ((nat_lt MAX_USERS (length held.users) || nat_lt MAX_BANS (length held.bans)) || list_any is_over held.users) ≡ false
-    → (length (items_of held) < 2 ^ 16) × (list_any is_over held.users ≡ false)
+    → (length (items_of held) ≤ 700) × (list_any is_over held.users ≡ false)
 few_items held full =
     let parts = or_parts (nat_lt MAX_USERS (length held.users) || nat_lt MAX_BANS (length held.bans)) (list_any is_over held.users) full in
     let counts = or_parts (nat_lt MAX_USERS (length held.users)) (nat_lt MAX_BANS (length held.bans)) parts.0 in
@@ -48,15 +48,18 @@ few_items held full =
     (omega (arith, length_items held.users held.bans), parts.1)
 
 pub good_items : (held : Records) (items : List Record) → AreSound held → items ≡ items_of held → AllByRecursion HasFields items
-    → AreListed IsGoodRecord items
+    → AreListed IsGoodRecord items × (length items ≤ 700)
 good_items held items sound same fields =
     let handles = first_none sound.together in
     let masks = first_none handles.1 in
     let bans = first_none masks.1 in
     let few = few_items held (if_none Full bans.1) in
     let shapes = shaped held.users held.bans sound.users (if_none MaskExists masks.0) few.1 sound.bans in (
-      subst (λ (l : List Record). length l < 2 ^ 16) (sym same) few.0,
-      all_good items (subst (λ (l : List Record). AllByRecursion HasShape l) (sym same) shapes) fields,
+      (
+        subst (λ (l : List Record). length l < 2 ^ 16) (sym same) (omega (arith, few.0)),
+        all_good items (subst (λ (l : List Record). AllByRecursion HasShape l) (sym same) shapes) fields,
+      ),
+      subst (λ (l : List Record). length l ≤ 700) (sym same) few.0,
     )
 
 -- the base of a leaf

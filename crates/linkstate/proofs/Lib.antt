@@ -2,3 +2,4 @@ pub mod Lists
 pub mod Folding
 pub mod Goodness
 mod LeafGoodness
+pub mod HubStates

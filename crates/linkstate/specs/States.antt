@@ -1,5 +1,5 @@
 -- What reading a journal's contents and taking one more entry answer, and what a new end keeps.
-use Rattle.std.specs.Prelude.{◌≡◌, ℕ, Bool, true, false, List, [], Option, None, Some, is_some, Result, Ok, Err}
+use Rattle.std.specs.Prelude.{◌≡◌, ℕ, suc, Bool, true, false, List, [], slice_get, Option, None, Some, is_some, Result, Ok, Err}
 use Rattle.bytetext.specs.declared.failure.Failure.{Failure}
 use Rattle.bytetext.specs.declared.failure.Failure.TheVariants.{Refused, NoMemory}
 use Rattle.userfile.specs.Records.{Records}
@@ -7,6 +7,7 @@ use Rattle.userfile.specs.Apply.{grows}
 use Rattle.usercodec.specs.declared.records.Record.{Record as UserfileRecord}
 use Rattle.botjournal.specs.declared.base.Base.{Base}
 use Rattle.botjournal.specs.declared.entry.Entry.{Entry}
+use Rattle.botjournal.specs.declared.reply.Reply.{Reply}
 use Rattle.botjournal.specs.declared.entry.Entry.TheVariants.{Accepted, Settled, Applied, ReqOut, ReqDone}
 use Rattle.protocol.specs.Snapshots.{records_from}
 use Rattle.protocol.specs.HubRules.{HubState}
@@ -49,6 +50,10 @@ hub_on leaves generation base = record_if (is_hub_base leaves base) (hub_of leav
 -- a leaf on a base alone, where the base is that leaf's
 abbrev pub leaf_on : ℕ → ℕ → Base → Option LeafState
 leaf_on number generation base = record_if (is_leaf_base number base) (leaf_of generation base)
+
+-- each reply is at its leaf's place
+abbrev pub ArePlaced : List (Option Reply) → Type 0
+ArePlaced replies = (place : ℕ) (reply : Reply) → slice_get replies place ≡ Some (Some reply) → reply.leaf ≡ suc place
 
 -- the entry has a change that a hub accepted
 abbrev pub is_accepted : Entry → Bool

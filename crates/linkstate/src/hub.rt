@@ -6,12 +6,18 @@ ghost use Rattle.protocol.specs.Journals.{is_next};
 
 use crate::accepted::AcceptedChange;
 use crate::fault::{StateError, StateFault};
+use crate::fields::know_change;
+use crate::journaled::change_journaled;
 use crate::records::{items_of, userfile_of};
-use crate::replies::{is_next, is_next_of, put_reply, replies_in, replies_of, reply_at};
-use botjournal::{Answer, Base, Entry, Reply};
+use crate::replies::{
+    is_next, is_next_of, know_replies, put_reply, replies_in, replies_of, reply_at,
+};
+use botjournal::{Answer, Base, Entry, Ledger, LedgerError, RebaseError, Reply};
 use bytetext::{Failure, NoMemory, Seq, TryCopy};
 use std::alloc::Global;
 use std::marker::Model;
+use storage::Disk;
+use usercodec::Record;
 use userfile::{Change, ChangeFault, Userfile};
 
 /// What outlives a restart of a hub: its userfile, the changes accepted since the base, and the last reply to each leaf.
@@ -43,16 +49,18 @@ impl Model for HubState {
 }
 
 impl HubState {
-    ghost use Rattle.std.specs.Prelude.{◌≡◌, ◌≢◌, ◌&&◌, true, nat_lt, is_none, Err, IfOk};
+    ghost use Rattle.std.specs.Prelude.{◌≡◌, ◌≢◌, ◌&&◌, ◌<◌, ◌≤◌, ◌^◌, true, false, nat_lt, is_none, None, Err, IfOk, OnOk, OnErr, length};
     ghost use Rattle.bytetext.specs.declared.failure.Failure.TheVariants.{NoMemory as no_memory};
     ghost use Rattle.userfile.specs.Apply.{refusal};
     ghost use Rattle.botjournal.specs.Bases.{IsGoodBase};
+    ghost use Rattle.botjournal.specs.Ledger.{Appends, Rebases};
     ghost use Rattle.botjournal.specs.declared.entry.Entry.TheVariants.{Accepted, Settled};
     ghost use Rattle.protocol.specs.Numbers.{last_number, item_at};
-    ghost use Rattle.protocol.specs.HubRules.{version_of, hub_folded};
+    ghost use Rattle.protocol.specs.HubRules.{Accept, Settle, Rebase, version_of, hub_folded};
+    ghost use Rattle.protocol.specs.Snapshots.{items_of};
     ghost use Rattle.protocol.specs.Network.{new_hub};
-    ghost use Rattle.protocol.specs.Journals.{hub_of, hub_base, hub_record, hub_meaning, is_next};
-    ghost use Rattle.linkstate.specs.States.{Reads, Takes, TakesAll, hub_on, empty_base, is_accepted};
+    ghost use Rattle.protocol.specs.Journals.{hub_of, hub_base, hub_record, hub_meaning, is_next, is_next_of, IsHubState};
+    ghost use Rattle.linkstate.specs.States.{Reads, Takes, TakesAll, ArePlaced, hub_on, empty_base, is_accepted};
 
     /// A hub with so many leaves before the first change, in the first generation of its journal.
     ///
@@ -61,6 +69,7 @@ impl HubState {
     pub fn new(alloc: Global, leaves: u16) -> Result<HubState, NoMemory>
         ensures start { IfOk result (λ hub. hub ≡ (new_hub leaves).kept) }
         ensures empty { IfOk result (λ hub. hub ≡ hub_of leaves 1 (empty_base 0)) }
+        ensures state { IfOk result (λ hub. IsHubState leaves hub) }
     {
         let replies = replies_of(alloc, leaves, &[])?;
         Ok(HubState {
@@ -86,7 +95,10 @@ impl HubState {
         entries: &[Entry],
     ) -> Result<HubState, StateError>
         requires good { IsGoodBase base.now }
-        ensures { Reads (hub_meaning leaves (record { generation = generation; base = base.now; entries = entries.now })) result }
+        ensures reads { Reads (hub_meaning leaves (record { generation = generation; base = base.now; entries = entries.now })) result }
+        // Each leaf has a place for its reply, and each reply is at its leaf's.
+        ensures state { IfOk result (λ hub. IsHubState leaves hub) }
+        ensures generation { IfOk result (λ hub. hub.generation ≡ generation) }
     {
         let mut hub = HubState::on_base(alloc, leaves, generation, base)?;
         match hub.take_all(alloc, entries) {
@@ -238,23 +250,135 @@ impl HubState {
         Ok(())
     }
 
-    /// The base of this state: what a journal that is written anew starts from.
+    /// Journals a change that isn't refused as the next one, and makes it. All memory is taken before the journal's first
+    /// device call. The change is the one that this bot asked for under this number of its own; both are 0 for the hub's
+    /// own changes.
+    ///
+    /// # Errors
+    /// What [`Ledger::append`] is refused for, and `NoMemory` for what else the change takes; all leave the state as it
+    /// was.
+    pub fn accept_next<D: Disk>(
+        &mut self,
+        alloc: Global,
+        ledger: &mut Ledger<D>,
+        origin: u16,
+        request: u32,
+        change: &Change,
+    ) -> Result<(), LedgerError>
+        requires up { ledger.old.account.down ≡ false }
+        requires taken { refusal self.old.records change.now ≡ None }
+        requires numbered { nat_lt (version_of self.old) last_number ≡ true }
+        requires next { is_next self.old.replies origin request ≡ true }
+        ensures row { Appends ledger.old (Accepted origin request change.now) result ledger.new }
+        ensures accepts { OnOk result (self.new ≡ hub_folded self.old
+            (Accept (record { origin = origin; request = request; change = change.now }))) }
+        ensures stays { OnErr result (self.new ≡ self.old) }
+    {
+        know_change(change);
+        let number = self.version() + 1;
+        let entry = Entry::Accepted {
+            origin,
+            request,
+            change: change.copy(alloc)?,
+        };
+        let accepted = AcceptedChange::new(origin, request, change.copy(alloc)?);
+        self.tail.reserve(1)?;
+        match change_journaled(alloc, &mut self.userfile, ledger, change, &entry) {
+            Ok(()) => {
+                self.tail.push_reserved(accepted);
+                put_reply(&mut self.replies, origin, request, Answer::Taken(number));
+                Ok(())
+            }
+            Err(error) => Err(error),
+        }
+    }
+
+    /// Journals that a leaf's next request is refused, and keeps that as the reply to it.
+    ///
+    /// # Errors
+    /// What [`Ledger::append`] is refused for; all leave the state as it was.
+    pub fn refuse_next<D: Disk>(
+        &mut self,
+        alloc: Global,
+        ledger: &mut Ledger<D>,
+        leaf: u16,
+        request: u32,
+        fault: ChangeFault,
+    ) -> Result<(), LedgerError>
+        requires up { ledger.old.account.down ≡ false }
+        requires next { is_next_of (item_at self.old.replies leaf) request ≡ true }
+        ensures row { Appends ledger.old (Settled leaf request fault) result ledger.new }
+        ensures settles { OnOk result (self.new ≡ hub_folded self.old (Settle leaf fault)) }
+        ensures stays { OnErr result (self.new ≡ self.old) }
+    {
+        let entry = Entry::Settled {
+            leaf,
+            request,
+            fault,
+        };
+        match ledger.append(alloc, &entry) {
+            Ok(()) => {
+                put_reply(&mut self.replies, leaf, request, Answer::Refused(fault));
+                Ok(())
+            }
+            Err(error) => Err(error),
+        }
+    }
+
+    /// Puts the state alone into the journal, in its next generation: the changes so far are no longer kept one by one.
+    ///
+    /// # Errors
+    /// What [`Ledger::rebase`] is refused for, and `NoMemory` for the base; all leave the state as it was.
+    pub fn rebase<D: Disk>(
+        &mut self,
+        alloc: Global,
+        ledger: &mut Ledger<D>,
+    ) -> Result<(), RebaseError>
+        requires up { ledger.old.account.down ≡ false }
+        requires same { self.old.generation ≡ ledger.old.account.contents.generation }
+        requires left { nat_lt self.old.generation last_number ≡ true }
+        requires placed { ArePlaced self.old.replies }
+        requires few { length self.old.replies < 2 ^ 16 }
+        ensures row { Rebases ledger.old (hub_base self.old) result ledger.new }
+        ensures rebases { OnOk result (self.new ≡ hub_folded self.old Rebase) }
+        ensures stays { OnErr result (self.new ≡ self.old) }
+    {
+        let base = self.base(alloc)?;
+        match ledger.rebase(alloc, &base) {
+            Ok(()) => {
+                self.floor = self.version();
+                self.tail.clear();
+                self.generation += 1;
+                Ok(())
+            }
+            Err(error) => Err(error),
+        }
+    }
+
+    /// The userfile's records one by one, its users first: at most 700.
+    ///
+    /// # Errors
+    /// `NoMemory` where room for copies is refused.
+    pub fn items(&self, alloc: Global) -> Result<Vec<Record>, NoMemory>
+        ensures items { IfOk result (λ items. items.items ≡ items_of self.now.records) }
+        ensures few { IfOk result (λ items. length items.items ≤ 700) }
+    {
+        items_of(alloc, &self.userfile)
+    }
+
+    /// The base of this state: what a journal that is written anew starts from. It has a spelling where each reply is at
+    /// its leaf's place, as in each state that was read.
     ///
     /// # Errors
     /// `NoMemory` where room for copies is refused.
     pub fn base(&self, alloc: Global) -> Result<Base, NoMemory>
-        ensures { IfOk result (λ base. base ≡ hub_base self.now) }
+        ensures base { IfOk result (λ base. base ≡ hub_base self.now) }
+        ensures good { IfOk result (λ base. ArePlaced self.now.replies → length self.now.replies < 2 ^ 16 → IsGoodBase base) }
     {
         let records = items_of(alloc, &self.userfile)?;
         let replies = replies_in(alloc, self.replies.as_slice())?;
-        Ok(Base {
-            bot: 0,
-            version: self.version(),
-            records: Seq::new(records),
-            replies: Seq::new(replies),
-            last_request: 0,
-            out: None,
-        })
+        know_replies(replies.as_slice());
+        Ok(base_of(self.version(), records, replies))
     }
 }
 
@@ -290,4 +414,33 @@ fn apply_next(
     }
     tail.push_reserved(entry);
     Ok(())
+}
+
+ghost use Rattle.std.specs.Prelude.{true, ◌<◌, ◌^◌};
+ghost use Rattle.std.specs.List.{AllByRecursion};
+ghost use Rattle.usercodec.specs.Records.{IsGoodRecord};
+ghost use Rattle.botjournal.specs.Bases.{AreListed, IsGoodReply, IsGoodBase, are_rising};
+
+// The base of these parts. Its version has room, as its type says.
+fn base_of(version: u32, records: Vec<Record>, replies: Vec<Reply>) -> Base
+    requires records { AreListed IsGoodRecord records.items }
+    requires replies { AllByRecursion IsGoodReply replies.items }
+    ensures base { result ≡ record {
+      bot = 0;
+      version = version;
+      records = records.items;
+      replies = replies.items;
+      last_request = 0;
+      out = None;
+    } }
+    ensures good { length replies.items < 2 ^ 16 → are_rising replies.items ≡ true → IsGoodBase result }
+{
+    Base {
+        bot: 0,
+        version,
+        records: Seq::new(records),
+        replies: Seq::new(replies),
+        last_request: 0,
+        out: None,
+    }
 }

@@ -1,5 +1,5 @@
 // The records of a base, and the userfile that holds them.
-ghost use Rattle.std.specs.Prelude.{◌≡◌, ◌++◌, true, IfOk, IsTrue, OnOk};
+ghost use Rattle.std.specs.Prelude.{◌≡◌, ◌≤◌, ◌++◌, true, IfOk, IsTrue, OnOk, length};
 ghost use Rattle.std.specs.List.{AllByRecursion};
 ghost use Rattle.usercodec.specs.Records.{IsGoodRecord};
 ghost use Rattle.botjournal.specs.Bases.{AreListed};
@@ -57,6 +57,7 @@ fn bans_in(alloc: Global, items: &[Record]) -> Result<Vec<Ban>, NoMemory>
 pub(crate) fn items_of(alloc: Global, userfile: &Userfile) -> Result<Vec<Record>, NoMemory>
     ensures items { IfOk result (λ items. items.items ≡ items_of userfile.now) }
     ensures good { IfOk result (λ items. AreListed IsGoodRecord items.items) }
+    ensures few { IfOk result (λ items. length items.items ≤ 700) }
 {
     let items = copies_in(alloc, userfile)?;
     userfile.are_sound();

@@ -1,5 +1,7 @@
 // The last reply to each leaf, by the leaf's place.
 ghost use Rattle.std.specs.Prelude.{◌≡◌, ◌++◌, ◌<◌, length, true, IfOk, replicate, None};
+ghost use Rattle.std.specs.List.{AllByRecursion};
+ghost use Rattle.botjournal.specs.Bases.{IsGoodReply, IsGoodAnswer};
 ghost use Rattle.protocol.specs.Numbers.{item_at};
 ghost use Rattle.protocol.specs.HubRules.{last_request, with_reply};
 ghost use Rattle.protocol.specs.Journals.{reply_among, replies_of, replies_in, is_next, is_next_of};
@@ -108,5 +110,37 @@ pub(crate) fn put_reply(held: &mut Vec<Option<Reply>>, leaf: u16, request: u32, 
             request,
             answer,
         });
+    }
+}
+
+// What the types of replies say of their fields: there is nothing to run.
+pub(crate) fn know_replies(replies: &[Reply])
+    ensures { AllByRecursion IsGoodReply replies.now }
+{
+    match replies {
+        [] => {}
+        [reply, rest @ ..] => {
+            know_reply(reply);
+            know_replies(rest);
+        }
+    }
+}
+
+fn know_reply(reply: &Reply)
+    ensures { IsGoodReply reply.now }
+{
+    let _leaf = reply.leaf;
+    let _request = reply.request;
+    know_answer(&reply.answer);
+}
+
+fn know_answer(answer: &Answer)
+    ensures { IsGoodAnswer answer.now }
+{
+    match answer {
+        Answer::Taken(number) => {
+            let _number = *number;
+        }
+        Answer::Refused(_) => {}
     }
 }
