@@ -6,8 +6,6 @@ ghost use Rattle.protocol.specs.Journals.{is_next};
 
 use crate::accepted::AcceptedChange;
 use crate::fault::{StateError, StateFault};
-use crate::fields::know_change;
-use crate::journaled::change_journaled;
 use crate::records::{items_of, userfile_of};
 use crate::replies::{
     is_next, is_next_of, know_replies, put_reply, replies_in, replies_of, reply_at,
@@ -56,7 +54,7 @@ impl HubState {
     ghost use Rattle.botjournal.specs.Ledger.{Appends, Rebases};
     ghost use Rattle.botjournal.specs.declared.entry.Entry.TheVariants.{Accepted, Settled};
     ghost use Rattle.protocol.specs.Numbers.{last_number, item_at};
-    ghost use Rattle.protocol.specs.HubRules.{Accept, Settle, Rebase, version_of, hub_folded};
+    ghost use Rattle.protocol.specs.HubRules.{Settle, Rebase, version_of, hub_folded};
     ghost use Rattle.protocol.specs.Snapshots.{items_of};
     ghost use Rattle.protocol.specs.Network.{new_hub};
     ghost use Rattle.protocol.specs.Journals.{hub_of, hub_base, hub_record, hub_meaning, is_next, is_next_of, IsHubState};
@@ -248,49 +246,6 @@ impl HubState {
         }
         put_reply(&mut self.replies, leaf, request, Answer::Refused(fault));
         Ok(())
-    }
-
-    /// Journals a change that isn't refused as the next one, and makes it. All memory is taken before the journal's first
-    /// device call. The change is the one that this bot asked for under this number of its own; both are 0 for the hub's
-    /// own changes.
-    ///
-    /// # Errors
-    /// What [`Ledger::append`] is refused for, and `NoMemory` for what else the change takes; all leave the state as it
-    /// was.
-    pub fn accept_next<D: Disk>(
-        &mut self,
-        alloc: Global,
-        ledger: &mut Ledger<D>,
-        origin: u16,
-        request: u32,
-        change: &Change,
-    ) -> Result<(), LedgerError>
-        requires up { ledger.old.account.down ≡ false }
-        requires taken { refusal self.old.records change.now ≡ None }
-        requires numbered { nat_lt (version_of self.old) last_number ≡ true }
-        requires next { is_next self.old.replies origin request ≡ true }
-        ensures row { Appends ledger.old (Accepted origin request change.now) result ledger.new }
-        ensures accepts { OnOk result (self.new ≡ hub_folded self.old
-            (Accept (record { origin = origin; request = request; change = change.now }))) }
-        ensures stays { OnErr result (self.new ≡ self.old) }
-    {
-        know_change(change);
-        let number = self.version() + 1;
-        let entry = Entry::Accepted {
-            origin,
-            request,
-            change: change.copy(alloc)?,
-        };
-        let accepted = AcceptedChange::new(origin, request, change.copy(alloc)?);
-        self.tail.reserve(1)?;
-        match change_journaled(alloc, &mut self.userfile, ledger, change, &entry) {
-            Ok(()) => {
-                self.tail.push_reserved(accepted);
-                put_reply(&mut self.replies, origin, request, Answer::Taken(number));
-                Ok(())
-            }
-            Err(error) => Err(error),
-        }
     }
 
     /// Journals that a leaf's next request is refused, and keeps that as the reply to it.
