@@ -2,12 +2,15 @@
 //! A script's binds may call the procs `quiet`, `stop`, `adduser`, `tick`, `tell` and
 //! `echo`.
 //!
+//! `eggnet live` reads a live script on standard input, and does its commands with a server, a hub and leaves that talk
+//! over sockets of this machine. It prints what the script has shown and what its guests have heard.
+//!
 //! `eggnet serve PORT` keeps a small IRC server running on this machine, for other programs. It prints the port, which the
 //! system chooses where PORT is 0, and then serves until it is ended.
 //!
 //! It ends with status 0 when all is done; 1 for a script that breaks a rule, with its first faulty line on standard
-//! error; 2 for a command line that is not understood; 3 where reading, writing or listening fails; 4 where memory runs
-//! out.
+//! error; 2 for a command line that is not understood; 3 where reading, writing or a socket fails, and where a live
+//! botnet stalls; 4 where memory runs out.
 #![tactic(auto)]
 
 ghost use Rattle.std.specs.Prelude.{◌≡◌, codes, IfOk};
@@ -16,7 +19,6 @@ ghost use Rattle.eggnet.specs.Procs.{Keeps, plain, reply_of_adduser, reply_of_ec
 
 mod procs;
 mod serve;
-mod serve_guest;
 
 use crate::procs::{
     Ours, plain, reply_of_adduser, reply_of_echo, reply_of_tell, reply_of_tick, store_of,
@@ -25,6 +27,7 @@ use crate::serve::{ServeError, serve};
 use bytetext::NoMemory;
 use clap::error::ErrorKind;
 use clap::{Arg, Command, Error, value_parser};
+use liveloop::{LiveError, live};
 use procstore::{Body, Call, Code, ProcStore, Reply, Run};
 use replay::{ReplayError, replay};
 use std::alloc::{AllocError, Global};
@@ -40,7 +43,7 @@ const SCRIPT_FAULT: u8 = 1;
 /// The status of a command line that is not understood.
 const USAGE: u8 = 2;
 
-/// The status of a read or a write that failed.
+/// The status of a read, a write or a socket that failed, and of a botnet that stalled.
 const STREAM_FAULT: u8 = 3;
 
 /// The status where memory runs out.
@@ -108,6 +111,7 @@ fn main(rt: HostRuntime) -> ExitCode {
 // What the program is to do.
 enum Task {
     Replay,
+    Live,
     Serve(u16),
 }
 
@@ -137,13 +141,20 @@ fn status<R: Input + Print + Eprint + AllocGlobal + Env + Net + Clock, B: Run>(
     let Ok(words) = words_of(rt) else {
         return told(rt, ReplayError::NoMemory);
     };
-    match task_of(rt.alloc(), words.as_slice()) {
-        Ok(Task::Replay) => {}
+    let is_live = match task_of(rt.alloc(), words.as_slice()) {
+        Ok(Task::Replay) => false,
+        Ok(Task::Live) => true,
         Ok(Task::Serve(port)) => return served(rt, port),
         Err(error) => return refused(rt, &error),
-    }
+    };
     match store_of(rt.alloc(), quiet, stop, adduser, tick, tell, echo) {
-        Ok(store) => replayed(rt, store),
+        Ok(store) => {
+            if is_live {
+                lived(rt, store)
+            } else {
+                replayed(rt, store)
+            }
+        }
         Err(NoMemory) => told(rt, ReplayError::NoMemory),
     }
 }
@@ -162,7 +173,10 @@ fn task_of(alloc: Global, words: &[String]) -> Result<Task, Error> {
     let matches = command(alloc)?.try_get_matches_from(words)?;
     match matches.subcommand_matches("serve") {
         Some(serve) => Ok(Task::Serve(serve.get_one("PORT").unwrap_or(0))),
-        None => Ok(Task::Replay),
+        None => match matches.subcommand_matches("live") {
+            Some(_) => Ok(Task::Live),
+            None => Ok(Task::Replay),
+        },
     }
 }
 
@@ -170,6 +184,9 @@ fn task_of(alloc: Global, words: &[String]) -> Result<Task, Error> {
 fn command<'a>(alloc: Global) -> Result<Command<'a>, AllocError> {
     let replay = Command::new(alloc, "replay").about(
         "Do a script from standard input and print the transcript",
+    );
+    let live = Command::new(alloc, "live").about(
+        "Do a live script from standard input, over sockets of this machine",
     );
     let port = Arg::new(alloc, "PORT")
         .help("The port of 127.0.0.1, or 0 for one that the system chooses")
@@ -182,6 +199,7 @@ fn command<'a>(alloc: Global) -> Result<Command<'a>, AllocError> {
         .about("IRC bots that share a userfile")
         .subcommand_required(true)
         .subcommand(replay)?
+        .subcommand(live)?
         .subcommand(serve)
 }
 
@@ -219,6 +237,29 @@ fn replayed<R: Input + Print + Eprint + AllocGlobal, B: Run>(
     match replay(rt.alloc(), store, &mut reader, &mut writer) {
         Ok(()) => 0,
         Err(error) => told(rt, error),
+    }
+}
+
+// Does the live script on standard input.
+fn lived<R: Input + Print + Eprint + AllocGlobal + Net, B: Run>(
+    rt: &R,
+    store: ProcStore<Ours, B>,
+) -> u8 {
+    let mut reader = rt.reader();
+    let mut writer = io::writer(rt);
+    match live(rt, store, &mut reader, &mut writer) {
+        Ok(()) => 0,
+        Err(error) => live_told(rt, error),
+    }
+}
+
+// Tells why a live botnet ended early.
+fn live_told<R: Eprint>(rt: &R, error: LiveError) -> u8 {
+    let _ = eprintln!(rt; "eggnet: {error}");
+    match error {
+        LiveError::Script(_) => SCRIPT_FAULT,
+        LiveError::Read | LiveError::Write | LiveError::Socket | LiveError::Stalled => STREAM_FAULT,
+        LiveError::NoMemory => NO_MEMORY,
     }
 }
 

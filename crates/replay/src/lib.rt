@@ -10,6 +10,9 @@
 //! let text = transcript(alloc, store, b"leaves 0\nshow 0\n")?;          // 0 version 0 users 0 bans 0
 //! replay(alloc, store, &mut reader, &mut writer)?;                      // the same, from a reader to a writer
 //! ```
+//!
+//! Whoever runs scripts in another way takes the same pieces: the bytes of a script by [`script_bytes`], its bots by
+//! [`new_bots`], what a `show` prints by [`put_records`], and the way to the writer by [`write_text`].
 #![tactic(auto)]
 
 mod answers;
@@ -27,5 +30,9 @@ mod starting;
 mod transcripts;
 
 pub use crate::error::ReplayError;
+pub use crate::input::script_bytes;
+pub use crate::output::write_text;
 pub use crate::replaying::replay;
+pub use crate::shows::put_records;
+pub use crate::starting::new_bots;
 pub use crate::transcripts::transcript;

@@ -26,9 +26,12 @@ pub fn put_shown<P: Promise, B: Run>(
     put_records(alloc, out, bot, world.version(bot), world.userfile(bot))
 }
 
-// The same of what the world shows.
+/// Adds a bot's version and the lines of its userfile, or that there is no such bot where it has none of them.
+///
+/// # Errors
+/// `NoMemory` where room is refused.
 #[tactic(auto, using(std::proofs::Common::append_assoc))]
-fn put_records(
+pub fn put_records(
     alloc: Global,
     out: &mut Vec<u8>,
     bot: u16,

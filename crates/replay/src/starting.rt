@@ -28,8 +28,12 @@ pub fn new_world<P: Promise, B: Run>(
     }
 }
 
-// The hub and its leaves.
-fn new_bots(alloc: Global, leaves: u16) -> Result<Vec<Bot>, NoMemory>
+/// The hub and its leaves, as they are before their first step: their nicks are `egg` and their number, and their one
+/// channel is `#egg`.
+///
+/// # Errors
+/// `NoMemory` where room is refused.
+pub fn new_bots(alloc: Global, leaves: u16) -> Result<Vec<Bot>, NoMemory>
     requires { leaves ≤ MAX_LEAVES }
     ensures { IfOk result (λ bots. bots.items ≡ bots_from leaves 0 (leaves + 1)) }
 {

@@ -22,6 +22,9 @@
 //! assert!(script.leaves == 1 && script.commands.len() == 2);
 //! let change = change_of(alloc, b"adduser alice")?;      // as after `ask 0 `
 //! ```
+//!
+//! A reader of other scripts takes the same pieces: the words of a line by [`pieces_of`], a [`number`], a last word that
+//! takes the rest by [`rest_of`], and what a line says by [`saying_of`].
 #![tactic(auto)]
 
 mod asking;
@@ -38,7 +41,11 @@ mod saying;
 pub use crate::asking::change_of;
 pub use crate::command::{Command, Commands, Steps};
 pub use crate::error::{ScriptError, ScriptFault};
+pub use crate::numeral::number;
+pub use crate::pieces::pieces_of;
 pub use crate::reading::Script;
+pub use crate::rest::rest_of;
+pub use crate::saying::{Saying, saying_of};
 
 /// The most bytes that a script has.
 pub const MAX_SCRIPT: usize = 1_048_576;

@@ -1,0 +1,61 @@
+// What a bot does in a turn: each call answers the packets that are to be sent.
+use crate::moment::Moment;
+use botcore::{Bot, End, Event, Report};
+use botdrive::{DriveEnd, drive_bytes};
+use bytetext::NoMemory;
+use ircline::LineReader;
+use loopback::Peer;
+use procstore::{ProcStore, Promise, Run};
+use sharelink::Outgoings;
+use std::alloc::Global;
+
+/// Does one step of a bot. What its lines to the server and its notes are is not told here: lines go with the clock, and
+/// the clock with [`hear`].
+///
+/// # Errors
+/// `NoMemory` where the step ended so.
+pub fn tell<P: Promise, B: Run>(
+    alloc: Global,
+    bot: &mut Bot,
+    store: &ProcStore<P, B>,
+    event: Event,
+) -> Result<Outgoings, NoMemory> {
+    packets_of(bot.step(alloc, store, event))
+}
+
+fn packets_of(report: Report) -> Result<Outgoings, NoMemory> {
+    match report.end {
+        End::Done | End::Refused(_) => Ok(report.packets),
+        End::NoMemory => Err(NoMemory),
+    }
+}
+
+/// Has a bot take what its server has sent, and read its clock.
+///
+/// # Errors
+/// `NoMemory` where a growth was refused.
+pub fn hear<P: Promise, B: Run>(
+    alloc: Global,
+    bot: &mut Bot,
+    store: &ProcStore<P, B>,
+    lines: &mut LineReader,
+    irc: &mut Peer,
+    now: &Moment,
+) -> Result<Outgoings, NoMemory> {
+    let heard = irc.take_heard(alloc);
+    let mut bytes = heard.as_slice();
+    let report = drive_bytes(
+        alloc,
+        bot,
+        store,
+        lines,
+        &mut bytes,
+        irc.unsent(),
+        now.seconds(),
+    );
+    match report.end {
+        DriveEnd::Done => Ok(report.packets),
+        // Bytes that are all there have no fault, and what is written to memory fails for want of it alone.
+        DriveEnd::Read | DriveEnd::Write | DriveEnd::NoMemory => Err(NoMemory),
+    }
+}

@@ -1,0 +1,43 @@
+//! A botnet over sockets: the small IRC server, a hub and its leaves in one process and one thread, as a script says.
+//!
+//! [`live`] reads a live script, opens the server and the hub's link listener on ports of 127.0.0.1 that the system
+//! chooses, and does the commands. Each bot has a connection to the server, and each leaf one to the hub, over which
+//! packets go as frames. Nothing blocks: a turn lets in who waits, reads each socket until it would block, steps the
+//! bots and the server, and writes; a socket that isn't connected yet counts as one that would block. Every 64th turn,
+//! the first among them, pumps each bot.
+//!
+//! A live script has the commands of a replay's script but `line`, `clock B N` and `deliver`, at most 8 leaves, and
+//! these besides: `until V` makes turns until each bot is at version V or above, at most 100,000; `turns N` makes so
+//! many turns, at most 100,000; `guest NICK CHANNEL` has a client in memory register and join; `say NICK TARGET TEXT`
+//! has it say the text; `heard NICK` prints each line that it got since the last time, as `NICK LINE`; `clock N` is the
+//! moment that each bot's clock shows from then on, 0 before. `connect B` gives a bot a new connection to the server. A
+//! `say` or `heard` of one who is no guest does nothing. Only `show` and `heard` print.
+//!
+//! ```text
+//! live(&rt, store, &mut reader, &mut writer)?;     // leaves 0, until 0, show 0: 0 version 0 users 0 bans 0
+//! ```
+#![tactic(auto)]
+
+mod command;
+mod error;
+mod events;
+mod live;
+mod moment;
+mod network;
+mod own_words;
+mod reading;
+mod saying;
+mod seat;
+mod turns;
+
+pub use crate::command::{Command, Commands, Speech};
+pub use crate::error::LiveError;
+pub use crate::live::live;
+pub use crate::moment::Moment;
+pub use crate::reading::LiveScript;
+
+/// The most leaves of a live script.
+pub const MAX_LEAVES: u16 = 8;
+
+/// The most turns of one command.
+pub const MAX_TURNS: u32 = 100_000;

@@ -1,0 +1,159 @@
+// From a live script to what it prints.
+ghost use Rattle.std.specs.Prelude.{◌≡◌, ◌++◌, IfOk, OnOk, ◌≤◌};
+ghost use Rattle.liveloop.specs.declared.TheConstants.{MAX_LEAVES as most_leaves};
+ghost use Rattle.liveloop.specs.Heard.{heard_line, heard_text};
+
+use crate::MAX_TURNS;
+use crate::command::{Command, Speech};
+use crate::error::LiveError;
+use crate::network::Network;
+use crate::reading::LiveScript;
+use crate::turns::{tell, turn};
+use bytetext::{NoMemory, Text};
+use procstore::{ProcStore, Promise, Run};
+use replay::{new_bots, put_records, script_bytes, write_text};
+use std::alloc::Global;
+use std::io::{Read, Write};
+use std::net::Net;
+
+/// Reads a live script whole, and does its commands with a botnet over sockets, whose binds call the procs of this
+/// store. What a `show` or `heard` prints is written when that command is done.
+///
+/// The reader is read to its end, or to the first byte above 1,048,576.
+///
+/// # Errors
+/// `Read` where the reader answers a fault; then `Script` with the first line that breaks a rule; each before a socket
+/// is opened. Then the first that a command meets: `Socket` where the system opens no socket, `Stalled` where a bot is
+/// below its version after the turns of an `until`, `Write` where the writer answers a fault or takes nothing. `NoMemory`
+/// where a growth is refused.
+pub fn live<R: Net + AllocGlobal, P: Promise, B: Run, I: Read, W: Write>(
+    rt: &R,
+    store: ProcStore<P, B>,
+    reader: &mut I,
+    writer: &mut W,
+) -> Result<(), LiveError> {
+    let bytes = script_bytes(rt.alloc(), reader)?;
+    let script = LiveScript::read(rt.alloc(), bytes.as_slice())?;
+    let mut net = start(rt, &store, script.leaves())?;
+    for command in script.into_commands().into_vec() {
+        let text = done(rt, &mut net, &store, command)?;
+        write_text(writer, text.as_slice())?;
+    }
+    Ok(())
+}
+
+// The botnet before its first turn.
+fn start<R: Net + AllocGlobal, P: Promise, B: Run>(
+    rt: &R,
+    store: &ProcStore<P, B>,
+    leaves: u16,
+) -> Result<Network, LiveError>
+    requires { leaves ≤ most_leaves }
+{
+    let mut net = Network::open(rt, leaves)?;
+    for bot in new_bots(rt.alloc(), leaves)? {
+        net.add(rt, store, bot)?;
+    }
+    Ok(net)
+}
+
+// Does a command. What it prints.
+fn done<R: Net + AllocGlobal, P: Promise, B: Run>(
+    rt: &R,
+    net: &mut Network,
+    store: &ProcStore<P, B>,
+    command: Command,
+) -> Result<Vec<u8>, LiveError> {
+    let alloc = rt.alloc();
+    match command {
+        Command::Tell { bot, event } => tell(alloc, net, store, bot as usize, event)?,
+        Command::Connect(bot) => net.connect(rt, store, bot as usize)?,
+        Command::Show(bot) => return Ok(shown(alloc, net, bot)?),
+        Command::Until(version) => run_until(rt, net, store, version)?,
+        Command::Turns(count) => run_turns(rt, net, store, count)?,
+        Command::Guest { nick, channel } => net.house.invite(alloc, &nick, &channel)?,
+        Command::Say(speech) => say(alloc, net, &speech)?,
+        Command::Heard(nick) => return Ok(heard(alloc, net, &nick)?),
+        Command::Clock(now) => net.now = now,
+    }
+    Ok(Vec::new(alloc))
+}
+
+// Makes turns until each bot is at a version.
+fn run_until<R: Net + AllocGlobal, P: Promise, B: Run>(
+    rt: &R,
+    net: &mut Network,
+    store: &ProcStore<P, B>,
+    version: u32,
+) -> Result<(), LiveError> {
+    for _turn in 0..MAX_TURNS {
+        if net.has_reached(version) {
+            return Ok(());
+        }
+        turn(rt, net, store)?;
+    }
+    if net.has_reached(version) {
+        Ok(())
+    } else {
+        Err(LiveError::Stalled)
+    }
+}
+
+fn run_turns<R: Net + AllocGlobal, P: Promise, B: Run>(
+    rt: &R,
+    net: &mut Network,
+    store: &ProcStore<P, B>,
+    count: u32,
+) -> Result<(), LiveError> {
+    for _turn in 0..count {
+        turn(rt, net, store)?;
+    }
+    Ok(())
+}
+
+fn say(alloc: Global, net: &mut Network, speech: &Speech) -> Result<(), NoMemory> {
+    let Speech { nick, target, text } = speech;
+    net.house.speak(alloc, nick, target, text)
+}
+
+// The version and the records of a bot.
+fn shown(alloc: Global, net: &Network, bot: u16) -> Result<Vec<u8>, NoMemory> {
+    let mut text = Vec::new(alloc);
+    match net.seats.get(bot as usize) {
+        Some(seat) => {
+            let version = Some(seat.bot.version());
+            put_records(alloc, &mut text, bot, version, Some(seat.bot.userfile()))?;
+        }
+        None => put_records(alloc, &mut text, bot, None, None)?,
+    }
+    Ok(text)
+}
+
+// The lines that a guest got, each after its nick.
+fn heard(alloc: Global, net: &mut Network, nick: &Text) -> Result<Vec<u8>, NoMemory> {
+    let lines = net.house.take_heard(alloc, nick);
+    heard_text(alloc, nick.as_bytes(), lines.as_slice())
+}
+
+// Lines, each after a nick.
+fn heard_text(alloc: Global, nick: &[u8], lines: &[Text]) -> Result<Vec<u8>, NoMemory>
+    ensures { IfOk result (λ text. text.items ≡ heard_text nick.now lines.now) }
+{
+    let mut text = Vec::new(alloc);
+    for line in lines {
+        put_heard(&mut text, nick, line.as_bytes())?;
+    }
+    Ok(text)
+}
+
+// NICK LINE
+#[tactic(auto, using(std::proofs::Common::append_assoc))]
+fn put_heard(out: &mut Vec<u8>, nick: &[u8], line: &[u8]) -> Result<(), NoMemory>
+    ensures { OnOk result (out.new.items ≡ out.old.items ++ heard_line nick.now line.now) }
+{
+    out.extend_from_slice(nick)?;
+    out.push(b' ')?;
+    out.extend_from_slice(line)?;
+    out.push(b'\n')?;
+    Ok(())
+}

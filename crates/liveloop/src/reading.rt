@@ -1,0 +1,114 @@
+// A whole live script.
+use crate::MAX_LEAVES;
+use crate::command::{Command, Commands};
+use crate::saying::{Saying, saying_of};
+use bytetext::{Failure, NoMemory};
+use script::{MAX_SCRIPT, ScriptError, ScriptFault, pieces_of};
+use std::alloc::Global;
+use std::marker::Model;
+
+/// A live script: how many leaves the botnet has, and what is done with it.
+#[derive(Drop)]
+pub struct LiveScript {
+    leaves: u16,
+    commands: Commands,
+}
+
+impl Model for LiveScript {
+    ghost use Rattle.std.specs.Prelude.{◌≤◌};
+    ghost use Rattle.liveloop.specs.declared.TheConstants.{MAX_LEAVES};
+    ghost use Rattle.liveloop.specs.Scripts.{Script};
+
+    ghost Value = { Script };
+
+    ghost view = { λ s. record { leaves = s.leaves; commands = s.commands } };
+
+    ghost invariant = { λ s. s.leaves ≤ MAX_LEAVES };
+}
+
+impl LiveScript {
+    ghost use Rattle.std.specs.Prelude.{◌≡◌, ◌≤◌};
+    ghost use Rattle.liveloop.specs.declared.TheConstants.{MAX_LEAVES};
+
+    /// The script that these bytes spell.
+    ///
+    /// # Errors
+    /// `Refused` with line 0 above 1,048,576 bytes, else with the first line that breaks a rule, else with line 0 where
+    /// there is no command; `NoMemory` where room is refused before a broken rule is seen.
+    pub fn read(alloc: Global, bytes: &[u8]) -> Result<LiveScript, ScriptError> {
+        if bytes.len() > MAX_SCRIPT {
+            return Err(fault_at(0));
+        }
+        let lines = pieces_of(alloc, bytes, b'\n')?;
+        script_of(alloc, lines.as_slice())
+    }
+
+    /// The number of leaves, at most [`MAX_LEAVES`](crate::MAX_LEAVES).
+    pub fn leaves(&self) -> u16
+        ensures value { result ≡ self.now.leaves }
+        ensures few { result ≤ MAX_LEAVES }
+    {
+        self.leaves
+    }
+
+    /// The commands, in order. Takes no memory.
+    pub fn into_commands(self) -> Commands
+        ensures { result ≡ self.commands }
+    {
+        self.commands
+    }
+}
+
+fn fault_at(line: u64) -> ScriptError {
+    Failure::Refused(ScriptFault { line })
+}
+
+// The script that these lines make.
+fn script_of(alloc: Global, lines: &[&[u8]]) -> Result<LiveScript, ScriptError> {
+    let mut script = None;
+    for (place, line) in lines.iter().enumerate() {
+        let saying = saying_of(alloc, line)?;
+        if !go_on(alloc, &mut script, saying)? {
+            return Err(fault_at(place as u64 + 1));
+        }
+    }
+    match script {
+        Some(script) => Ok(script),
+        None => Err(fault_at(0)),
+    }
+}
+
+// Adds what the next line says. False where it breaks a rule after the lines so far.
+fn go_on(
+    alloc: Global,
+    script: &mut Option<LiveScript>,
+    saying: Saying,
+) -> Result<bool, NoMemory> {
+    match saying {
+        Saying::Nothing => Ok(true),
+        Saying::Leaves(leaves) => Ok(set_leaves(alloc, script, leaves)),
+        Saying::Told(command) => add_command(script, command),
+        Saying::Wrong => Ok(false),
+    }
+}
+
+// Begins the script with the number of leaves, which is said once, and not above 8.
+fn set_leaves(alloc: Global, script: &mut Option<LiveScript>, leaves: u16) -> bool {
+    if script.is_some() || leaves > MAX_LEAVES {
+        return false;
+    }
+    let commands = Commands::empty(alloc);
+    *script = Some(LiveScript { leaves, commands });
+    true
+}
+
+// Adds a command, after the number of leaves.
+fn add_command(script: &mut Option<LiveScript>, command: Command) -> Result<bool, NoMemory> {
+    match script {
+        Some(begun) => {
+            begun.commands.push(command)?;
+            Ok(true)
+        }
+        None => Ok(false),
+    }
+}

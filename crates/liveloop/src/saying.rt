@@ -1,0 +1,81 @@
+// What one line of a live script says.
+ghost use Rattle.std.specs.Prelude.{◌≡◌, IfOk};
+ghost use Rattle.liveloop.specs.Grammar.{last_step, saying_of, shared_command, shared_event, shared_saying, shared_step};
+
+use crate::command::Command;
+use crate::own_words::own_command;
+use botcore::Event;
+use botworld::Step;
+use bytetext::NoMemory;
+use script::{Command as ReplayCommand, Saying as ReplaySaying, Steps, pieces_of};
+use std::alloc::Global;
+
+/// What a line says by itself, whatever stands before it.
+#[derive(Drop)]
+pub enum Saying {
+    /// Nothing: it is empty or begins with `#`.
+    Nothing,
+    /// The number of leaves, at most 1,000.
+    Leaves(u16),
+    /// A command.
+    Told(Command),
+    /// It breaks a rule.
+    Wrong,
+}
+
+/// What a line says.
+///
+/// # Errors
+/// `NoMemory` where room is refused.
+pub fn saying_of(alloc: Global, line: &[u8]) -> Result<Saying, NoMemory>
+    ensures { IfOk result (λ saying. saying ≡ saying_of line.now) }
+{
+    let words = pieces_of(alloc, line, b' ')?;
+    if let Some(command) = own_command(alloc, words.as_slice())? {
+        return Ok(Saying::Told(command));
+    }
+    Ok(shared_saying(script::saying_of(alloc, line)?))
+}
+
+// What a line says that a replay's script may have too.
+fn shared_saying(saying: ReplaySaying) -> Saying
+    ensures { result ≡ shared_saying saying }
+{
+    match saying {
+        ReplaySaying::Nothing => Saying::Nothing,
+        ReplaySaying::Leaves(leaves) => Saying::Leaves(leaves),
+        ReplaySaying::Told(command) => shared_command(command),
+        ReplaySaying::Wrong => Saying::Wrong,
+    }
+}
+
+fn shared_command(command: ReplayCommand) -> Saying
+    ensures { result ≡ shared_command command }
+{
+    match command {
+        ReplayCommand::Show(bot) => Saying::Told(Command::Show(bot)),
+        ReplayCommand::Steps(steps) => shared_step(steps),
+    }
+}
+
+// A line or a delivery is the network's own here, and its steps are none of a live script.
+fn shared_step(steps: Steps) -> Saying
+    ensures { result ≡ shared_step (last_step steps) }
+{
+    match steps.into_vec().pop() {
+        Some(Step::At { bot, event }) => shared_event(bot, event),
+        Some(Step::Deliver { .. }) | None => Saying::Wrong,
+    }
+}
+
+fn shared_event(bot: u16, event: Event) -> Saying
+    ensures { result ≡ shared_event bot event }
+{
+    match event {
+        Event::Connect => Saying::Told(Command::Connect(bot)),
+        Event::Ask(_) | Event::Pump | Event::Bind(_) | Event::Unbind(_) => {
+            Saying::Told(Command::Tell { bot, event })
+        }
+        Event::Line(_) | Event::Receive(_) | Event::Clock(_) => Saying::Wrong,
+    }
+}

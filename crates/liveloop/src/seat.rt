@@ -1,0 +1,81 @@
+// A bot and its sockets.
+use botcore::Bot;
+use bytetext::NoMemory;
+use ircline::LineReader;
+use loopback::{Peer, Uplink};
+use mio::net::TcpStream;
+use sharewire::Packet;
+use std::alloc::Global;
+
+/// A bot, its connection to the server, and a leaf's to the hub.
+#[derive(Drop)]
+pub struct Seat {
+    pub bot: Bot,
+    /// What its connection to the server has begun to say.
+    pub lines: LineReader,
+    pub irc: Peer,
+    /// None for the hub.
+    pub uplink: Option<Uplink>,
+}
+
+impl Seat {
+    /// A bot whose connections are being made. Takes no memory.
+    pub fn new(alloc: Global, bot: Bot, irc: TcpStream, uplink: Option<Uplink>) -> Seat {
+        Seat {
+            bot,
+            lines: LineReader::new(alloc),
+            irc: Peer::new(alloc, irc),
+            uplink,
+        }
+    }
+
+    /// Reads what has come over its connections.
+    ///
+    /// # Errors
+    /// `NoMemory` where a growth was refused.
+    pub fn read(&mut self) -> Result<(), NoMemory> {
+        let _came = self.irc.read()?;
+        if let Some(uplink) = &mut self.uplink {
+            let _came = uplink.wire.peer.read()?;
+        }
+        Ok(())
+    }
+
+    /// Writes what waits, as far as it is taken.
+    pub fn send(&mut self) {
+        let _moved = self.irc.send();
+        if let Some(uplink) = &mut self.uplink {
+            let _moved = uplink.wire.peer.send();
+        }
+    }
+
+    /// The packets that have come from the hub.
+    ///
+    /// # Errors
+    /// `NoMemory` where a growth was refused.
+    pub fn take_packets(&mut self, alloc: Global) -> Result<Vec<Packet>, NoMemory> {
+        match &mut self.uplink {
+            Some(uplink) => uplink.wire.take_packets(alloc),
+            None => Ok(Vec::new(alloc)),
+        }
+    }
+
+    /// Leaves a packet for the hub.
+    ///
+    /// # Errors
+    /// `NoMemory` where a growth was refused.
+    pub fn tell_hub(&mut self, alloc: Global, packet: &Packet) -> Result<(), NoMemory> {
+        match &mut self.uplink {
+            Some(uplink) => uplink.tell(alloc, packet),
+            None => Ok(()),
+        }
+    }
+
+    /// Whether its connection to the hub is lost.
+    pub fn has_lost_hub(&self) -> bool {
+        match &self.uplink {
+            Some(uplink) => uplink.wire.peer.is_over(),
+            None => false,
+        }
+    }
+}

@@ -1,0 +1,265 @@
+// The small server and its clients.
+use crate::addresses::local;
+use crate::caller::Caller;
+use crate::guest::Guest;
+use bytetext::{Failure, NoMemory, Seq, Text};
+use miniircd::{Client, Fault, Ircd, IrcdError, MAX_CLIENTS, Sent};
+use mio::net::{TcpListener, TcpStream};
+use std::alloc::Global;
+use std::io;
+use std::net::Net;
+
+/// The small server on a port of this machine, those who are connected to it, and its guests in memory.
+///
+/// ```text
+/// let mut house = House::open(&rt, 6667)?;
+/// house.let_in(alloc)?;      // who waits
+/// house.read()?;             // what they sent
+/// house.step(alloc)?;        // what they said
+/// house.send(alloc)?;        // what they are told; who is gone is let go
+/// ```
+#[derive(Drop)]
+pub struct House {
+    listener: TcpListener,
+    server: Ircd,
+    callers: Vec<Caller>,
+    guests: Vec<Guest>,
+}
+
+impl House {
+    /// A server without clients on this port of 127.0.0.1, or where it is 0 on one that the system chooses.
+    ///
+    /// # Errors
+    /// Those of the system, where the port can't be listened on.
+    pub fn open<R: Net + AllocGlobal>(rt: &R, port: u16) -> io::Result<House> {
+        Ok(House {
+            listener: TcpListener::bind(rt, local(port))?,
+            server: Ircd::new(rt.alloc()),
+            callers: Vec::new(rt.alloc()),
+            guests: Vec::new(rt.alloc()),
+        })
+    }
+
+    /// The port that it listens on.
+    ///
+    /// # Errors
+    /// Those of the system.
+    pub fn port(&self) -> io::Result<u16> {
+        Ok(self.listener.local_addr()?.port())
+    }
+
+    /// Lets in who waits; a full server closes the connection. Whether anyone came.
+    ///
+    /// # Errors
+    /// `NoMemory` where a growth was refused.
+    pub fn let_in(&mut self, alloc: Global) -> Result<bool, NoMemory> {
+        for count in 0..MAX_CLIENTS {
+            let Ok((stream, _)) = self.listener.accept() else {
+                return Ok(count > 0);
+            };
+            self.admit(alloc, stream)?;
+        }
+        Ok(true)
+    }
+
+    fn admit(&mut self, alloc: Global, stream: TcpStream) -> Result<(), NoMemory> {
+        match self.server.connect(alloc) {
+            Ok(client) => self.callers.push(Caller::new(alloc, client, stream))?,
+            Err(Failure::Refused(_)) => {}
+            Err(Failure::NoMemory) => return Err(NoMemory),
+        }
+        Ok(())
+    }
+
+    /// Reads from each what has come. Whether anything came.
+    ///
+    /// # Errors
+    /// `NoMemory` where a growth was refused.
+    pub fn read(&mut self) -> Result<bool, NoMemory> {
+        let mut came = false;
+        for caller in self.callers.iter_mut() {
+            if caller.peer.read()? {
+                came = true;
+            }
+        }
+        Ok(came)
+    }
+
+    /// Has the server take each line that has come.
+    ///
+    /// # Errors
+    /// `NoMemory` where a growth was refused.
+    pub fn step(&mut self, alloc: Global) -> Result<(), NoMemory> {
+        for place in 0..self.callers.len() {
+            self.hear(alloc, place)?;
+        }
+        Ok(())
+    }
+
+    // Has the server take the lines of the one at a place.
+    fn hear(&mut self, alloc: Global, place: usize) -> Result<(), NoMemory> {
+        let Some(caller) = self.callers.get_mut(place) else {
+            return Ok(());
+        };
+        let client = caller.client;
+        let lines = caller.take_lines(alloc)?;
+        if lines.is_empty() {
+            return Ok(());
+        }
+        self.say_all(alloc, client, lines.as_slice())?;
+        // An empty line does nothing, and tells of a client that has quit.
+        if !self.say(alloc, client, b"")? {
+            self.end(place);
+        }
+        Ok(())
+    }
+
+    fn say_all(&mut self, alloc: Global, client: Client, lines: &[Text]) -> Result<(), NoMemory> {
+        for line in lines {
+            let _held = self.say(alloc, client, line.as_bytes())?;
+        }
+        Ok(())
+    }
+
+    // The one at a place is to be let go.
+    fn end(&mut self, place: usize) {
+        if let Some(caller) = self.callers.get_mut(place) {
+            caller.peer.end();
+        }
+    }
+
+    // A client says a line. Whether the server holds the client.
+    fn say(&mut self, alloc: Global, client: Client, line: &[u8]) -> Result<bool, NoMemory> {
+        let sent = self.server.line(alloc, client, line);
+        self.deliver(alloc, sent)
+    }
+
+    // Leaves the lines of a call for those to whom they go. Whether the server holds the client.
+    fn deliver(
+        &mut self,
+        alloc: Global,
+        sent: Result<Seq<Sent>, IrcdError>,
+    ) -> Result<bool, NoMemory> {
+        let lines = match sent {
+            Ok(lines) => lines,
+            Err(Failure::Refused(Fault::Full | Fault::NoSuchClient)) => return Ok(false),
+            Err(Failure::NoMemory) => return Err(NoMemory),
+        };
+        for sent in lines.as_slice() {
+            self.tell(alloc, sent.to, sent.line.as_bytes())?;
+        }
+        Ok(true)
+    }
+
+    fn tell(&mut self, alloc: Global, client: Client, line: &[u8]) -> Result<(), NoMemory> {
+        if let Some(caller) = self.callers.iter_mut().find(|caller| caller.client == client) {
+            return caller.tell(line);
+        }
+        match self.guests.iter_mut().find(|guest| guest.client == client) {
+            Some(guest) => guest.tell(alloc, line),
+            None => Ok(()),
+        }
+    }
+
+    /// Writes to each what waits for it, as far as it is taken, and lets go those who are gone or have quit. Whether
+    /// anything moved.
+    ///
+    /// # Errors
+    /// `NoMemory` where a growth was refused.
+    pub fn send(&mut self, alloc: Global) -> Result<bool, NoMemory> {
+        let mut moved = false;
+        for caller in self.callers.iter_mut() {
+            if caller.peer.send() {
+                moved = true;
+            }
+        }
+        Ok(self.let_go(alloc)? || moved)
+    }
+
+    // Lets go those who are gone or have quit.
+    fn let_go(&mut self, alloc: Global) -> Result<bool, NoMemory> {
+        let mut went = false;
+        for _ in 0..MAX_CLIENTS {
+            let Some(place) = self.callers.iter().position(|caller| caller.peer.is_over()) else {
+                return Ok(went);
+            };
+            let caller = self.callers.remove(place);
+            let sent = self.server.gone(alloc, caller.client);
+            let _held = self.deliver(alloc, sent)?;
+            went = true;
+        }
+        Ok(went)
+    }
+
+    /// A client in memory comes, registers under a nick and joins a channel. Nothing where the server is full.
+    ///
+    /// # Errors
+    /// `NoMemory` where a growth was refused.
+    pub fn invite(&mut self, alloc: Global, nick: &Text, channel: &Text) -> Result<(), NoMemory> {
+        let client = match self.server.connect(alloc) {
+            Ok(client) => client,
+            Err(Failure::Refused(_)) => return Ok(()),
+            Err(Failure::NoMemory) => return Err(NoMemory),
+        };
+        let name = Text::from_slice(alloc, nick.as_bytes())?;
+        self.guests.push(Guest::new(alloc, client, name))?;
+        self.register(alloc, client, nick.as_bytes())?;
+        let line = line_of(alloc, &[b"JOIN ", channel.as_bytes()])?;
+        let _held = self.say(alloc, client, line.as_slice())?;
+        Ok(())
+    }
+
+    fn register(&mut self, alloc: Global, client: Client, nick: &[u8]) -> Result<(), NoMemory> {
+        let line = line_of(alloc, &[b"NICK ", nick])?;
+        let _held = self.say(alloc, client, line.as_slice())?;
+        let line = line_of(alloc, &[b"USER ", nick, b" 0 * :", nick])?;
+        let _held = self.say(alloc, client, line.as_slice())?;
+        Ok(())
+    }
+
+    /// A guest says a text to a channel or a nick. Nothing where there is no guest of this nick.
+    ///
+    /// # Errors
+    /// `NoMemory` where a growth was refused.
+    pub fn speak(
+        &mut self,
+        alloc: Global,
+        nick: &Text,
+        target: &Text,
+        text: &Text,
+    ) -> Result<(), NoMemory> {
+        let Some(guest) = self.guest_of(nick) else {
+            return Ok(());
+        };
+        let client = guest.client;
+        let words = [b"PRIVMSG ".as_slice(), target.as_bytes(), b" :", text.as_bytes()];
+        let line = line_of(alloc, &words)?;
+        let _held = self.say(alloc, client, line.as_slice())?;
+        Ok(())
+    }
+
+    /// The lines that a guest got since the last time, in order; none where there is no guest of this nick. Takes no
+    /// memory.
+    pub fn take_heard(&mut self, alloc: Global, nick: &Text) -> Vec<Text> {
+        match self.guest_of(nick) {
+            Some(guest) => guest.take_lines(alloc),
+            None => Vec::new(alloc),
+        }
+    }
+
+    // The first guest who came under a nick.
+    fn guest_of(&mut self, nick: &Text) -> Option<&mut Guest> {
+        self.guests
+            .iter_mut()
+            .find(|guest| guest.nick.as_bytes() == nick.as_bytes())
+    }
+}
+
+// Words as a line.
+fn line_of(alloc: Global, words: &[&[u8]]) -> Result<Vec<u8>, NoMemory> {
+    let mut line = Vec::new(alloc);
+    for word in words {
+        line.extend_from_slice(word)?;
+    }
+    Ok(line)
+}

@@ -1,0 +1,29 @@
+//! Sockets of this machine that never block: the small IRC server with its clients, and the sharing link.
+//!
+//! A [`Peer`] is a connection with the bytes that were read and those that are still to be written. [`House`] is the
+//! server of [`miniircd`] on a port, with those who are connected to it and guests that are held in memory. Over a
+//! [`FramePeer`] packets go as frames of [`sharewire`]; a [`LinkHouse`] is the hub's side of the link, with its listener,
+//! and an [`Uplink`] a leaf's.
+//!
+//! Each of them is driven by turns: let in who waits, read what has come, take it, and send what waits. No call waits for
+//! a socket. Who is slow, gone or sends rubbish is let go, and the others go on.
+//!
+//! What sockets give and take is the system's, so no contract speaks of it. Each call returns, and nothing is read or
+//! written out of bounds.
+#![tactic(auto)]
+
+mod addresses;
+mod caller;
+mod frames;
+mod guest;
+mod house;
+mod link;
+mod peer;
+mod uplink;
+
+pub use crate::addresses::local;
+pub use crate::frames::FramePeer;
+pub use crate::house::House;
+pub use crate::link::LinkHouse;
+pub use crate::peer::Peer;
+pub use crate::uplink::Uplink;

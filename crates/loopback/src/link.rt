@@ -1,0 +1,171 @@
+// The hub's side of the link.
+use crate::addresses::local;
+use crate::frames::FramePeer;
+use bytetext::NoMemory;
+use mio::net::TcpListener;
+use sharewire::Packet;
+use std::alloc::Global;
+use std::io;
+use std::net::Net;
+
+// How many connections the hub holds at most. Where one more comes, the oldest that said no hello yet gives way.
+const MAX_ENDS: usize = 64;
+
+// One connection to the hub.
+#[derive(Drop)]
+struct End {
+    wire: FramePeer,
+    // The leaf whose hello was its first packet.
+    leaf: Option<u16>,
+}
+
+/// The hub's listener, and those who are connected to it.
+#[derive(Drop)]
+pub struct LinkHouse {
+    listener: TcpListener,
+    ends: Vec<End>,
+    leaves: u16,
+}
+
+impl LinkHouse {
+    /// A listener on a port of 127.0.0.1 that the system chooses, for so many leaves.
+    ///
+    /// # Errors
+    /// Those of the system.
+    pub fn open<R: Net + AllocGlobal>(rt: &R, leaves: u16) -> io::Result<LinkHouse> {
+        Ok(LinkHouse {
+            listener: TcpListener::bind(rt, local(0))?,
+            ends: Vec::new(rt.alloc()),
+            leaves,
+        })
+    }
+
+    /// The port that it listens on.
+    ///
+    /// # Errors
+    /// Those of the system.
+    pub fn port(&self) -> io::Result<u16> {
+        Ok(self.listener.local_addr()?.port())
+    }
+
+    /// Lets in who waits.
+    ///
+    /// # Errors
+    /// `NoMemory` where a growth was refused.
+    pub fn let_in(&mut self, alloc: Global) -> Result<(), NoMemory> {
+        for _ in 0..MAX_ENDS {
+            let Ok((stream, _)) = self.listener.accept() else {
+                return Ok(());
+            };
+            self.make_place();
+            self.ends.push(End {
+                wire: FramePeer::new(alloc, stream),
+                leaf: None,
+            })?;
+        }
+        Ok(())
+    }
+
+    // Where there are many already, lets the oldest go that said no hello yet.
+    fn make_place(&mut self) {
+        if self.ends.len() < MAX_ENDS {
+            return;
+        }
+        if let Some(place) = self.ends.iter().position(|end| end.leaf.is_none()) {
+            let _oldest = self.ends.remove(place);
+        }
+    }
+
+    /// Reads from each what has come.
+    ///
+    /// # Errors
+    /// `NoMemory` where a growth was refused.
+    pub fn read(&mut self) -> Result<(), NoMemory> {
+        for end in self.ends.iter_mut() {
+            let _came = end.wire.peer.read()?;
+        }
+        Ok(())
+    }
+
+    /// How many are connected.
+    pub fn count(&self) -> usize {
+        self.ends.len()
+    }
+
+    /// The packets that have come from the one at a place. Where its first packet is no hello of a leaf, they are none
+    /// and it is to be let go.
+    ///
+    /// # Errors
+    /// `NoMemory` where a growth was refused.
+    pub fn take_packets(&mut self, alloc: Global, place: usize) -> Result<Vec<Packet>, NoMemory> {
+        let Some(end) = self.ends.get_mut(place) else {
+            return Ok(Vec::new(alloc));
+        };
+        let packets = end.wire.take_packets(alloc)?;
+        let Some(first) = packets.first() else {
+            return Ok(packets);
+        };
+        if end.leaf.is_some() {
+            return Ok(packets);
+        }
+        let Some(leaf) = greeting_of(first, self.leaves) else {
+            end.wire.peer.end();
+            return Ok(Vec::new(alloc));
+        };
+        self.seat_leaf(place, leaf);
+        Ok(packets)
+    }
+
+    // The one at a place is this leaf. Where another was, that one is to be let go.
+    fn seat_leaf(&mut self, place: usize, leaf: u16) {
+        if let Some(former) = self.end_of(leaf) {
+            former.wire.peer.end();
+            former.leaf = None;
+        }
+        if let Some(end) = self.ends.get_mut(place) {
+            end.leaf = Some(leaf);
+        }
+    }
+
+    fn end_of(&mut self, leaf: u16) -> Option<&mut End> {
+        self.ends.iter_mut().find(|end| end.leaf == Some(leaf))
+    }
+
+    /// Leaves a packet for a leaf. It is lost where the leaf has not said hello.
+    ///
+    /// # Errors
+    /// `NoMemory` where a growth was refused.
+    pub fn tell(&mut self, alloc: Global, leaf: u16, packet: &Packet) -> Result<(), NoMemory> {
+        match self.end_of(leaf) {
+            Some(end) => end.wire.tell(alloc, packet),
+            None => Ok(()),
+        }
+    }
+
+    /// Writes to each what waits for it, as far as it is taken, and lets go those who are gone.
+    pub fn send(&mut self) {
+        for end in self.ends.iter_mut() {
+            let _moved = end.wire.peer.send();
+        }
+        self.ends.retain(|end| !end.wire.peer.is_over());
+    }
+}
+
+// The leaf that a packet greets for; none where it is no hello, or of no leaf.
+fn greeting_of(packet: &Packet, leaves: u16) -> Option<u16> {
+    match packet {
+        Packet::Hello { leaf, .. } => {
+            if *leaf >= 1 && *leaf <= leaves {
+                Some(*leaf)
+            } else {
+                None
+            }
+        }
+        Packet::Change { .. }
+        | Packet::Part { .. }
+        | Packet::Request { .. }
+        | Packet::Accepted { .. }
+        | Packet::Refused { .. }
+        | Packet::BotText { .. } => None,
+    }
+}

@@ -1,0 +1,175 @@
+// A connection.
+ghost use Rattle.std.specs.Prelude.{◌≤◌, IfOk, length};
+
+use bytetext::NoMemory;
+use mio::net::TcpStream;
+use std::alloc::Global;
+use std::io::{ErrorKind, Read, Write};
+use std::{io, mem};
+
+// How much is read at a time, in bytes.
+const PIECE: usize = 4_096;
+
+// How often one turn reads at most. Who sends more is heard on in the next turn, so that nobody waits for them.
+const MAX_READS: usize = 64;
+
+// How much may wait to be written, in bytes. Whoever reads so slowly that more would wait is let go.
+const MAX_UNSENT: usize = 262_144;
+
+/// A connection, with the bytes that were read and not taken yet, and those that are still to be written.
+#[derive(Drop)]
+pub struct Peer {
+    stream: TcpStream,
+    heard: Vec<u8>,
+    unsent: Vec<u8>,
+    is_over: bool,
+}
+
+impl Peer {
+    /// A connection that has just been made, or is being made. Takes no memory.
+    pub fn new(alloc: Global, stream: TcpStream) -> Peer {
+        Peer {
+            stream,
+            heard: Vec::new(alloc),
+            unsent: Vec::new(alloc),
+            is_over: false,
+        }
+    }
+
+    /// Whether it is to be let go: the other side has closed it, its socket failed, too much waits to be written, or
+    /// [`Peer::end`] was called.
+    pub fn is_over(&self) -> bool {
+        self.is_over
+    }
+
+    /// It is to be let go.
+    pub fn end(&mut self) {
+        self.is_over = true;
+    }
+
+    /// Reads what has come, at most 64 pieces of 4,096 bytes. Whether any byte came.
+    ///
+    /// # Errors
+    /// `NoMemory` where room is refused.
+    pub fn read(&mut self) -> Result<bool, NoMemory> {
+        for _read in 0..MAX_READS {
+            if self.is_over || !self.read_piece()? {
+                return Ok(!self.heard.is_empty());
+            }
+        }
+        Ok(true)
+    }
+
+    // Reads once. Whether a byte came.
+    fn read_piece(&mut self) -> Result<bool, NoMemory> {
+        let mut piece = [0; PIECE];
+        match self.stream.read(&mut piece) {
+            Ok(0) => {
+                self.is_over = true;
+                Ok(false)
+            }
+            Ok(count) => {
+                self.heard.extend_from_slice(&piece[..count])?;
+                Ok(true)
+            }
+            Err(error) => {
+                self.note(&error);
+                Ok(false)
+            }
+        }
+    }
+
+    /// The bytes that were read since the last time. Takes no memory.
+    pub fn take_heard(&mut self, alloc: Global) -> Vec<u8> {
+        mem::replace(&mut self.heard, Vec::new(alloc))
+    }
+
+    /// Leaves bytes to be written. Where too many wait already, it is to be let go.
+    ///
+    /// # Errors
+    /// `NoMemory` where room is refused.
+    pub fn tell(&mut self, bytes: &[u8]) -> Result<(), NoMemory> {
+        if self.unsent.len() > MAX_UNSENT {
+            self.is_over = true;
+            return Ok(());
+        }
+        self.unsent.extend_from_slice(bytes)?;
+        Ok(())
+    }
+
+    /// What is to be written, for whoever puts bytes after it.
+    pub fn unsent(&mut self) -> &mut Vec<u8> {
+        &mut self.unsent
+    }
+
+    /// Writes what waits, as far as it is taken now. Whether any of it was taken.
+    pub fn send(&mut self) -> bool {
+        match write_front(&mut self.stream, self.unsent.as_slice()) {
+            Ok(count) => {
+                forget(&mut self.unsent, count);
+                count > 0
+            }
+            Err(error) => {
+                self.note(&error);
+                false
+            }
+        }
+    }
+
+    // It is to be let go after an error of its socket, but for one that only says that nothing can be done now.
+    fn note(&mut self, error: &io::Error) {
+        if !may_go_on(error) {
+            self.is_over = true;
+        }
+    }
+}
+
+// Writes bytes until all are written or no more are taken now. How many were taken.
+fn write_front(stream: &mut TcpStream, bytes: &[u8]) -> io::Result<usize> {
+    let mut taken = 0;
+    for _write in 0..bytes.len() {
+        if taken >= bytes.len() {
+            return Ok(taken);
+        }
+        let count = write_once(stream, &bytes[taken..])?;
+        if count == 0 {
+            return Ok(taken);
+        }
+        taken += count;
+    }
+    Ok(taken)
+}
+
+// Writes once. How many bytes were taken: none where none can be now.
+fn write_once(stream: &mut TcpStream, bytes: &[u8]) -> io::Result<usize>
+    ensures bound { IfOk result (λ n. n ≤ length bytes.now) }
+{
+    match stream.write(bytes) {
+        Ok(count) => Ok(count),
+        Err(error) => {
+            if may_go_on(&error) {
+                Ok(0)
+            } else {
+                Err(error)
+            }
+        }
+    }
+}
+
+// The front of what waits has been written.
+fn forget(unsent: &mut Vec<u8>, count: usize) {
+    if count >= unsent.len() {
+        unsent.clear();
+    } else {
+        let _sent = unsent.drain(..count);
+    }
+}
+
+// Whether a socket's error only says that nothing can be done now. One that still connects may answer that it is not
+// connected.
+fn may_go_on(error: &io::Error) -> bool {
+    matches!(
+        error.kind(),
+        ErrorKind::WouldBlock | ErrorKind::Interrupted | ErrorKind::NotConnected
+    )
+}

@@ -1,0 +1,41 @@
+// A leaf's side of the link.
+use crate::frames::FramePeer;
+use bytetext::NoMemory;
+use mio::net::TcpStream;
+use sharewire::Packet;
+use std::alloc::Global;
+
+/// A leaf's connection to the hub, over which its first packet is a hello.
+#[derive(Drop)]
+pub struct Uplink {
+    pub wire: FramePeer,
+    greeted: bool,
+}
+
+impl Uplink {
+    /// A connection that is being made. Takes no memory.
+    pub fn new(alloc: Global, stream: TcpStream) -> Uplink {
+        Uplink {
+            wire: FramePeer::new(alloc, stream),
+            greeted: false,
+        }
+    }
+
+    /// Leaves a packet for the hub. Before a hello every other packet is lost.
+    ///
+    /// # Errors
+    /// `NoMemory` where a growth was refused.
+    pub fn tell(&mut self, alloc: Global, packet: &Packet) -> Result<(), NoMemory> {
+        if is_hello(packet) {
+            self.greeted = true;
+        }
+        if self.greeted {
+            self.wire.tell(alloc, packet)?;
+        }
+        Ok(())
+    }
+}
+
+fn is_hello(packet: &Packet) -> bool {
+    matches!(packet, Packet::Hello { .. })
+}
