@@ -21,20 +21,20 @@
 mod command;
 mod error;
 mod events;
-mod live;
 mod moment;
 mod network;
 mod own_words;
 mod reading;
+mod running;
 mod saying;
 mod seat;
 mod turns;
 
 pub use crate::command::{Command, Commands, Speech};
 pub use crate::error::LiveError;
-pub use crate::live::live;
 pub use crate::moment::Moment;
 pub use crate::reading::LiveScript;
+pub use crate::running::live;
 
 /// The most leaves of a live script.
 pub const MAX_LEAVES: u16 = 8;

@@ -79,11 +79,7 @@ fn script_of(alloc: Global, lines: &[&[u8]]) -> Result<LiveScript, ScriptError> 
 }
 
 // Adds what the next line says. False where it breaks a rule after the lines so far.
-fn go_on(
-    alloc: Global,
-    script: &mut Option<LiveScript>,
-    saying: Saying,
-) -> Result<bool, NoMemory> {
+fn go_on(alloc: Global, script: &mut Option<LiveScript>, saying: Saying) -> Result<bool, NoMemory> {
     match saying {
         Saying::Nothing => Ok(true),
         Saying::Leaves(leaves) => Ok(set_leaves(alloc, script, leaves)),

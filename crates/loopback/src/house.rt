@@ -152,7 +152,11 @@ impl House {
     }
 
     fn tell(&mut self, alloc: Global, client: Client, line: &[u8]) -> Result<(), NoMemory> {
-        if let Some(caller) = self.callers.iter_mut().find(|caller| caller.client == client) {
+        if let Some(caller) = self
+            .callers
+            .iter_mut()
+            .find(|caller| caller.client == client)
+        {
             return caller.tell(line);
         }
         match self.guests.iter_mut().find(|guest| guest.client == client) {
@@ -232,7 +236,12 @@ impl House {
             return Ok(());
         };
         let client = guest.client;
-        let words = [b"PRIVMSG ".as_slice(), target.as_bytes(), b" :", text.as_bytes()];
+        let words = [
+            b"PRIVMSG ".as_slice(),
+            target.as_bytes(),
+            b" :",
+            text.as_bytes(),
+        ];
         let line = line_of(alloc, &words)?;
         let _held = self.say(alloc, client, line.as_slice())?;
         Ok(())

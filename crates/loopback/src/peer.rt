@@ -146,13 +146,7 @@ fn write_once(stream: &mut TcpStream, bytes: &[u8]) -> io::Result<usize>
 {
     match stream.write(bytes) {
         Ok(count) => Ok(count),
-        Err(error) => {
-            if may_go_on(&error) {
-                Ok(0)
-            } else {
-                Err(error)
-            }
-        }
+        Err(error) => { if may_go_on(&error) { Ok(0) } else { Err(error) } }
     }
 }
 
