@@ -11,4 +11,4 @@ returns-in-Open g c up =
     let going = going_of state inside.down inside.store account c.in-Open.journal c.self.invariant (ap (λ l. l.account.down) c.self.view_is ∙ up)
     c.in-Open.is in
     c.generation.ensures ∙ sym (generation_is state c.in-Open.journal account going)
-        ∙ ap (λ l. l.account.contents.generation) c.self.view_is
+    ∙ ap (λ l. l.account.contents.generation) c.self.view_is
