@@ -62,10 +62,17 @@ fn shared_command(command: ReplayCommand) -> Saying
 fn shared_step(steps: Steps) -> Saying
     ensures { result ≡ shared_step (last_step steps) }
 {
-    match steps.into_vec().pop() {
+    match last_of(steps) {
         Some(Step::At { bot, event }) => shared_event(bot, event),
         Some(Step::Deliver { .. }) | None => Saying::Wrong,
     }
+}
+
+// The last of these steps. Takes no memory.
+fn last_of(steps: Steps) -> Option<Step>
+    ensures { result ≡ last_step steps }
+{
+    steps.into_vec().pop()
 }
 
 fn shared_event(bot: u16, event: Event) -> Saying
