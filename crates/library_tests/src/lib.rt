@@ -1,6 +1,5 @@
-//! Tests of the pure parts, of journals and of what they mean, of what no clause says and no line of `vectors` shows: each
-//! public call once where it does its work, with whole values, and worked examples that need more than one line. A module
-//! is the tests of one library.
+//! Tests of the pure parts, of what no clause says and no line of `vectors` shows: each public call once where it does its
+//! work, with whole values, and worked examples that need more than one line. A module is the tests of one library.
 #![tactic(auto)]
 
 #[cfg(test)]
@@ -12,15 +11,11 @@ mod flags;
 #[cfg(test)]
 mod folding;
 #[cfg(test)]
-mod ledgers;
-#[cfg(test)]
 mod lines;
 #[cfg(test)]
 mod masks;
 #[cfg(test)]
 mod queues;
-#[cfg(test)]
-mod states;
 #[cfg(test)]
 mod texts;
 #[cfg(test)]

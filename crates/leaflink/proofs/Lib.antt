@@ -1,4 +1,0 @@
-mod KeptLaws
-mod LinkLaws
-mod RestartLaws
-mod OpenLaws

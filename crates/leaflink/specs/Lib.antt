@@ -1,4 +1,0 @@
-pub mod Kept
-pub mod Doubts
-pub mod Opening
-pub mod Link
