@@ -83,8 +83,8 @@ impl HubState {
     /// has a spelling, as each has that a journal was opened with.
     ///
     /// # Errors
-    /// `NotAJournal` where they mean nothing: the base is no hub's, has a reply to a leaf above the last or records that
-    /// no userfile holds, or an entry is none that a hub writes in the state before it. Or `NoMemory`.
+    /// `NotAJournal` where they mean nothing: the base is no hub's, has a reply to leaf 0 or to a leaf above the last, or
+    /// records that no userfile holds, or an entry is none that a hub writes in the state before it. Or `NoMemory`.
     pub fn read(
         alloc: Global,
         leaves: u16,

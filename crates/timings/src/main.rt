@@ -8,7 +8,7 @@
 //! | `channels` | 100,000 lines on 200 channels of 1,000 people; 8,000 who quit and come back; 10,000 QUITs' events |
 //! | `timers` | 200 timers over ten minutes, and 500 cron masks over a day |
 //! | `lines` | a stream of about 10 MB, to its lines |
-//! | `drive` | a bot that is driven over streams: empty lines, PINGs, JOINs of somebody banned, and 10 MB said on a channel, with one bind and with 50 |
+//! | `drive` | a bot driven over streams: empty lines, PINGs, JOINs of one banned, and 10 MB of talk with 1 and 50 binds |
 //! | `frames` | three packets, each written 100,000 times, and the stream of these frames, which is read |
 //! | `journal FILE FILE` | 1,000 appends to a journal in these files; 100,000 to one in memory, which is opened again |
 //! | `all` | each of these, but for a journal in files |
