@@ -1,0 +1,7 @@
+mod KeptLaws
+mod LinkLaws
+mod InstallLaws
+mod RestartLaws
+mod OpenLaws
+mod PartLaws
+mod TogetherLaws

@@ -1,0 +1,6 @@
+pub mod Kept
+pub mod Doubts
+pub mod Opening
+pub mod Link
+pub mod Parts
+pub mod Journaling
