@@ -11,8 +11,6 @@ mod flags;
 #[cfg(test)]
 mod folding;
 #[cfg(test)]
-mod hubs;
-#[cfg(test)]
 mod lines;
 #[cfg(test)]
 mod masks;
