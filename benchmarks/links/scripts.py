@@ -9,7 +9,7 @@ device call of each row stopped with each outcome, a restart, and `--further` ra
 import argparse
 import random
 
-from model import Bad, Base, Bot, LAST, Net, User, num, play, read_frame, spell_entry, text_of, user_bytes
+from model import Base, LAST, Net, User, num, spell_entry, user_bytes
 
 TEARS = ["old", "new", "0", "1", "7"]
 
@@ -339,7 +339,6 @@ def stopped(s, row, call, tear, bot, rng, further):
 
 HANDLES = ["alice", "Alice", "bob", "carl", "dan", "eve", "fred", "gus", "hal", "ida", "jo", "kim", "lou", "max[", "MAX{", "ned"]
 MASKS = ["*!*@a.net", "*!*@A.net", "bob!*@*", "*!x@b"]
-FORGED = ["0100000000", "0103e800000000", "0400010000000001016100"[:20], "05000100000001ffffffff"]
 
 
 def random_change(rng):

@@ -1,6 +1,7 @@
 // Calls of a bot's link.
-ghost use Rattle.std.specs.Prelude.{◌≡◌, IfOk};
-ghost use Rattle.linkcalls.specs.Shapes.{AreGood};
+ghost use Rattle.std.specs.Prelude.{◌+◌};
+ghost use Rattle.linkcalls.specs.declared.TheConstants.{MAX_LEAVES};
+ghost use Rattle.linkcalls.specs.Shapes.{AreGood, GoOut};
 
 use crate::net::{Good, Net, Place, Sent};
 use crate::print::{put, put_code, put_note, put_number, put_packet, records_text};
@@ -56,7 +57,7 @@ fn answer_of(
     link: &mut BotLink<MemDisk>,
     call: Call,
 ) -> Result<Answer, LinkError>
-    ensures { IfOk result (λ answer. AreGood answer.packets) }
+    ensures { GoOut (MAX_LEAVES + 1) result }
 {
     match call {
         Call::Ask(change) => link.ask(alloc, change),
@@ -75,7 +76,7 @@ fn tell(
     answer: Result<Answer, LinkError>,
     out: &mut Vec<u8>,
 ) -> Result<(), NoMemory>
-    requires { IfOk answer (λ answer. AreGood answer.packets) }
+    requires { GoOut (MAX_LEAVES + 1) answer }
 {
     match answer {
         Ok(answer) => {
@@ -100,21 +101,28 @@ fn send(
     requires { AreGood packets.now }
 {
     for outgoing in packets {
+        let to = outgoing.to;
         let packet = Good::copy_of(alloc, &outgoing.packet)?;
-        net.packets.push(Sent {
-            to: outgoing.to,
-            packet,
-        })?;
-        put(out, b"send ")?;
-        put_number(out, net.packets.len() as u64)?;
-        put(out, b" ")?;
-        put_number(out, u64::from(bot))?;
-        put(out, b">")?;
-        put_number(out, u64::from(outgoing.to))?;
-        put_packet(out, &outgoing.packet)?;
-        put(out, b"\n")?;
+        net.packets.push(Sent { to, packet })?;
+        put_sent(out, net.packets.len(), bot, outgoing)?;
     }
     Ok(())
+}
+
+fn put_sent(
+    out: &mut Vec<u8>,
+    number: usize,
+    bot: u16,
+    outgoing: &Outgoing,
+) -> Result<(), NoMemory> {
+    put(out, b"send ")?;
+    put_number(out, number as u64)?;
+    put(out, b" ")?;
+    put_number(out, u64::from(bot))?;
+    put(out, b">")?;
+    put_number(out, u64::from(outgoing.to))?;
+    put_packet(out, &outgoing.packet)?;
+    put(out, b"\n")
 }
 
 /// Takes in what a bot shows now, which was at this version before.

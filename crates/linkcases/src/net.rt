@@ -1,5 +1,5 @@
 // A net of bots, and the packets that they sent.
-ghost use Rattle.std.specs.Prelude.{◌≡◌, ◌≤◌, IfOk};
+ghost use Rattle.std.specs.Prelude.{◌≤◌};
 ghost use Rattle.storage.specs.State.{IsSettled};
 ghost use Rattle.disks.specs.Memory.{state_of};
 ghost use Rattle.linkcalls.specs.declared.TheConstants.{MAX_LEAVES};
@@ -72,7 +72,16 @@ impl Model for Good {
 
 impl Good {
     ghost use Rattle.std.specs.Prelude.{◌≡◌};
+    ghost use Rattle.sharewire.specs.Frames.{IsGoodPacket};
     ghost use Rattle.linkcalls.specs.Shapes.{HasGoodRecords};
+
+    /// A copy of this packet, which was read from bytes.
+    #[tactic(auto, using(crate::proofs::Shapes::good_records))]
+    pub fn read(alloc: Global, packet: &Packet) -> Result<Good, NoMemory>
+        requires { IsGoodPacket packet.now }
+    {
+        Good::copy_of(alloc, packet)
+    }
 
     /// A copy of this packet.
     pub fn copy_of(alloc: Global, packet: &Packet) -> Result<Good, NoMemory>
@@ -126,14 +135,9 @@ impl Net {
     /// A hub and these leaves, none of which was ever used.
     pub fn new(alloc: Global, leaves: Leaves) -> Result<Net, NoMemory> {
         let mut bots = Vec::new(alloc);
-        for number in 0..leaves.count() + 1 {
-            let first = MemDisk::new(alloc);
-            let second = MemDisk::new(alloc);
-            let bot = match BotLink::create(alloc, first, second, number, leaves.count()) {
-                Ok(link) => Place::Linked(link),
-                Err(returned) => Place::Apart(kept_disks(returned)?),
-            };
-            bots.push(bot)?;
+        let count = leaves.count();
+        for number in 0..count + 1 {
+            bots.push(new_bot(alloc, number, count)?)?;
         }
         Ok(Net {
             leaves,
@@ -144,8 +148,21 @@ impl Net {
     }
 }
 
-/// The disks on which no link was made or opened, unless memory ran out.
-pub fn kept_disks(returned: Returned<MemDisk>) -> Result<Disks<MemDisk>, NoMemory> {
+// A bot that was never used.
+fn new_bot(alloc: Global, number: u16, leaves: u16) -> Result<Place, NoMemory>
+    requires numbered { number ≤ leaves }
+    requires few { leaves ≤ MAX_LEAVES }
+{
+    let first = MemDisk::new(alloc);
+    let second = MemDisk::new(alloc);
+    match BotLink::create(alloc, first, second, number, leaves) {
+        Ok(link) => Ok(Place::Linked(link)),
+        Err(returned) => Ok(Place::Apart(kept_disks(returned)?)),
+    }
+}
+
+// The disks on which no link was made, unless memory ran out.
+fn kept_disks(returned: Returned<MemDisk>) -> Result<Disks<MemDisk>, NoMemory> {
     match returned.error {
         Failure::Refused(_) => Ok(returned.disks),
         Failure::NoMemory => Err(NoMemory),

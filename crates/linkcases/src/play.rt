@@ -1,4 +1,8 @@
 // The steps of a text.
+ghost use Rattle.std.specs.Prelude.{IfOk};
+ghost use Rattle.std.specs.List.{AllByRecursion};
+ghost use Rattle.sharewire.specs.Frames.{IsGoodPacket};
+
 use crate::calls::{Call, make};
 use crate::changes::change_of;
 use crate::devices::{hold, plan, plan_read};
@@ -6,8 +10,8 @@ use crate::net::{Good, Leaves, Net, Place};
 use crate::print::{put, put_number, records_text};
 use crate::stop::{CaseError, NO_STEP, Stop};
 use crate::words::{bytes_of, cut, number};
-use bytetext::TryCopy;
-use sharewire::WireReader;
+use bytetext::{NoMemory, Seq};
+use sharewire::{Packet, WireReader};
 use std::alloc::Global;
 
 /// What the steps of a text answer.
@@ -133,11 +137,21 @@ fn give(
     out: &mut Vec<u8>,
 ) -> Result<(), CaseError> {
     let bytes = bytes_of(alloc, frame)?;
-    let feed = WireReader::new(alloc).feed(alloc, &bytes)?;
-    for packet in feed.packets.as_slice() {
-        make(alloc, net, bot, Call::Take(Good::copy_of(alloc, packet)?), out)?;
+    let packets = packets_in(alloc, &bytes)?;
+    for packet in packets.as_slice() {
+        let packet = Good::read(alloc, packet)?;
+        make(alloc, net, bot, Call::Take(packet), out)?;
     }
     Ok(())
+}
+
+// The packets that these bytes begin with.
+fn packets_in(alloc: Global, bytes: &[u8]) -> Result<Seq<Packet>, NoMemory>
+    ensures { IfOk result (λ packets. AllByRecursion IsGoodPacket packets) }
+{
+    let mut reader = WireReader::new(alloc);
+    let feed = reader.feed(alloc, bytes)?;
+    Ok(feed.packets)
 }
 
 // `show B`
