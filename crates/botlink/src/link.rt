@@ -1,33 +1,30 @@
 // A bot's end of the link.
+use crate::ends::Ends;
 use bytejournal::{Disks, Returned};
-use bytetext::Failure;
+use hublink::HubLink;
+use leaflink::LeafLink;
 use linkcalls::{Answer, LinkError, Outgoing, Packet};
 use std::alloc::Global;
-use std::marker::{Model, PhantomData};
+use std::marker::Model;
 use storage::Disk;
 use userfile::{Change, Userfile};
 
 /// A bot's end of the link: the hub's where its number is 0, else a leaf's.
 #[derive(Drop)]
 pub struct BotLink<D: Disk> {
-    number: u16,
-    leaves: u16,
-    never: Never,
-    of: PhantomData<D>,
+    end: Ends<D>,
 }
-
-// What stands here until the ends do: there is no such link.
-#[derive(Clone, Copy)]
-enum Never {}
 
 impl<D: Disk> Model for BotLink<D> {
     ghost use Rattle.botlink.specs.Links.{BotEnd};
 
     ghost Value = { BotEnd };
 
-    ghost use Rattle.botlink.specs.Links.{new_bot_end};
+    ghost use Rattle.botlink.specs.Ends.{bot_of, IsNumbered};
 
-    ghost view = { λ l. new_bot_end l.number l.leaves (record { first = 0; second = 0 }) };
+    ghost view = { λ l. bot_of l.end };
+
+    ghost invariant = { λ l. IsNumbered l.end };
 }
 
 impl<D: Disk> BotLink<D> {
@@ -58,10 +55,20 @@ impl<D: Disk> BotLink<D> {
         requires few { leaves ≤ MAX_LEAVES }
         ensures row { Makes D.state number leaves first second result }
     {
-        Err(Returned {
-            error: Failure::NoMemory,
-            disks: Disks { first, second },
-        })
+        if number == 0 {
+            return match HubLink::create(alloc, first, second, leaves) {
+                Ok(hub) => Ok(BotLink {
+                    end: Ends::Hub(hub),
+                }),
+                Err(returned) => Err(returned),
+            };
+        }
+        match LeafLink::create(alloc, first, second, number, leaves) {
+            Ok(leaf) => Ok(BotLink {
+                end: Ends::Leaf(leaf),
+            }),
+            Err(returned) => Err(returned),
+        }
     }
 
     /// The bot of this number, as its journal on the two disks has it. Nothing is written.
@@ -83,24 +90,40 @@ impl<D: Disk> BotLink<D> {
         requires few { leaves ≤ MAX_LEAVES }
         ensures row { Opens D.state number leaves first second result }
     {
-        Err(Returned {
-            error: Failure::NoMemory,
-            disks: Disks { first, second },
-        })
+        if number == 0 {
+            return match HubLink::open(alloc, first, second, leaves) {
+                Ok(hub) => Ok(BotLink {
+                    end: Ends::Hub(hub),
+                }),
+                Err(returned) => Err(returned),
+            };
+        }
+        match LeafLink::open(alloc, first, second, number, leaves) {
+            Ok(leaf) => Ok(BotLink {
+                end: Ends::Leaf(leaf),
+            }),
+            Err(returned) => Err(returned),
+        }
     }
 
     /// The version: how many changes the hub has accepted, or the number of the last one that the leaf holds.
     pub fn version(&self) -> u32
         ensures { result ≡ end_version self.now.end }
     {
-        match self.never {}
+        match &self.end {
+            Ends::Hub(hub) => hub.version(),
+            Ends::Leaf(leaf) => leaf.version(),
+        }
     }
 
     /// The userfile at that version.
     pub fn userfile(&self) -> &Userfile
         ensures { result.now ≡ end_records self.now.end }
     {
-        match self.never {}
+        match &self.end {
+            Ends::Hub(hub) => hub.userfile(),
+            Ends::Leaf(leaf) => leaf.userfile(),
+        }
     }
 
     /// Whether a disk failed, or a restart did not end, since the journal was last opened: nothing is taken but a
@@ -108,14 +131,20 @@ impl<D: Disk> BotLink<D> {
     pub fn is_down(&self) -> bool
         ensures { result ≡ end_is_down self.now.end }
     {
-        match self.never {}
+        match &self.end {
+            Ends::Hub(hub) => hub.is_down(),
+            Ends::Leaf(leaf) => leaf.is_down(),
+        }
     }
 
     /// How many asks wait.
     pub fn ask_count(&self) -> usize
         ensures { result ≡ length (end_asks self.now.end) }
     {
-        match self.never {}
+        match &self.end {
+            Ends::Hub(hub) => hub.ask_count(),
+            Ends::Leaf(leaf) => leaf.ask_count(),
+        }
     }
 
     /// Takes back all asks but the oldest ones, of which this many stay. Takes no memory.
@@ -125,7 +154,10 @@ impl<D: Disk> BotLink<D> {
     pub fn keep_asks(&mut self, count: usize)
         ensures { self.new ≡ keeps_asks self.old count }
     {
-        match self.never {}
+        match &mut self.end {
+            Ends::Hub(hub) => hub.keep_asks(count),
+            Ends::Leaf(leaf) => leaf.keep_asks(count),
+        }
     }
 
     /// Lets a change wait for a pump: `Queued`, and nothing to send.
@@ -137,7 +169,10 @@ impl<D: Disk> BotLink<D> {
         ensures row { Asks self.old change result self.new }
         ensures packets { GoOut (MAX_LEAVES + 1) result }
     {
-        match self.never {}
+        match &mut self.end {
+            Ends::Hub(hub) => hub.ask(alloc, change),
+            Ends::Leaf(leaf) => leaf.ask(alloc, change),
+        }
     }
 
     /// Does the next piece of work. The hub takes its oldest ask: `Accepted`, once that is journaled, with the change for
@@ -151,7 +186,10 @@ impl<D: Disk> BotLink<D> {
         ensures row { Calls self.old (did self.old Pump) result self.new }
         ensures packets { GoOut (MAX_LEAVES + 1) result }
     {
-        match self.never {}
+        match &mut self.end {
+            Ends::Hub(hub) => hub.pump(alloc),
+            Ends::Leaf(leaf) => leaf.pump(alloc),
+        }
     }
 
     /// Takes a packet.
@@ -168,7 +206,10 @@ impl<D: Disk> BotLink<D> {
         ensures row { Calls self.old (took self.old packet.now) result self.new }
         ensures packets { GoOut (MAX_LEAVES + 1) result }
     {
-        match self.never {}
+        match &mut self.end {
+            Ends::Hub(hub) => hub.receive(alloc, packet),
+            Ends::Leaf(leaf) => leaf.receive(alloc, packet),
+        }
     }
 
     /// A text to another bot, which the caller is to send, where its step has sent so many so far. The bot stays as it
@@ -186,7 +227,10 @@ impl<D: Disk> BotLink<D> {
     ) -> Result<Outgoing, LinkError>
         ensures row { Tells self.now to text.now sent result }
     {
-        match self.never {}
+        match &self.end {
+            Ends::Hub(hub) => hub.send_text(alloc, to, text, sent),
+            Ends::Leaf(leaf) => leaf.send_text(alloc, to, text, sent),
+        }
     }
 
     /// Writes the state alone into the journal, in its next generation: `Compacted`, and nothing to send.
@@ -198,7 +242,10 @@ impl<D: Disk> BotLink<D> {
         ensures row { Calls self.old (did self.old Compact) result self.new }
         ensures packets { GoOut (MAX_LEAVES + 1) result }
     {
-        match self.never {}
+        match &mut self.end {
+            Ends::Hub(hub) => hub.compact(alloc),
+            Ends::Leaf(leaf) => leaf.compact(alloc),
+        }
     }
 
     /// Crashes both disks, as where the program ended, and opens the journal on what that left: `Restarted` with the
@@ -210,7 +257,10 @@ impl<D: Disk> BotLink<D> {
         ensures row { CallsRestart self.old result self.new }
         ensures packets { GoOut (MAX_LEAVES + 1) result }
     {
-        match self.never {}
+        match &mut self.end {
+            Ends::Hub(hub) => hub.restart(alloc),
+            Ends::Leaf(leaf) => leaf.restart(alloc),
+        }
     }
 
     /// The two disks, in the order in which they were given.
@@ -218,6 +268,9 @@ impl<D: Disk> BotLink<D> {
         // Whatever a crash leaves on them is the bot's, with the record in doubt or without it.
         ensures left { MayLeave D.state result.first result.second self }
     {
-        match self.never {}
+        match self.end {
+            Ends::Hub(hub) => hub.into_disks(),
+            Ends::Leaf(leaf) => leaf.into_disks(),
+        }
     }
 }
