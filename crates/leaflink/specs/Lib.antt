@@ -2,3 +2,4 @@ pub mod Kept
 pub mod Doubts
 pub mod Opening
 pub mod Link
+pub mod Parts

@@ -242,6 +242,36 @@ impl<D: Disk> KeptLeaf<D> {
         }
     }
 
+    // Puts the records of a version in the place of what there was.
+    pub(crate) fn install(
+        &mut self,
+        alloc: Global,
+        version: u32,
+        userfile: Userfile,
+    ) -> Result<(), LedgerError>
+        requires up { self.old.down ≡ false }
+        requires numbered { nat_lt self.old.kept.generation last_number ≡ true }
+        ensures { Journals (Install version userfile) self.old result self.new }
+    {
+        userfile.are_sound();
+        let base = self
+            .state
+            .base_with(alloc, self.number, version, &userfile)?;
+        match self.ledger.rebase(alloc, &base) {
+            Ok(()) => {
+                self.state.install(version, userfile);
+                Ok(())
+            }
+            Err(Failure::NoMemory) => Err(Failure::NoMemory),
+            Err(Failure::Refused(RebaseFault::GenerationsSpent)) => unreachable!(),
+            Err(Failure::Refused(RebaseFault::DiskFault)) => {
+                self.doubt = Some(Doubt::Install(version, Snapshot::of(&userfile)));
+                self.down = true;
+                Err(Failure::Refused(DiskFault))
+            }
+        }
+    }
+
     // Opens the journal again on what a crash leaves.
     //
     // `DiskFault` or `NoMemory`: the leaf is down, and what was in doubt still is.

@@ -21,5 +21,8 @@
 mod doubt;
 mod kept;
 mod link;
+mod parts;
+mod receiving;
+mod walk;
 
 pub use crate::link::LeafLink;

@@ -1,10 +1,10 @@
 // A leaf's end of the link.
 ghost use Rattle.std.specs.Prelude.{◌≡◌, ◌∷◌, [], IfOk, IfErr};
 ghost use Rattle.bytetext.specs.declared.failure.Failure.TheVariants.{NoMemory as no_memory};
-ghost use Rattle.linkcalls.specs.Calls.{note_of as told_of};
-ghost use Rattle.leaflink.specs.Link.{link_error, reply_note};
+ghost use Rattle.leaflink.specs.Link.{link_error};
 
 use crate::kept::KeptLeaf;
+use crate::parts::KeptParts;
 use botjournal::{Answer as Reply, LedgerError};
 use bytejournal::{Disks, Returned};
 use bytetext::{Failure, NoMemory, Seq, Text, TryCopy, refuse};
@@ -21,9 +21,10 @@ use userfile::{Change, Userfile, shape};
 /// A leaf's end: its userfile at a version, the asks that wait, the request that is out, and the journal.
 #[derive(Drop)]
 pub struct LeafLink<D: Disk> {
-    leaves: u16,
-    kept: KeptLeaf<D>,
-    waiting: VecDeque<Change>,
+    pub(crate) leaves: u16,
+    pub(crate) kept: KeptLeaf<D>,
+    pub(crate) waiting: VecDeque<Change>,
+    pub(crate) parts: Option<KeptParts>,
 }
 
 impl<D: Disk> Model for LeafLink<D> {
@@ -31,21 +32,20 @@ impl<D: Disk> Model for LeafLink<D> {
 
     ghost Value = { LeafEnd };
 
-    ghost use Rattle.std.specs.Prelude.{None};
     ghost use Rattle.leaflink.specs.Link.{end_of, IsLink};
 
-    ghost view = { λ l. end_of l.leaves l.kept l.waiting.items None };
+    ghost view = { λ l. end_of l.leaves l.kept (record { waiting = l.waiting.items; parts = l.parts }) };
 
     ghost invariant = { λ l. IsLink l.leaves l.kept.number l.waiting.items };
 }
 
 impl<D: Disk> LeafLink<D> {
-    ghost use Rattle.std.specs.Prelude.{◌≡◌, ◌<◌, ◌≤◌, [], length, take, IfOk, None, is_some, true, false};
+    ghost use Rattle.std.specs.Prelude.{◌≡◌, ◌<◌, ◌≤◌, [], length, IfOk, OnErr, None, false};
     ghost use Rattle.storage.specs.State.{IsSettled};
     ghost use Rattle.linkcalls.specs.declared.TheConstants.{MAX_LEAVES};
     ghost use Rattle.leaflink.specs.Opening.{MayLeave};
-    ghost use Rattle.leaflink.specs.Link.{MeetsRow, RestartsAs, asked, pumped, pumped_up, compacted, restarted, leaf_in, MakesLink, FindsLink};
-    ghost use Rattle.leaflink.specs.Link.{received, received_up, change_placed_at, reply_placed_at, text_placed_at, told};
+    ghost use Rattle.linkcalls.specs.Shapes.{GoOut};
+    ghost use Rattle.leaflink.specs.Link.{MeetsRow, RestartsAs, asked, keeps_asks, pumped, pumped_up, compacted, restarted, told, leaf_in, MakesLink, FindsLink};
     ghost use Rattle.linkcalls.specs.Texts.{Sends};
 
     /// The leaf of this number, from 1 to the number of leaves, before the first change. What the disks held is lost.
@@ -71,6 +71,7 @@ impl<D: Disk> LeafLink<D> {
                 leaves,
                 kept,
                 waiting: VecDeque::new(alloc),
+                parts: None,
             }),
             Err(returned) => Err(returned),
         }
@@ -99,6 +100,7 @@ impl<D: Disk> LeafLink<D> {
                 leaves,
                 kept,
                 waiting: VecDeque::new(alloc),
+                parts: None,
             }),
             Err(returned) => Err(returned),
         }
@@ -106,14 +108,14 @@ impl<D: Disk> LeafLink<D> {
 
     /// The version: the number of the last change that was applied, or that of the records that were put in place.
     pub fn version(&self) -> u32
-        ensures { result ≡ self.now.kept.version }
+        ensures { result ≡ self.now.bot.kept.version }
     {
         self.kept.state().version()
     }
 
     /// The userfile at that version.
     pub fn userfile(&self) -> &Userfile
-        ensures { result.now ≡ self.now.kept.records }
+        ensures { result.now ≡ self.now.bot.kept.records }
     {
         self.kept.state().userfile()
     }
@@ -121,14 +123,14 @@ impl<D: Disk> LeafLink<D> {
     /// Whether a disk failed, or a restart did not end, since the journal was last opened: nothing is taken but a
     /// restart.
     pub fn is_down(&self) -> bool
-        ensures { result ≡ self.now.down }
+        ensures { result ≡ self.now.bot.down }
     {
         self.kept.is_down()
     }
 
     /// How many asks wait.
     pub fn ask_count(&self) -> usize
-        ensures { result ≡ length self.now.waiting }
+        ensures { result ≡ length self.now.bot.loose.waiting }
     {
         self.waiting.len()
     }
@@ -138,7 +140,7 @@ impl<D: Disk> LeafLink<D> {
     /// A caller that asks for several things, all or none, counts the asks before it begins, and comes back to that
     /// count where it has to give up.
     pub fn keep_asks(&mut self, count: usize)
-        ensures { self.new ≡ record self.old { waiting = take count self.old.waiting } }
+        ensures { self.new ≡ keeps_asks self.old count }
     {
         self.waiting.truncate(count);
     }
@@ -151,6 +153,9 @@ impl<D: Disk> LeafLink<D> {
     pub fn ask(&mut self, alloc: Global, change: Change) -> Result<Answer, LinkError>
         ensures row { MeetsRow (asked self.old change) self.old result self.new }
         ensures few { IfOk result (λ answer. answer.packets ≡ []) }
+        // No disk is used, and a refusal leaves all as it was.
+        ensures quiet { self.new.failures ≡ self.old.failures }
+        ensures stays { OnErr result (self.new ≡ self.old) }
     {
         if self.kept.is_down() {
             return Err(Failure::Refused(LinkFault::Down));
@@ -176,7 +181,7 @@ impl<D: Disk> LeafLink<D> {
     /// doubt.
     pub fn pump(&mut self, alloc: Global) -> Result<Answer, LinkError>
         ensures row { MeetsRow (pumped self.old) self.old result self.new }
-        ensures few { IfOk result (λ answer. length answer.packets ≤ 2) }
+        ensures few { GoOut 2 result }
     {
         if self.kept.is_down() {
             return Err(Failure::Refused(LinkFault::Down));
@@ -189,10 +194,10 @@ impl<D: Disk> LeafLink<D> {
 
     // Lets the oldest ask go out.
     fn pump_ask(&mut self, alloc: Global) -> Result<Answer, LinkError>
-        requires up { self.old.down ≡ false }
-        requires free { self.old.kept.out ≡ None }
+        requires up { self.old.bot.down ≡ false }
+        requires free { self.old.bot.kept.out ≡ None }
         ensures row { MeetsRow (pumped_up self.old) self.old result self.new }
-        ensures few { IfOk result (λ answer. length answer.packets ≤ 2) }
+        ensures few { GoOut 2 result }
     {
         let number = self.kept.number();
         let version = self.kept.state().version();
@@ -217,119 +222,6 @@ impl<D: Disk> LeafLink<D> {
             }
             Err(error) => Err(link_error(error)),
         }
-    }
-
-    /// Takes a packet of the hub's.
-    ///
-    /// The change numbered one above the version is `Applied`; one at most the version is `Old`, and one further above
-    /// is `Early`. A reply to the request that is out ends it: `Accepted` with the change's number, or `Refused`; any
-    /// other reply is `Old`. A text for this leaf from a bot of the net is `Text`. What is not for this leaf is `Stray`.
-    ///
-    /// # Errors
-    /// `Down`; then `Diverged` where the records refuse the next change; then `NoMemory`; each leaves the leaf as it was,
-    /// save that `Diverged` drops the kept parts. `JournalFault` where a disk failed in this call: the leaf is down, and
-    /// what the packet tells is in doubt. `Old`, `Early` and `Stray` take no memory.
-    pub fn receive(&mut self, alloc: Global, packet: &Packet) -> Result<Answer, LinkError>
-        ensures row { MeetsRow (received self.old packet.now) self.old result self.new }
-        ensures few { IfOk result (λ answer. answer.packets ≡ []) }
-    {
-        if self.kept.is_down() {
-            return Err(Failure::Refused(LinkFault::Down));
-        }
-        self.receive_up(alloc, packet)
-    }
-
-    fn receive_up(&mut self, alloc: Global, packet: &Packet) -> Result<Answer, LinkError>
-        requires up { self.old.down ≡ false }
-        ensures row { MeetsRow (received_up self.old packet.now) self.old result self.new }
-        ensures few { IfOk result (λ answer. answer.packets ≡ []) }
-    {
-        match packet {
-            Packet::Change { number, change, .. } => self.receive_change(alloc, *number, change),
-            Packet::Accepted {
-                leaf,
-                request,
-                number,
-            } => self.receive_reply(alloc, *leaf, *request, Reply::Taken(*number)),
-            Packet::Refused {
-                leaf,
-                request,
-                fault,
-            } => self.receive_reply(alloc, *leaf, *request, Reply::Refused(*fault)),
-            Packet::BotText { from, to, text } => self.receive_text(alloc, *from, *to, text),
-            Packet::Hello { .. } | Packet::Request { .. } | Packet::Part { .. } => {
-                Ok(Answer::only(alloc, Note::Stray))
-            }
-        }
-    }
-
-    // Applies the next change.
-    fn receive_change(
-        &mut self,
-        alloc: Global,
-        number: u32,
-        change: &Change,
-    ) -> Result<Answer, LinkError>
-        requires up { self.old.down ≡ false }
-        ensures row { MeetsRow (change_placed_at self.old number change.now) self.old result self.new }
-        ensures few { IfOk result (λ answer. answer.packets ≡ []) }
-    {
-        let version = self.kept.state().version();
-        if number <= version {
-            return Ok(Answer::only(alloc, Note::Old));
-        }
-        if number - version > 1 {
-            return Ok(Answer::only(alloc, Note::Early));
-        }
-        if self.kept.state().userfile().refusal_of(change).is_some() {
-            return Err(Failure::Refused(LinkFault::Diverged));
-        }
-        match self.kept.apply(alloc, change) {
-            Ok(()) => Ok(Answer::only(alloc, Note::Applied(number))),
-            Err(error) => Err(link_error(error)),
-        }
-    }
-
-    // Ends the request that is out, where the reply is to it.
-    fn receive_reply(
-        &mut self,
-        alloc: Global,
-        leaf: u16,
-        request: u32,
-        reply: Reply,
-    ) -> Result<Answer, LinkError>
-        requires up { self.old.down ≡ false }
-        ensures row { MeetsRow (reply_placed_at self.old leaf request reply) self.old result self.new }
-        ensures few { IfOk result (λ answer. answer.packets ≡ []) }
-    {
-        if leaf != self.kept.number() || request == 0 {
-            return Ok(Answer::only(alloc, Note::Stray));
-        }
-        if self.kept.state().out().is_none() || request != self.kept.state().last_request() {
-            return Ok(Answer::only(alloc, Note::Old));
-        }
-        match self.kept.end_request(alloc) {
-            Ok(()) => Ok(Answer::only(alloc, note_of(reply))),
-            Err(error) => Err(link_error(error)),
-        }
-    }
-
-    // Takes a text.
-    fn receive_text(
-        &self,
-        alloc: Global,
-        from: u16,
-        to: u16,
-        text: &Text,
-    ) -> Result<Answer, LinkError>
-        ensures row { MeetsRow (text_placed_at self.now from to text.now) self.now result self.now }
-        ensures few { IfOk result (λ answer. answer.packets ≡ []) }
-    {
-        if from > self.leaves || to != self.kept.number() {
-            return Ok(Answer::only(alloc, Note::Stray));
-        }
-        let text = text.copy(alloc)?;
-        Ok(Answer::only(alloc, Note::Text { from, text }))
     }
 
     /// A text to another bot, which the caller is to send to the hub, where its step has sent so many so far. The leaf
@@ -376,7 +268,8 @@ impl<D: Disk> LeafLink<D> {
     }
 
     /// Crashes both disks, as where the program ended, and opens the journal on what that left: `Restarted` with the
-    /// version. The record that was in doubt counts, or doesn't. The asks that wait are lost.
+    /// version. The record that was in doubt counts, or doesn't. The asks that wait, and the parts that are kept, are
+    /// lost.
     ///
     /// # Errors
     /// `DiskFault` where a disk failed, or `NoMemory`: the leaf is down, and all else as it was.
@@ -387,6 +280,7 @@ impl<D: Disk> LeafLink<D> {
         match self.kept.restart(alloc) {
             Ok(()) => {
                 self.waiting.clear();
+                self.parts = None;
                 Ok(Answer::only(alloc, Note::Restarted(self.kept.state().version())))
             }
             Err(Failure::Refused(_)) => Err(Failure::Refused(LinkFault::DiskFault)),
@@ -452,18 +346,8 @@ fn hello_and_request(
     Ok(Seq::new(vec![in alloc; hello(leaf, version), asking]?))
 }
 
-// The note of a reply.
-fn note_of(reply: Reply) -> Note
-    ensures { told_of result ≡ reply_note reply }
-{
-    match reply {
-        Reply::Taken(number) => Note::Accepted(number),
-        Reply::Refused(fault) => Note::Refused(fault),
-    }
-}
-
 // What the link says of a record that isn't kept.
-fn link_error(error: LedgerError) -> LinkError
+pub(crate) fn link_error(error: LedgerError) -> LinkError
     ensures { result ≡ link_error error }
 {
     match error {
