@@ -13,7 +13,9 @@ use Rattle.usercodec.specs.declared.records.Record.{Record}
 use Rattle.usercodec.specs.declared.records.Record.TheVariants as records
 use Rattle.usercodec.specs.Records.{IsGoodRecord}
 use Rattle.protocol.specs.Snapshots.{users_in, bans_in, records_from}
-use Rattle.protocol.specs.Journals.{stand_together}
+use Rattle.protocol.specs.Journals.{stand_together, record_if}
+use Rattle.linkstate.specs.States.{sound_records}
+use Rattle.userfile.specs.Records.{Records}
 use Rattle.leaflink.specs.Parts.{clash}
 
 -- ---- clashes are of users among users, and of bans among bans
@@ -91,10 +93,10 @@ few-not-over n m = by (nat_le n m) (nat_lt m n) refl refl
     by true true e f = absurd (omega (arith, leb-true n m e, ltb-true m n f))
     by false false e f = absurd (omega (arith, leb-false n m e, ltb-false m n f))
 
-pub together-is : (items : List Record) → AllByRecursion IsGoodRecord items
+pub together_is : (items : List Record) → AllByRecursion IsGoodRecord items
     → ((nat_le (length (users_in items)) MAX_USERS && nat_le (length (bans_in items)) MAX_BANS) && not (repeats clash items))
     ≡ stand_together (records_from items)
-together-is items good =
+together_is items good =
     let users = users_in items in
     let bans = bans_in items in
     ap (λ b. (b && nat_le (length bans) MAX_BANS) && not (repeats clash items)) (few-not-over (length users) MAX_USERS)
@@ -107,3 +109,9 @@ together-is items good =
     ∙ ap (λ b. is_none (first_of_two (fault_if (repeats_handle users) UserExists)
     (first_of_two (fault_if (list_any (λ user. repeats_mask user.masks) users) MaskExists) (first_of_two (fault_if (repeats_ban bans) BanExists)
     (fault_if (nat_lt MAX_USERS (length users) || nat_lt MAX_BANS (length bans) || b) Full))))) (sym (none-over items good))
+
+-- where they stand together, their userfile is made of them
+pub made_is : (items : List Record) (made : Records) → stand_together (records_from items) ≡ true → sound_records items ≡ Some made
+    → made ≡ records_from items
+made_is items made together e =
+    let same : Some (records_from items) ≡ Some made = ap (λ b. record_if b (records_from items)) (sym together) ∙ e in cc

@@ -39,9 +39,9 @@ returns-else-are_there-clause-whole c =
     let last = back-is _ _ _ _ _ _ c.split_at-2.ensures.back c.from-2.ensures c.deref-2.ensures.value all in
     let after : c.args.part ≡ suc (c.args.part - 1) = omega (arith, c.requires.numbered.0) in
     elim c.else-are_there.branch [
-      else-are_there-via-then-are_there+else-are_there-2 w ↦ joined-lacks-back c.args.self.now.parts c.split_at.result.0.now c.split_at-2.result.1.now
-      (c.args.part - 1) c.args.part c.args.records.now c.requires.numbered.1 first last after (sym c.are_there.ensures ∙ w.if-are_there.true)
-      (sym w.are_there-then-are_there.ensures ∙ w.if-are_there-2.false)
-    | else-are_there-via-else-are_there w ↦ joined-lacks-front c.args.self.now.parts c.split_at.result.0.now c.split_at-2.result.1.now
-      (c.args.part - 1) c.args.part c.args.records.now c.requires.numbered.1 first last after (sym c.are_there.ensures ∙ w.if-are_there.false)
+      | else-are_there-via-then-are_there+else-are_there-2 w ↦ joined-lacks-back c.args.self.now.parts c.split_at.result.0.now c.split_at-2.result.1.now
+          (c.args.part - 1) c.args.part c.args.records.now c.requires.numbered.1 first last after (sym c.are_there.ensures ∙ w.if-are_there.true)
+          (sym w.are_there-then-are_there.ensures ∙ w.if-are_there-2.false)
+      | else-are_there-via-else-are_there w ↦ joined-lacks-front c.args.self.now.parts c.split_at.result.0.now c.split_at-2.result.1.now
+          (c.args.part - 1) c.args.part c.args.records.now c.requires.numbered.1 first last after (sym c.are_there.ensures ∙ w.if-are_there.false)
     ]
