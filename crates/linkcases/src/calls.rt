@@ -52,11 +52,7 @@ pub fn make(
     Ok(())
 }
 
-fn answer_of(
-    alloc: Global,
-    link: &mut BotLink<MemDisk>,
-    call: Call,
-) -> Result<Answer, LinkError>
+fn answer_of(alloc: Global, link: &mut BotLink<MemDisk>, call: Call) -> Result<Answer, LinkError>
     ensures { GoOut (MAX_LEAVES + 1) result }
 {
     match call {

@@ -112,12 +112,24 @@ fn play(alloc: Global, net: &mut Net, line: &[u8], out: &mut Vec<u8>) -> Result<
 // `check`
 fn check(net: &Net, out: &mut Vec<u8>) -> Result<(), CaseError> {
     let breaches = net.seen.breaches();
-    put(out, if breaches.is_empty() { b"same\n" } else { breaches })?;
+    put(
+        out,
+        if breaches.is_empty() {
+            b"same\n"
+        } else {
+            breaches
+        },
+    )?;
     Ok(())
 }
 
 // `deliver K`
-fn deliver(alloc: Global, net: &mut Net, number: usize, out: &mut Vec<u8>) -> Result<(), CaseError> {
+fn deliver(
+    alloc: Global,
+    net: &mut Net,
+    number: usize,
+    out: &mut Vec<u8>,
+) -> Result<(), CaseError> {
     if let Some(place) = number.checked_sub(1) {
         if let Some(sent) = net.packets.get(place) {
             let to = sent.to;

@@ -2,8 +2,8 @@
 use bytetext::NoMemory;
 use itoa::Buffer;
 use linkcalls::{Note, Packet};
-use userfile::{Ban, User, Userfile};
 use std::alloc::Global;
+use userfile::{Ban, User, Userfile};
 
 /// A text.
 pub fn put(out: &mut Vec<u8>, text: &[u8]) -> Result<(), NoMemory> {
@@ -86,7 +86,9 @@ pub fn put_packet(out: &mut Vec<u8>, packet: &Packet) -> Result<(), NoMemory> {
         }
         Packet::Request { request, .. } => put_counted(out, b"Request", u64::from(*request)),
         Packet::Accepted {
-            request, number, ..
+            request,
+            number,
+            ..
         } => {
             put_counted(out, b"Accepted", u64::from(*request))?;
             put(out, b" ")?;
@@ -140,7 +142,14 @@ fn put_user(alloc: Global, out: &mut Vec<u8>, user: &User) -> Result<(), NoMemor
 // ban C M H E COMMENT
 fn put_ban(out: &mut Vec<u8>, ban: &Ban) -> Result<(), NoMemory> {
     put(out, b" ban ")?;
-    put(out, if ban.channel.is_empty() { b"*" } else { ban.channel.as_bytes() })?;
+    put(
+        out,
+        if ban.channel.is_empty() {
+            b"*"
+        } else {
+            ban.channel.as_bytes()
+        },
+    )?;
     put_word(out, ban.mask.as_bytes())?;
     put_word(out, ban.creator.as_bytes())?;
     put(out, b" ")?;
