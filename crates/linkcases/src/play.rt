@@ -52,13 +52,19 @@ fn play_line(
 // What a step does.
 #[derive(Clone, Copy)]
 enum Step {
-    Ask,
+    AtBot(AtBot),
     Check,
-    Compact,
     Deliver,
+    Leaves,
+}
+
+// What a step does with a bot.
+#[derive(Clone, Copy)]
+enum AtBot {
+    Ask,
+    Compact,
     Give,
     Hold,
-    Leaves,
     Plan,
     PlanRead,
     Pump,
@@ -67,46 +73,75 @@ enum Step {
 }
 
 const STEPS: [(&[u8], Step); 12] = [
-    (b"ask", Step::Ask),
+    (b"ask", Step::AtBot(AtBot::Ask)),
     (b"check", Step::Check),
-    (b"compact", Step::Compact),
+    (b"compact", Step::AtBot(AtBot::Compact)),
     (b"deliver", Step::Deliver),
-    (b"give", Step::Give),
-    (b"hold", Step::Hold),
+    (b"give", Step::AtBot(AtBot::Give)),
+    (b"hold", Step::AtBot(AtBot::Hold)),
     (b"leaves", Step::Leaves),
-    (b"plan", Step::Plan),
-    (b"planread", Step::PlanRead),
-    (b"pump", Step::Pump),
-    (b"restart", Step::Restart),
-    (b"show", Step::Show),
+    (b"plan", Step::AtBot(AtBot::Plan)),
+    (b"planread", Step::AtBot(AtBot::PlanRead)),
+    (b"pump", Step::AtBot(AtBot::Pump)),
+    (b"restart", Step::AtBot(AtBot::Restart)),
+    (b"show", Step::AtBot(AtBot::Show)),
 ];
 
 fn play(alloc: Global, net: &mut Net, line: &[u8], out: &mut Vec<u8>) -> Result<(), CaseError> {
     let (word, rest) = cut(line);
-    let Some((_, step)) = STEPS.iter().find(|(name, _)| *name == word) else {
-        return Err(NO_STEP);
-    };
     let (first, rest) = cut(rest);
-    match *step {
-        Step::Ask => {
-            let change = change_of(alloc, rest)?;
-            make(alloc, net, number(first)?, Call::Ask(change), out)
-        }
+    match step_of(word)? {
+        Step::AtBot(step) => play_at(alloc, net, number(first)?, step, rest, out),
         Step::Check => check(net, out),
-        Step::Compact => make(alloc, net, number(first)?, Call::Compact, out),
         Step::Deliver => deliver(alloc, net, number(first)?, out),
-        Step::Give => give(alloc, net, number(first)?, rest, out),
-        Step::Hold => hold(alloc, net, number(first)?, rest, out),
-        Step::Leaves => {
-            *net = Net::new(alloc, Leaves::new(number(first)?)?)?;
-            Ok(())
-        }
-        Step::Plan => plan(alloc, net, number(first)?, rest, out),
-        Step::PlanRead => plan_read(alloc, net, number(first)?, rest, out),
-        Step::Pump => make(alloc, net, number(first)?, Call::Pump, out),
-        Step::Restart => make(alloc, net, number(first)?, Call::Restart, out),
-        Step::Show => show(alloc, net, number(first)?, out),
+        Step::Leaves => begin(alloc, net, number(first)?),
     }
+}
+
+fn step_of(word: &[u8]) -> Result<Step, CaseError> {
+    match STEPS.iter().find(|(name, _)| *name == word) {
+        Some((_, step)) => Ok(*step),
+        None => Err(NO_STEP),
+    }
+}
+
+fn play_at(
+    alloc: Global,
+    net: &mut Net,
+    bot: u16,
+    step: AtBot,
+    rest: &[u8],
+    out: &mut Vec<u8>,
+) -> Result<(), CaseError> {
+    match step {
+        AtBot::Ask => ask(alloc, net, bot, rest, out),
+        AtBot::Compact => make(alloc, net, bot, Call::Compact, out),
+        AtBot::Give => give(alloc, net, bot, rest, out),
+        AtBot::Hold => hold(alloc, net, bot, rest, out),
+        AtBot::Plan => plan(alloc, net, bot, rest, out),
+        AtBot::PlanRead => plan_read(alloc, net, bot, rest, out),
+        AtBot::Pump => make(alloc, net, bot, Call::Pump, out),
+        AtBot::Restart => make(alloc, net, bot, Call::Restart, out),
+        AtBot::Show => show(alloc, net, bot, out),
+    }
+}
+
+// `ask B CHANGE`
+fn ask(
+    alloc: Global,
+    net: &mut Net,
+    bot: u16,
+    change: &[u8],
+    out: &mut Vec<u8>,
+) -> Result<(), CaseError> {
+    let change = change_of(alloc, change)?;
+    make(alloc, net, bot, Call::Ask(change), out)
+}
+
+// `leaves N`
+fn begin(alloc: Global, net: &mut Net, count: u16) -> Result<(), CaseError> {
+    *net = Net::new(alloc, Leaves::new(count)?)?;
+    Ok(())
 }
 
 // `check`
