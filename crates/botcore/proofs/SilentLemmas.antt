@@ -1,5 +1,5 @@
 -- Which packets bring a text to a bot, and that such a packet leaves its end of the link as it was.
-use Rattle.std.proofs.Common.{◌≡◌, ◌∙◌, ℕ, zero, suc, ◌==◌, nat_le, nat_lt, not, ◌||◌, Bool, true, false, if◌then◌else◌, slice_get, List, Option, Some, None, refl, ap, sym}
+use Rattle.std.proofs.Common.{◌≡◌, ◌∙◌, ℕ, zero, suc, ◌==◌, nat_le, nat_lt, not, ◌||◌, Bool, true, false, if◌then◌else◌, List, [], ◌++◌, Option, Some, None, refl, ap, sym}
 use Rattle.userfile.specs.Apply.{refusal}
 use Rattle.userfile.specs.Records.{Records}
 use Rattle.userfile.specs.Together.{records_fault}
@@ -9,13 +9,12 @@ use Rattle.usercodec.specs.declared.records.Record.{Record}
 use Rattle.botjournal.specs.declared.reply.Answer.{Answer}
 use Rattle.botjournal.specs.declared.reply.Answer.TheVariants.{Taken, Refused as refused_request}
 use Rattle.botjournal.specs.declared.reply.Reply.{Reply}
-use Rattle.sharewire.specs.declared.packet.Packet.{Packet as WirePacket}
 use Rattle.protocol.specs.Numbers.{last_number, item_at, Place, Below, Same, Next, Above, place_of}
-use Rattle.protocol.specs.Packets.{Packet, Outgoing, AcceptedChange, change_packet, to_each, from_wire}
+use Rattle.protocol.specs.Packets.{Packet, Outgoing, AcceptedChange, change_packet, to_each}
 use Rattle.protocol.specs.Packets.Packet.{Hello, Change, Request, Accepted as accepted_packet, Refused as refused_packet, BotText, Part}
 use Rattle.protocol.specs.Notes.Note.{Accepted, Installed, Old, Stray, Text}
 use Rattle.protocol.specs.Notes.LinkFault.{NumbersSpent, Down}
-use Rattle.protocol.specs.Bots.{Works, Row, noted, refused, journals}
+use Rattle.protocol.specs.Bots.{How, Works, Row, noted, refused, journals}
 use Rattle.protocol.specs.Snapshots.{PartSet, records_from, joined, set_for, with_part, is_behind}
 use Rattle.protocol.specs.HubRules.{Hub, Accept, hub_folded, version_of, last_request, is_no_leaf, accepts, next_request, repeats, request_placed, request_of, hello_served, text_passed, hub_received, hub_received_up}
 use Rattle.protocol.specs.LeafRules.{Leaf, Install, leaf_folded, change_placed, next_applied, reply_taken, reply_received, installed, diverged, set_taken, part_taken, leaf_received, leaf_received_up}
@@ -30,9 +29,20 @@ silent_if : {S : Type 0} (b : Bool) (x y : Row S) → IsSilent x → IsSilent y 
 silent_if true x y one other = one
 silent_if false x y one other = other
 
+-- so it brings none
+brings_none : {S : Type 0} (down : Bool) (old : S) (row : Row S) (saying : Saying) → IsSilent row
+    → saying_of (if down then refused Down old else row).told ≡ Some saying → ⊥
+brings_none down old row saying none is =
+    let no : saying_of (if down then refused Down old else row).told ≡ None = silent_if down (refused Down old) row refl none in
+    let different : None ≡ Some saying = sym no ∙ is in cc
+
 stays_if : {S : Type 0} (b : Bool) (x y : Row S) (old : S) → x.after ≡ old → y.after ≡ old → (if b then x else y).after ≡ old
 stays_if true x y old one other = one
 stays_if false x y old one other = other
+
+-- the row of a packet that brings a text: nothing is another, and the disks have no part in it
+abbrev pub IsOfText : {S : Type 0} → (How → Row S) → S → Type 0
+IsOfText row old = ((row Works).after ≡ old) × ((how : How) → (row how).told ≡ (row Works).told)
 
 -- ---- the hub
 
@@ -71,33 +81,27 @@ module _ (leaves : ℕ) (old : Hub) where
   passed_stays from zero text = refl
   passed_stays from (suc to) text = refl
 
-  hub_stays : (packet : Packet) (saying : Saying) → saying_of (hub_received leaves Works old packet).told ≡ Some saying
-      → (hub_received leaves Works old packet).after ≡ old
-  hub_stays packet saying = by packet
-    where
-      silent : (row : Row Hub) → IsSilent row → saying_of (if old.down then refused Down old else row).told ≡ Some saying
-          → (if old.down then refused Down old else row).after ≡ old
-      silent row none is =
-          let no : saying_of (if old.down then refused Down old else row).told ≡ None = silent_if old.down (refused Down old) row refl none in
-          let different : None ≡ Some saying = sym no ∙ is in cc
-
-      by : (packet : Packet) → saying_of (hub_received leaves Works old packet).told ≡ Some saying
-          → (hub_received leaves Works old packet).after ≡ old
-      by (Hello leaf version) =
-          silent (hub_received_up leaves Works old (Hello leaf version))
-          (silent_if (is_no_leaf leaves leaf || nat_lt (version_of old.kept) version) (noted Stray old) _ refl
-          (hello_silent leaf version (nat_lt version old.kept.floor)))
-      by (Request leaf request change) =
-          silent (hub_received_up leaves Works old (Request leaf request change))
-          (silent_if (request == 0) (noted Stray old) _ refl (request_silent leaf request change (item_at old.kept.replies leaf)))
-      by (BotText from to text) = λ is.
-          stays_if old.down (refused Down old) _ old refl
-          (stays_if (nat_lt leaves from || nat_lt leaves to) (noted Stray old) (text_passed leaves Works old from to text) old refl
-          (passed_stays from to text))
-      by (Change number origin request change) = silent (noted Stray old) refl
-      by (accepted_packet leaf request number) = silent (noted Stray old) refl
-      by (refused_packet leaf request fault) = silent (noted Stray old) refl
-      by (Part version part count items) = silent (noted Stray old) refl
+  hub_text : (packet : Packet) (saying : Saying) → saying_of (hub_received leaves Works old packet).told ≡ Some saying
+      → IsOfText (λ how. hub_received leaves how old packet) old
+  hub_text (Hello leaf version) saying is =
+      absurd (brings_none old.down old (hub_received_up leaves Works old (Hello leaf version)) saying
+      (silent_if (is_no_leaf leaves leaf || nat_lt (version_of old.kept) version) (noted Stray old)
+      (hello_served leaves Works old leaf version (nat_lt version old.kept.floor)) refl
+      (hello_silent leaf version (nat_lt version old.kept.floor))) is)
+  hub_text (Request leaf request change) saying is =
+      absurd (brings_none old.down old (hub_received_up leaves Works old (Request leaf request change)) saying
+      (silent_if (request == 0) (noted Stray old) (request_of leaves Works old leaf request change (item_at old.kept.replies leaf)) refl
+      (request_silent leaf request change (item_at old.kept.replies leaf))) is)
+  hub_text (BotText from to text) saying is = (
+    stays_if old.down (refused Down old) (hub_received_up leaves Works old (BotText from to text)) old refl
+        (stays_if (nat_lt leaves from || nat_lt leaves to) (noted Stray old) (text_passed leaves Works old from to text) old refl
+        (passed_stays from to text)),
+    λ how. refl,
+  )
+  hub_text (Change number origin request change) saying is = absurd (brings_none old.down old (noted Stray old) saying refl is)
+  hub_text (accepted_packet leaf request number) saying is = absurd (brings_none old.down old (noted Stray old) saying refl is)
+  hub_text (refused_packet leaf request fault) saying is = absurd (brings_none old.down old (noted Stray old) saying refl is)
+  hub_text (Part version part count items) saying is = absurd (brings_none old.down old (noted Stray old) saying refl is)
 
 -- ---- a leaf
 
@@ -137,39 +141,39 @@ module _ (leaves number : ℕ) (old : Leaf) where
   part_silent : (part : ℕ) (set : PartSet) → IsSilent (part_taken leaves number Works old part set)
   part_silent part set = set_silent part set (joined set.count set.parts)
 
-  leaf_stays : (packet : Packet) (saying : Saying) → saying_of (leaf_received leaves number Works old packet).told ≡ Some saying
-      → (leaf_received leaves number Works old packet).after ≡ old
-  leaf_stays packet saying = by packet
-    where
-      silent : (row : Row Leaf) → IsSilent row → saying_of (if old.down then refused Down old else row).told ≡ Some saying
-          → (if old.down then refused Down old else row).after ≡ old
-      silent row none is =
-          let no : saying_of (if old.down then refused Down old else row).told ≡ None = silent_if old.down (refused Down old) row refl none in
-          let different : None ≡ Some saying = sym no ∙ is in cc
-
-      by : (packet : Packet) → saying_of (leaf_received leaves number Works old packet).told ≡ Some saying
-          → (leaf_received leaves number Works old packet).after ≡ old
-      by (Change n origin request change) =
-          silent (change_placed leaves number Works old change (place_of n old.kept.version)) (change_silent change (place_of n old.kept.version))
-      by (accepted_packet leaf request n) =
-          silent (reply_received leaves number Works old leaf request (Taken n)) (reply_silent leaf request (Taken n))
-      by (refused_packet leaf request fault) =
-          silent (reply_received leaves number Works old leaf request (refused_request fault)) (reply_silent leaf request (refused_request fault))
-      by (Part version part count items) =
-          silent (leaf_received_up leaves number Works old (Part version part count items))
-          (silent_if ((part == 0) || nat_lt count part) (noted Stray old) _ refl
-          (silent_if (nat_le version old.kept.version || is_behind version old.loose.parts) (noted Old old) _ refl
-          (part_silent part (with_part (set_for old.loose.parts version count) part items))))
-      by (BotText from to text) = λ is.
-          stays_if old.down (refused Down old) _ old refl
-          (stays_if (nat_lt leaves from || not (to == number)) (noted Stray old) (noted (Text from text) old) old refl refl)
-      by (Hello leaf version) = silent (noted Stray old) refl
-      by (Request leaf request change) = silent (noted Stray old) refl
+  leaf_text : (packet : Packet) (saying : Saying) → saying_of (leaf_received leaves number Works old packet).told ≡ Some saying
+      → IsOfText (λ how. leaf_received leaves number how old packet) old
+  leaf_text (Change n origin request change) saying is =
+      absurd (brings_none old.down old (change_placed leaves number Works old change (place_of n old.kept.version)) saying
+      (change_silent change (place_of n old.kept.version)) is)
+  leaf_text (accepted_packet leaf request n) saying is =
+      absurd (brings_none old.down old (reply_received leaves number Works old leaf request (Taken n)) saying
+      (reply_silent leaf request (Taken n)) is)
+  leaf_text (refused_packet leaf request fault) saying is =
+      absurd (brings_none old.down old (reply_received leaves number Works old leaf request (refused_request fault)) saying
+      (reply_silent leaf request (refused_request fault)) is)
+  leaf_text (Part version part count items) saying is =
+      let set = with_part (set_for old.loose.parts version count) part items in
+      absurd (brings_none old.down old (leaf_received_up leaves number Works old (Part version part count items)) saying
+      (silent_if ((part == 0) || nat_lt count part) (noted Stray old)
+      (if nat_le version old.kept.version || is_behind version old.loose.parts then noted Old old else part_taken leaves number Works old part set) refl
+      (silent_if (nat_le version old.kept.version || is_behind version old.loose.parts) (noted Old old) (part_taken leaves number Works old part set) refl
+      (part_silent part set))) is)
+  leaf_text (BotText from to text) saying is = (
+    stays_if old.down (refused Down old) (leaf_received_up leaves number Works old (BotText from to text)) old refl
+        (stays_if (nat_lt leaves from || not (to == number)) (noted Stray old) (noted (Text from text) old) old refl refl),
+    λ how. refl,
+  )
+  leaf_text (Hello leaf version) saying is = absurd (brings_none old.down old (noted Stray old) saying refl is)
+  leaf_text (Request leaf request change) saying is = absurd (brings_none old.down old (noted Stray old) saying refl is)
 
 -- ---- any bot
 
--- a packet that brings a text to a bot leaves its end of the link as it was
-pub end_stays : (leaves number : ℕ) (end : End) (packet : Packet) (saying : Saying)
-    → saying_of (end_received leaves number Works end packet).told ≡ Some saying → (end_received leaves number Works end packet).after ≡ end
-end_stays leaves number (AtHub hub) packet saying is = ap (λ (h : Hub). AtHub h) (hub_stays leaves hub packet saying is)
-end_stays leaves number (AtLeaf leaf) packet saying is = ap (λ (l : Leaf). AtLeaf l) (leaf_stays leaves number leaf packet saying is)
+-- a packet that brings a text to a bot leaves its end of the link as it was, whatever its disks do
+pub end_text : (leaves number : ℕ) (end : End) (packet : Packet) (saying : Saying)
+    → saying_of (end_received leaves number Works end packet).told ≡ Some saying
+    → IsOfText (λ how. end_received leaves number how end packet) end
+end_text leaves number (AtHub hub) packet saying is =
+    let one = hub_text leaves hub packet saying is in (ap (λ (h : Hub). AtHub h) one.0, one.1)
+end_text leaves number (AtLeaf leaf) packet saying is =
+    let one = leaf_text leaves number leaf packet saying is in (ap (λ (l : Leaf). AtLeaf l) one.0, one.1)
