@@ -3,6 +3,7 @@ pub mod BackLemmas
 pub mod AutomaticLemmas
 pub mod Calendar
 pub mod CallingLemmas
+pub mod GoodLemmas
 pub mod JoiningLemmas
 pub mod PacketLemmas
 pub mod PutLemmas

@@ -20,7 +20,7 @@ impl<D: Disk> Bot<D> {
     ghost use Rattle.botcore.specs.Reports.{answer_report};
     ghost use Rattle.linkcalls.specs.declared.TheConstants.{MAX_LEAVES, MAX_TEXTS};
     ghost use Rattle.linkcalls.specs.Calls.{note_of};
-    ghost use Rattle.linkcalls.specs.Shapes.{HasGoodRecords};
+    ghost use Rattle.linkcalls.specs.Shapes.{AreGood, HasGoodRecords};
     ghost use Rattle.protocol.specs.Network.Event.{Pump as pumps, Compact as compacts};
     ghost use Rattle.botlink.specs.Links.{did};
     ghost use Rattle.botcore.specs.Bots.{restarted};
@@ -56,6 +56,7 @@ impl<D: Disk> Bot<D> {
         requires good { IsGoodEvent event }
         ensures takes { TakesStep P.code_of P.may store.now self.old event result self.new }
         ensures few { length result.packets ≤ MAX_LEAVES + 1 }
+        ensures good_records { AreGood result.packets }
     {
         match event {
             Event::Connect => self.connect(alloc),
@@ -111,6 +112,7 @@ impl<D: Disk> Bot<D> {
     ) -> Report
         ensures takes { TakesStep P.code_of P.may store.now self.old (Event.Line line.now) result self.new }
         ensures few { length result.packets ≤ MAX_TEXTS }
+        ensures good_records { AreGood result.packets }
     {
         match line {
             Line::Message(message) => self.hear(alloc, store, message),
@@ -122,6 +124,7 @@ impl<D: Disk> Bot<D> {
     fn ask(&mut self, alloc: Global, change: Change) -> Report
         ensures takes { GivesAsk self.old change result self.new }
         ensures few { length result.packets ≤ MAX_LEAVES + 1 }
+        ensures good_records { AreGood result.packets }
     {
         let answer = self.link.ask(alloc, change);
         Report::of_answer(alloc, answer)
@@ -131,6 +134,7 @@ impl<D: Disk> Bot<D> {
     fn pump(&mut self, alloc: Global) -> Report
         ensures takes { GivesRow self.old (did self.old.link pumps) result self.new }
         ensures few { length result.packets ≤ MAX_LEAVES + 1 }
+        ensures good_records { AreGood result.packets }
     {
         let answer = self.link.pump(alloc);
         Report::of_answer(alloc, answer)
@@ -140,6 +144,7 @@ impl<D: Disk> Bot<D> {
     fn compact(&mut self, alloc: Global) -> Report
         ensures takes { GivesRow self.old (did self.old.link compacts) result self.new }
         ensures few { length result.packets ≤ MAX_LEAVES + 1 }
+        ensures good_records { AreGood result.packets }
     {
         let answer = self.link.compact(alloc);
         Report::of_answer(alloc, answer)
@@ -149,6 +154,7 @@ impl<D: Disk> Bot<D> {
     fn restart(&mut self, alloc: Global) -> Report
         ensures takes { GivesRestart self.old result self.new }
         ensures few { length result.packets ≤ MAX_LEAVES + 1 }
+        ensures good_records { AreGood result.packets }
     {
         match self.link.restart(alloc) {
             Ok(answer) => {
@@ -180,6 +186,7 @@ impl<D: Disk> Bot<D> {
         requires { HasGoodRecords packet.now }
         ensures takes { TakesStep P.code_of P.may store.now self.old (Event.Receive packet.now) result self.new }
         ensures few { length result.packets ≤ MAX_LEAVES + 1 }
+        ensures good_records { AreGood result.packets }
     {
         match self.link.receive(alloc, packet) {
             Ok(answer) => self.take_answer(alloc, store, answer),

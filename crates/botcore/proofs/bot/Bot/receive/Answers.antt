@@ -1,9 +1,11 @@
-use Rattle.std.proofs.Common.{refl, subst}
+use Rattle.std.proofs.Common.{◌+◌, Err, refl, subst}
 use Rattle.protocol.specs.Bots.{Works}
 use Rattle.botlink.specs.Links.{took}
 use Rattle.botcore.specs.Bots.{Bot}
 use Rattle.botcore.specs.Happenings.{saying_of}
 use Rattle.botcore.specs.Steps.{TakesPacket}
+use Rattle.linkcalls.specs.declared.TheConstants.{MAX_LEAVES}
+use Rattle.botcore.proofs.GoodLemmas.{good_reported, packet_good}
 use Rattle.botcore.proofs.PacketLemmas.{answered, failed}
 use Rattle.botcore.proofs.bot.Bot.receive.Goals as goal
 
@@ -50,3 +52,23 @@ returns-in-Err-clause-takes g c =
     c.of_answer.result new) c.self.view_is
     (failed g.P.Promise.code_of g.P.Promise.may c.args.store.now old new c.receive.new.self c.args.packet.now c.in-Err.why c.of_answer.result
     c.in-Err.ensures.row refl c.of_answer.ensures)
+
+pub returns-in-Ok-clause-good_records : goal.returns-in-Ok-clause-good_records
+returns-in-Ok-clause-good_records g c =
+    let before : Bot
+    = record {
+      config = c.self.inside.config;
+      link = c.receive.new.self;
+      binds = c.self.inside.binds;
+      channels = c.self.inside.channels.current;
+      clock = c.self.inside.clock;
+      timers = c.self.inside.timers;
+      queues = c.self.inside.queues;
+      welcomed = c.self.inside.welcomed;
+    } in
+    packet_good g.P.Promise.code_of g.P.Promise.may c.args.store.now before c.in-Ok.answer c.take_answer.result c.take_answer.new.self
+    c.in-Ok.ensures.packets.1 c.take_answer.ensures.text c.take_answer.ensures.report
+
+pub returns-in-Err-clause-good_records : goal.returns-in-Err-clause-good_records
+returns-in-Err-clause-good_records g c =
+    good_reported (MAX_LEAVES + 1) (Err c.in-Err.why) c.of_answer.result c.in-Err.ensures.packets c.of_answer.ensures
