@@ -174,7 +174,7 @@ module _ (code_of : List ℕ → Call → Code) (may : List ℕ → Call → Lis
   moment_good true now report new c = subst (λ (r : Report). AreGood r.packets) (sym c.0) tt
   moment_good false now report new c =
       calls_good code_of may (told_of (bot_setting code_of names old) c.0) old (run_to old now) None (finish_reading (run_to old now) now)
-      report new report.end c.2.1
+      report new report.end c.2
 
   pub reading_good : (fault : Option ClockFault) (now : ℕ) (report : Report) (new : Bot) → TakesReading fault code_of may names old now report new
       → AreGood report.packets
