@@ -3,3 +3,4 @@ pub mod Doubts
 pub mod Opening
 pub mod Link
 pub mod Parts
+pub mod Journaling

@@ -4,24 +4,26 @@ ghost use Rattle.std.specs.Prelude.{◌≡◌, ◌<◌, true, false, None, IfOk,
 ghost use Rattle.storage.specs.State.{IsSettled};
 ghost use Rattle.userfile.specs.Apply.{refusal};
 ghost use Rattle.usercodec.specs.Changes.{IsGoodChange};
-ghost use Rattle.botjournal.specs.Bases.{IsGoodOut};
+ghost use Rattle.botjournal.specs.Bases.{IsGoodBase, IsGoodOut};
 ghost use Rattle.botjournal.specs.Ledger.{IsGoodFound};
 ghost use Rattle.protocol.specs.Numbers.{last_number};
-ghost use Rattle.protocol.specs.Journals.{leaf_meaning};
+ghost use Rattle.protocol.specs.Journals.{leaf_meaning, leaf_base};
+ghost use Rattle.protocol.specs.Network.{new_leaf};
 ghost use Rattle.linkstate.specs.States.{Reads};
 ghost use Rattle.protocol.specs.LeafRules.{Apply, Out, Done, Install, Compact};
 ghost use Rattle.leaflink.specs.Kept.{Journals, Restarts};
 ghost use Rattle.leaflink.specs.Opening.{Makes, Finds, MayLeave, contents_in};
 
 use crate::doubt::Doubt;
-use botjournal::{Entry, Found, Ledger, LedgerError, RebaseFault};
+use crate::journaled::{base_journaled, install_journaled, out_journaled};
+use botjournal::{Base, Entry, Found, Ledger, LedgerError};
 use bytejournal::{Disks, JournalFault, Returned};
-use bytetext::{Failure, NoMemory, TryCopy};
+use bytetext::{Failure, Seq};
 use linkstate::{LeafState, StateError};
 use std::alloc::Global;
 use std::marker::Model;
 use std::snapshot::Snapshot;
-use storage::{Disk, DiskFault};
+use storage::Disk;
 use userfile::{Change, Userfile};
 
 #[derive(Drop)]
@@ -68,20 +70,10 @@ impl<D: Disk> KeptLeaf<D> {
         requires numbered { 0 < number }
         ensures { Makes D.state number first second result }
     {
-        let state = LeafState::new(alloc);
-        let base = match state.base(alloc, number) {
-            Ok(base) => base,
-            Err(NoMemory) => {
-                return Err(Returned {
-                    error: Failure::NoMemory,
-                    disks: Disks { first, second },
-                });
-            }
-        };
-        match Ledger::create(alloc, first, second, &base) {
+        match Ledger::create(alloc, first, second, &empty_base(alloc, number)) {
             Ok(ledger) => Ok(KeptLeaf {
                 number,
-                state,
+                state: LeafState::new(alloc),
                 ledger,
                 down: false,
                 doubt: None,
@@ -176,17 +168,8 @@ impl<D: Disk> KeptLeaf<D> {
         ensures { Journals (Out change.now) self.old result self.new }
     {
         self.state.userfile().are_sound();
-        let kept = change.copy(alloc)?;
-        let twin = change.copy(alloc)?;
-        let entry = Entry::ReqOut {
-            request: self.state.last_request() + 1,
-            change: twin,
-        };
-        match self.ledger.append(alloc, &entry) {
-            Ok(()) => {
-                self.state.put_out(kept);
-                Ok(())
-            }
+        match out_journaled(alloc, &mut self.state, &mut self.ledger, change) {
+            Ok(()) => Ok(()),
             Err(Failure::NoMemory) => Err(Failure::NoMemory),
             Err(Failure::Refused(fault)) => {
                 self.doubt = Some(Doubt::Out(Snapshot::of(change)));
@@ -226,19 +209,26 @@ impl<D: Disk> KeptLeaf<D> {
         requires numbered { nat_lt self.old.kept.generation last_number ≡ true }
         ensures { Journals Compact self.old result self.new }
     {
-        self.state.userfile().are_sound();
-        let base = self.state.base(alloc, self.number)?;
-        match self.ledger.rebase(alloc, &base) {
+        let version = self.state.version();
+        let userfile = self.state.userfile();
+        userfile.are_sound();
+        match base_journaled(
+            alloc,
+            self.number,
+            &self.state,
+            &mut self.ledger,
+            version,
+            userfile,
+        ) {
             Ok(()) => {
                 self.state.count_generation();
                 Ok(())
             }
             Err(Failure::NoMemory) => Err(Failure::NoMemory),
-            Err(Failure::Refused(RebaseFault::GenerationsSpent)) => unreachable!(),
-            Err(Failure::Refused(RebaseFault::DiskFault)) => {
+            Err(Failure::Refused(fault)) => {
                 self.doubt = Some(Doubt::Compact);
                 self.down = true;
-                Err(Failure::Refused(DiskFault))
+                Err(Failure::Refused(fault))
             }
         }
     }
@@ -256,20 +246,21 @@ impl<D: Disk> KeptLeaf<D> {
     {
         userfile.are_sound();
         self.state.userfile().are_sound();
-        let base = self
-            .state
-            .base_with(alloc, self.number, version, &userfile)?;
-        match self.ledger.rebase(alloc, &base) {
-            Ok(()) => {
-                self.state.install(version, userfile);
-                Ok(())
-            }
+        let seen = Snapshot::of(&userfile);
+        match install_journaled(
+            alloc,
+            self.number,
+            &mut self.state,
+            &mut self.ledger,
+            version,
+            userfile,
+        ) {
+            Ok(()) => Ok(()),
             Err(Failure::NoMemory) => Err(Failure::NoMemory),
-            Err(Failure::Refused(RebaseFault::GenerationsSpent)) => unreachable!(),
-            Err(Failure::Refused(RebaseFault::DiskFault)) => {
-                self.doubt = Some(Doubt::Install(version, Snapshot::of(&userfile)));
+            Err(Failure::Refused(fault)) => {
+                self.doubt = Some(Doubt::Install(version, seen));
                 self.down = true;
-                Err(Failure::Refused(DiskFault))
+                Err(Failure::Refused(fault))
             }
         }
     }
@@ -306,6 +297,21 @@ impl<D: Disk> KeptLeaf<D> {
         ensures { MayLeave D.state result.first result.second self }
     {
         self.ledger.into_disks()
+    }
+}
+
+// The base of a leaf before the first change.
+fn empty_base(alloc: Global, number: u16) -> Base
+    ensures base { result ≡ leaf_base number new_leaf.kept }
+    ensures good { IsGoodBase result }
+{
+    Base {
+        bot: number,
+        version: 0,
+        records: Seq::empty(alloc),
+        replies: Seq::empty(alloc),
+        last_request: 0,
+        out: None,
     }
 }
 

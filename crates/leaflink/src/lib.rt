@@ -19,6 +19,7 @@
 #![tactic(auto)]
 
 mod doubt;
+mod journaled;
 mod kept;
 mod link;
 mod parts;
