@@ -16,8 +16,8 @@ invariant_of-self-in-Err-state_in g c =
     unread-holds inside.number inside.state inside.down (option_map record_of inside.doubt) inside.ledger c.restart.new.self c.in-Ok.found
     c.generation.result c.self.invariant c.in-Ok.ensures.row c.generation.ensures
 
-pub invariant_of-self-in-Err : goal.invariant_of-self-in-Err
-invariant_of-self-in-Err g c =
+pub invariant_of-self : goal.invariant_of-self
+invariant_of-self g c =
     let inside = c.self.inside in
     failed-holds inside.number inside.state inside.down (option_map record_of inside.doubt) inside.ledger c.restart.new.self c.in-Err.error
     c.self.invariant c.in-Err.ensures.row
