@@ -1,19 +1,14 @@
 -- What a journal means once a record was written to it, or may have been.
-use Rattle.std.proofs.Common.{◌≡◌, ◌≢◌, ◌⊎◌, ◌<◌, ◌≤◌, ◌-◌, ◌^◌, ◌+◌, ℕ, Bool, true, false, List, [], Option, None, Some, Result, Ok, Err, refl, sym, ap, subst, ◌∙◌, inl, inr, arith, nat_lt, ltb-true}
-use Rattle.bytetext.specs.declared.failure.Failure.{Failure}
-use Rattle.bytetext.specs.declared.failure.Failure.TheVariants.{Refused, NoMemory}
-use Rattle.storage.specs.declared.disk.DiskFault.{DiskFault}
+use Rattle.std.proofs.Common.{◌≡◌, ◌-◌, ◌^◌, ◌+◌, ℕ, Bool, true, false, Option, Some, ap, inl, inr, arith, nat_lt, ltb-true}
 use Rattle.userfile.specs.Together.{AreSound}
 use Rattle.botjournal.specs.Bases.{IsGoodOut}
 use Rattle.botjournal.specs.Contents.{Contents}
-use Rattle.botjournal.specs.declared.entry.Entry.{Entry}
-use Rattle.botjournal.specs.Ledger.{Ledger, Account, Failures, Failed, Pending, Adding, Rebasing, Writes, FailsAt, Appends, written, settled, counted as contents_counted}
+use Rattle.botjournal.specs.Ledger.{Ledger, Account, Pending, Writes, FailsAt, written}
 use Rattle.protocol.specs.Numbers.{last_number}
-use Rattle.protocol.specs.Bots.{counted}
 use Rattle.protocol.specs.LeafRules.{LeafState, LeafRecord, Apply, Out, Done, Install, Compact, leaf_folded}
-use Rattle.protocol.specs.Journals.{leaf_meaning, leaf_written, LeafMay}
+use Rattle.protocol.specs.Journals.{leaf_written, LeafMay}
 use Rattle.protocol.proofs.Journals.{leaf_reads_back}
-use Rattle.leaflink.specs.Kept.{Means, MeansEither, IsUp, IsDown, Stands, Holds}
+use Rattle.leaflink.specs.Kept.{Means, IsDown, Stands, Holds}
 
 -- the record moves the state's generation as it moves the journal's
 generations : (number : ℕ) (contents : Contents) (kept : LeafState) (entry : LeafRecord) → kept.generation ≡ contents.generation

@@ -1,5 +1,5 @@
 -- A leaf that is made, found or handed back.
-use Rattle.std.proofs.Common.{◌≡◌, ◌⊎◌, ◌<◌, ◌+◌, ◌==◌, ℕ, Bool, true, false, if◌then◌else◌, List, [], ◌∷◌, Option, None, Some, refl, sym, ap, subst, ◌∙◌, inl, inr, eq-eqb}
+use Rattle.std.proofs.Common.{◌≡◌, ◌⊎◌, ◌<◌, ℕ, Bool, true, false, if◌then◌else◌, List, [], ◌∷◌, Option, None, Some, refl, sym, ap, subst, ◌∙◌, inl, inr, eq-eqb}
 use Rattle.std.specs.Option.{option_map}
 use Rattle.storage.specs.State.{State}
 use Rattle.bytejournal.specs.Opening.{Untouched}
@@ -14,7 +14,7 @@ use Rattle.botjournal.specs.Ledger.{Account, IsFound as FindsContents, settled, 
 use Rattle.protocol.specs.LeafRules.{LeafState, LeafRecord, Apply, Out, Done, leaf_folded}
 use Rattle.protocol.specs.Network.{new_leaf}
 use Rattle.protocol.specs.Journals.{read_next, reads, record_if, leaf_of, leaf_base, is_leaf_base, leaf_record, leaf_meaning}
-use Rattle.leaflink.specs.Kept.{Means, MeansEither, Stands, Holds}
+use Rattle.leaflink.specs.Kept.{Means, Stands, Holds}
 use Rattle.leaflink.specs.Opening.{AreOf, contents_in}
 use Rattle.leaflink.proofs.RestartLaws.{either-of, found-is}
 

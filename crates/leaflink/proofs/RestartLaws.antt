@@ -1,5 +1,5 @@
 -- What a restart finds.
-use Rattle.std.proofs.Common.{◌≡◌, ◌⊎◌, ◌<◌, ℕ, Bool, true, false, List, Option, None, Some, Result, Ok, Err, refl, sym, ap, subst, ◌∙◌, inl, inr}
+use Rattle.std.proofs.Common.{◌≡◌, ◌⊎◌, ℕ, Bool, true, false, Option, None, Some, Ok, Err, refl, sym, ap, subst, ◌∙◌, inl, inr}
 use Rattle.bytetext.specs.declared.failure.Failure.{Failure}
 use Rattle.bytetext.specs.declared.failure.Failure.TheVariants.{Refused, NoMemory}
 use Rattle.storage.specs.declared.disk.DiskFault.{DiskFault}
@@ -10,7 +10,7 @@ use Rattle.botjournal.specs.Ledger.{Ledger, Account, Failures, IsFound, StaysDow
 use Rattle.protocol.specs.Bots.{counted}
 use Rattle.protocol.specs.LeafRules.{LeafState, LeafRecord, leaf_folded}
 use Rattle.protocol.specs.Journals.{leaf_meaning}
-use Rattle.leaflink.specs.Kept.{KeptLeaf, Means, MeansEither, IsUp, IsDown, Stands, Holds, Restarts}
+use Rattle.leaflink.specs.Kept.{KeptLeaf, Means, MeansEither, Stands, Holds, Restarts}
 use Rattle.leaflink.specs.Opening.{contents_in}
 
 -- in a journal of which nothing is in doubt, what would count is what is there

@@ -1,4 +1,4 @@
-use Rattle.std.proofs.Common.{true, Err, refl, ap, subst, ◌+◌, ◌∙◌, None, ◌≡◌}
+use Rattle.std.proofs.Common.{Err, refl, ap, subst, ◌+◌, ◌∙◌}
 use Rattle.std.specs.Option.{option_map}
 use Rattle.userfile.specs.Apply.{refusal}
 use Rattle.userfile.specs.Together.{AreSound}

@@ -1,4 +1,4 @@
-use Rattle.std.proofs.Common.{true, Err, None, refl, ap, subst, nat_lt, ◌+◌, ◌∙◌}
+use Rattle.std.proofs.Common.{Err, refl, ap, subst, nat_lt, ◌+◌, ◌∙◌}
 use Rattle.std.specs.Option.{option_map}
 use Rattle.userfile.specs.Together.{AreSound}
 use Rattle.botjournal.specs.declared.entry.Entry.TheVariants.{ReqOut}
