@@ -55,13 +55,7 @@ down-failed number kept false doubt old new entry pending is up sound may same f
 
 -- ---- the same of all that holds
 
--- a leaf that is up has a journal that is
-pub journal-up : (number : ℕ) (kept : LeafState) (down : Bool) (doubt : Option LeafRecord) (account : Account) → Holds number kept down doubt account
-    → down ≡ false → account.down ≡ false
-journal-up number kept true doubt account holds up = absurd (cc)
-journal-up number kept false doubt account holds up = holds.stands.up
-
--- such a journal has generations left where its state has
+-- the journal of a leaf that is up has generations left where its state has
 pub never-spent : (number : ℕ) (kept : LeafState) (down : Bool) (doubt : Option LeafRecord) (account : Account) → Holds number kept down doubt account
     → down ≡ false → nat_lt kept.generation last_number ≡ true → account.contents.generation ≡ 2 ^ 32 - 1 → ⊥
 never-spent number kept true doubt account holds up left spent = absurd (cc)
@@ -89,8 +83,3 @@ holds-failed number kept next down doubt old new entry pending holds up sound ma
       out = holds.out;
       stands = down-failed number kept down doubt old new entry pending holds.stands up sound may same fails;
     })
-
--- nothing moved
-pub holds-still : (number : ℕ) (kept next : LeafState) (down : Bool) (doubt : Option LeafRecord) (old new : Ledger)
-    → Holds number kept down doubt old.account → new ≡ old → next ≡ kept → Holds number next down doubt new.account
-holds-still number kept next down doubt old new holds same stays = rw (same, stays) holds

@@ -1,39 +1,18 @@
--- A leaf that is made, found or handed back.
-use Rattle.std.proofs.Common.{◌≡◌, ◌⊎◌, ◌<◌, ℕ, Bool, true, false, if◌then◌else◌, List, [], ◌∷◌, Option, None, Some, refl, sym, ap, subst, ◌∙◌, inl, inr, eq-eqb}
+-- A leaf that is found or handed back.
+use Rattle.std.proofs.Common.{◌≡◌, ◌⊎◌, ◌<◌, ℕ, Bool, true, false, if◌then◌else◌, List, [], ◌∷◌, Option, None, Some, refl, sym, ap, ◌∙◌, inl, inr}
 use Rattle.std.specs.Option.{option_map}
-use Rattle.storage.specs.State.{State}
-use Rattle.bytejournal.specs.Opening.{Untouched}
 use Rattle.botjournal.specs.Bases.{IsGoodOut}
-use Rattle.botjournal.specs.declared.base.Base.{Base}
 use Rattle.botjournal.specs.declared.entry.Entry.{Entry}
 use Rattle.botjournal.specs.declared.found.Found.{Found}
 use Rattle.botjournal.specs.declared.entry.Entry.TheVariants.{Accepted, Settled, Applied, ReqOut, ReqDone}
-use Rattle.botjournal.specs.Contents.{Contents, new_contents, meaning}
+use Rattle.botjournal.specs.Contents.{Contents, meaning}
 use Rattle.botjournal.specs.Journal.{IsEither}
 use Rattle.botjournal.specs.Ledger.{Account, IsFound as FindsContents, settled, counted as contents_counted}
 use Rattle.protocol.specs.LeafRules.{LeafState, LeafRecord, Apply, Out, Done, leaf_folded}
-use Rattle.protocol.specs.Network.{new_leaf}
-use Rattle.protocol.specs.Journals.{read_next, reads, record_if, leaf_of, leaf_base, is_leaf_base, leaf_record, leaf_meaning}
+use Rattle.protocol.specs.Journals.{read_next, reads, record_if, leaf_of, is_leaf_base, leaf_record, leaf_meaning}
 use Rattle.leaflink.specs.Kept.{Means, Stands, Holds}
 use Rattle.leaflink.specs.Opening.{AreOf, contents_in}
 use Rattle.leaflink.proofs.RestartLaws.{either-of, found-is}
-
--- ---- made
-
-new-means : (number : ℕ) → Means number (new_contents (leaf_base number new_leaf.kept)) new_leaf.kept
-new-means number = record { means = rw (eq-eqb number number refl) refl; generation = refl }
-
-pub made-holds : (number : ℕ) (state : LeafState) (base : Base) (account : Account) → 0 < number → state ≡ new_leaf.kept
-    → base ≡ leaf_base number state → account ≡ settled (new_contents base) → Holds number state false None account
-made-holds number state base account above new is at =
-    let same : account ≡ settled (new_contents (leaf_base number new_leaf.kept)) =
-    at ∙ ap (λ b. settled (new_contents b)) (is ∙ ap (λ s. leaf_base number s) new) in
-    subst (λ (s : LeafState). Holds number s false None account) (sym new)
-    (subst (λ (a : Account). Holds number new_leaf.kept false None a) (sym same) (record {
-      numbered = above;
-      out = tt;
-      stands = record { up = refl; certain = refl; none = refl; means = new-means number };
-    }))
 
 -- ---- handed back
 
@@ -116,14 +95,7 @@ pub found-meaning : (number generation : ℕ) (found : Found) (contents : Conten
 found-meaning number generation found contents means at is read =
     ap (λ c. leaf_meaning number c) (sym (found-is contents generation found at is)) ∙ read
 
--- disks that were only read mean what they meant
-pub untouched-mean : (first second first' second' : State) → Untouched first first' → Untouched second second'
-    → (x y : List ℕ) → first'.may_leave x → second'.may_leave y → meaning x y ≡ meaning first.seen second.seen
-untouched-mean first second first' second' one other x y left right =
-    ap (λ image. meaning image y) (one.settled x left ∙ one.seen)
-    ∙ ap (λ image. meaning first.seen image) (other.settled y right ∙ other.seen)
-
--- and so do those that were taken out of a journal at rest
+-- disks that were taken out of a journal at rest mean what they meant
 pub rested-mean : (account : Account) (before : Option Contents) (x y : List ℕ) → account ≡ settled account.contents
     → before ≡ Some account.contents → IsEither (Some account.contents) (Some (contents_counted account)) x y → meaning x y ≡ before
 rested-mean account before x y rests was either = by either.means ∙ sym was

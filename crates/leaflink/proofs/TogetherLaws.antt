@@ -109,9 +109,3 @@ together_is items good =
     ∙ ap (λ b. is_none (first_of_two (fault_if (repeats_handle users) UserExists)
     (first_of_two (fault_if (list_any (λ user. repeats_mask user.masks) users) MaskExists) (first_of_two (fault_if (repeats_ban bans) BanExists)
     (fault_if (nat_lt MAX_USERS (length users) || nat_lt MAX_BANS (length bans) || b) Full))))) (sym (none-over items good))
-
--- where they stand together, their userfile is made of them
-pub made_is : (items : List Record) (made : Records) → stand_together (records_from items) ≡ true → sound_records items ≡ Some made
-    → made ≡ records_from items
-made_is items made together e =
-    let same : Some (records_from items) ≡ Some made = ap (λ b. record_if b (records_from items)) (sym together) ∙ e in cc
