@@ -1,5 +1,5 @@
 -- Which records stand together, of those that have spellings: few, of which no two clash.
-use Rattle.std.proofs.Common.{◌≡◌, ℕ, Bool, true, false, not, ◌&&◌, ◌||◌, nat_lt, nat_le, List, [], ◌∷◌, length, Option, None, Some, is_none, refl, ap, sym, ◌∙◌, arith, leb-true, leb-false, ltb-true, ltb-false}
+use Rattle.std.proofs.Common.{◌≡◌, ℕ, Bool, true, false, not, ◌&&◌, ◌||◌, nat_lt, nat_le, List, [], ◌∷◌, length, is_none, refl, ap, sym, ◌∙◌, arith, leb-true, leb-false, ltb-true, ltb-false}
 use Rattle.std.specs.List.{AllByRecursion, list_any}
 use Rattle.rfccase.specs.Casemapping.{is_same}
 use Rattle.userfile.specs.Held.{is_ban}
@@ -13,9 +13,7 @@ use Rattle.usercodec.specs.declared.records.Record.{Record}
 use Rattle.usercodec.specs.declared.records.Record.TheVariants as records
 use Rattle.usercodec.specs.Records.{IsGoodRecord}
 use Rattle.protocol.specs.Snapshots.{users_in, bans_in, records_from}
-use Rattle.protocol.specs.Journals.{stand_together, record_if}
-use Rattle.linkstate.specs.States.{sound_records}
-use Rattle.userfile.specs.Records.{Records}
+use Rattle.protocol.specs.Journals.{stand_together}
 use Rattle.leaflink.specs.Parts.{clash}
 
 -- ---- clashes are of users among users, and of bans among bans
