@@ -1,6 +1,6 @@
 mod KeptLaws
 mod LinkLaws
-mod RowLaws
+mod InstallLaws
 mod RestartLaws
 mod OpenLaws
 mod PartLaws

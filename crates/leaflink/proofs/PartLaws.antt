@@ -1,7 +1,6 @@
 -- Parts that are kept, and a walk over the records of all of them.
-use Rattle.std.proofs.Common.{◌≡◌, ℕ, zero, suc, ◌+◌, ◌-◌, ◌<◌, ◌≤◌, ◌==◌, Bool, true, false, ◌&&◌, ◌||◌, if◌then◌else◌, List, [], ◌∷◌, ◌++◌, length, take, drop, slice_set, Option, None, Some, is_some, refl, ap, sym, subst, ◌∙◌, arith, ne_eqb, append-nil, append_assoc}
+use Rattle.std.proofs.Common.{◌≡◌, ℕ, zero, suc, ◌+◌, ◌-◌, ◌<◌, ◌≤◌, ◌==◌, Bool, true, false, ◌&&◌, if◌then◌else◌, List, [], ◌∷◌, ◌++◌, length, take, drop, slice_set, Option, None, Some, is_some, refl, ap, sym, subst, ◌∙◌, arith, ne_eqb, append-nil, append_assoc}
 use Rattle.std.specs.List.{AllByRecursion, list_all}
-use Rattle.std.specs.Option.{option_map}
 use Rattle.usercodec.specs.declared.records.Record.{Record}
 use Rattle.usercodec.specs.Records.{IsGoodRecord}
 use Rattle.protocol.specs.Snapshots.{PartSet, joined_next, joined, no_places, set_for, with_part}

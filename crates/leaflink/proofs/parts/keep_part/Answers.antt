@@ -1,4 +1,4 @@
-use Rattle.std.proofs.Common.{ap, subst, sym, ◌∙◌, ◌<◌, ◌-◌, arith, length, ℕ}
+use Rattle.std.proofs.Common.{ap, ◌∙◌, arith, length}
 use Rattle.protocol.specs.Snapshots.{PartSet}
 use Rattle.leaflink.proofs.PartLaws.{no_places-length}
 use Rattle.leaflink.proofs.parts.keep_part.Goals as goal

@@ -1,5 +1,4 @@
-use Rattle.std.proofs.Common.{ap, subst, sym, ◌-◌}
-use Rattle.leaflink.specs.Parts.{AreGoodParts}
+use Rattle.std.proofs.Common.{◌-◌}
 use Rattle.leaflink.proofs.PartLaws.{good-set}
 use Rattle.leaflink.proofs.parts.KeptParts.put.Goals as goal
 
