@@ -8,3 +8,5 @@ pub mod PacketLemmas
 pub mod PutLemmas
 pub mod ReachLemmas
 pub mod RunningLemmas
+pub mod SilentLemmas
+pub mod TextLemmas
