@@ -1,2 +1,4 @@
-pub mod Links
-pub mod Calls
+pub mod Kept
+pub mod Doubts
+pub mod Opening
+pub mod Link

@@ -19,10 +19,10 @@
 #![tactic(auto)]
 
 mod accepting;
-mod hub;
-mod journal;
-mod opening;
+mod doubt;
+mod kept;
+mod link;
 mod packets;
 mod receiving;
 
-pub use crate::hub::HubLink;
+pub use crate::link::HubLink;

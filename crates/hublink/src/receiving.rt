@@ -1,23 +1,26 @@
 // What a hub makes of a packet.
-use crate::hub::HubLink;
-use crate::packets::{all_parts, next_changes, reply_packet};
+use crate::accepting::accept;
+use crate::link::HubLink;
+use crate::packets::{hello_packets, repeat_packets, reply_packet};
 use botjournal::{Answer as Outcome, Reply};
-use bytetext::{Failure, NoMemory, Seq, Text, TryCopy};
-use linkstate::AcceptedChange;
-use linkcalls::{Answer, LinkError, LinkFault, Note, Outgoing, Packet, text_by};
+use bytetext::{Failure, Seq, Text, TryCopy};
+use linkcalls::{Answer, LinkError, LinkFault, Note, Packet, text_by};
 use std::alloc::Global;
 use storage::Disk;
-use userfile::Change;
+use userfile::{Change, ChangeFault};
 
 impl<D: Disk> HubLink<D> {
-    ghost use Rattle.std.specs.Prelude.{◌≡◌, true, false};
+    ghost use Rattle.std.specs.Prelude.{◌≡◌, ◌+◌, ◌||◌, true, false, nat_lt};
     ghost use Rattle.userfile.specs.Apply.{refusal};
     ghost use Rattle.protocol.specs.Packets.{from_wire};
     ghost use Rattle.protocol.specs.Packets.Packet.{Hello as hello_packet, Request as request_packet, BotText as text_packet};
     ghost use Rattle.protocol.specs.Numbers.{item_at, place_of};
-    ghost use Rattle.protocol.specs.HubRules.{hub_received, hub_received_up, request_of, next_request, repeats, hello_served, text_passed, last_request};
+    ghost use Rattle.protocol.specs.HubRules.{version_of, is_no_leaf, hub_received, hub_received_up, request_placed, next_request, last_request};
     ghost use Rattle.protocol.specs.Journals.{is_next_of};
-    ghost use Rattle.hublink.specs.Calls.{Meets};
+    ghost use Rattle.linkcalls.specs.declared.TheConstants.{MAX_LEAVES};
+    ghost use Rattle.linkcalls.specs.Shapes.{GoOut};
+    ghost use Rattle.std.specs.Prelude.{Some};
+    ghost use Rattle.hublink.specs.Link.{Meets};
 
     /// Takes a packet.
     ///
@@ -35,10 +38,19 @@ impl<D: Disk> HubLink<D> {
     /// `Gap`, and what is answered with no packet, take no memory.
     pub fn receive(&mut self, alloc: Global, packet: &Packet) -> Result<Answer, LinkError>
         ensures row { Meets self.old (λ how. hub_received self.old.leaves how self.old.bot (from_wire packet.now)) result self.new }
+        ensures packets { GoOut (MAX_LEAVES + 1) result }
     {
-        if self.down {
+        if self.kept.is_down() {
             return Err(Failure::Refused(LinkFault::Down));
         }
+        self.receive_up(alloc, packet)
+    }
+
+    fn receive_up(&mut self, alloc: Global, packet: &Packet) -> Result<Answer, LinkError>
+        requires up { self.old.bot.down ≡ false }
+        ensures row { Meets self.old (λ how. hub_received_up self.old.leaves how self.old.bot (from_wire packet.now)) result self.new }
+        ensures packets { GoOut (MAX_LEAVES + 1) result }
+    {
         match packet {
             Packet::Hello { leaf, version } => self.receive_hello(alloc, *leaf, *version),
             Packet::Request {
@@ -57,19 +69,23 @@ impl<D: Disk> HubLink<D> {
     // Answers a leaf's hello.
     fn receive_hello(&self, alloc: Global, leaf: u16, version: u32) -> Result<Answer, LinkError>
         ensures row { Meets self.now (λ how. hub_received_up self.now.leaves how self.now.bot (hello_packet leaf version)) result self.now }
+        ensures packets { GoOut (MAX_LEAVES + 1) result }
     {
-        if leaf == 0 || leaf > self.leaves || version > self.state.version() {
+        if self.is_stray_hello(leaf, version) {
             return Ok(Answer::only(alloc, Note::Stray));
         }
-        let packets = if version < self.state.floor() {
-            all_parts(alloc, leaf, &self.state)?
-        } else {
-            next_changes(alloc, leaf, version, &self.state)?
-        };
+        let packets = hello_packets(alloc, leaf, version, self.kept.state())?;
         Ok(Answer {
             note: Note::Served(packets.len()),
             packets: Seq::new(packets),
         })
+    }
+
+    // Whether there is no such leaf, or no such version yet.
+    fn is_stray_hello(&self, leaf: u16, version: u32) -> bool
+        ensures { result ≡ (is_no_leaf self.now.leaves leaf || nat_lt (version_of self.now.bot.kept) version) }
+    {
+        leaf == 0 || leaf > self.kept.leaves() || version > self.kept.state().version()
     }
 
     // Takes a text, or sends it on.
@@ -81,19 +97,28 @@ impl<D: Disk> HubLink<D> {
         text: &Text,
     ) -> Result<Answer, LinkError>
         ensures row { Meets self.now (λ how. hub_received_up self.now.leaves how self.now.bot (text_packet from to text.now)) result self.now }
+        ensures packets { GoOut (MAX_LEAVES + 1) result }
     {
-        if from > self.leaves || to > self.leaves {
+        if self.is_stray_text(from, to) {
             return Ok(Answer::only(alloc, Note::Stray));
         }
         if to == 0 {
             let text = text.copy(alloc)?;
             return Ok(Answer::only(alloc, Note::Text { from, text }));
         }
-        let packets = vec![in alloc; text_by(alloc, to, from, to, text.as_bytes())?]?;
+        let outgoing = text_by(alloc, to, from, to, text.as_bytes())?;
         Ok(Answer {
             note: Note::Relayed,
-            packets: Seq::new(packets),
+            packets: Seq::new(vec![in alloc; outgoing]?),
         })
+    }
+
+    // Whether there is no such bot.
+    fn is_stray_text(&self, from: u16, to: u16) -> bool
+        ensures { result ≡ (nat_lt self.now.leaves from || nat_lt self.now.leaves to) }
+    {
+        let leaves = self.kept.leaves();
+        from > leaves || to > leaves
     }
 
     // Takes a leaf's request.
@@ -106,61 +131,80 @@ impl<D: Disk> HubLink<D> {
     ) -> Result<Answer, LinkError>
         requires up { self.old.bot.down ≡ false }
         ensures row { Meets self.old (λ how. hub_received_up self.old.leaves how self.old.bot (request_packet leaf request change.now)) result self.new }
+        ensures packets { GoOut (MAX_LEAVES + 1) result }
     {
         if request == 0 {
             return Ok(Answer::only(alloc, Note::Stray));
         }
-        let Some(last) = self.state.reply_of(leaf) else {
-            return Ok(Answer::only(alloc, Note::Stray));
-        };
-        let number = last_request(last);
-        if request < number {
-            Ok(Answer::only(alloc, Note::Old))
-        } else if request == number {
-            let packets = repeat_packets(alloc, leaf, request, last)?;
-            Ok(Answer {
-                note: Note::Repeat,
-                packets: Seq::new(packets),
-            })
-        } else if request - 1 == number {
-            self.settle_request(alloc, leaf, request, change)
-        } else {
-            Ok(Answer::only(alloc, Note::Gap))
+        match self.kept.state().reply_of(leaf) {
+            Some(last) => self.place_request(alloc, leaf, request, change, last),
+            None => Ok(Answer::only(alloc, Note::Stray)),
         }
     }
 
-    // Settles a leaf's next request.
-    fn settle_request(
+    // Takes a request by where its number stands to that of the last reply.
+    fn place_request(
         &mut self,
         alloc: Global,
         leaf: u16,
         request: u32,
         change: &Change,
+        last: Option<Reply>,
+    ) -> Result<Answer, LinkError>
+        requires up { self.old.bot.down ≡ false }
+        requires last { item_at self.old.bot.kept.replies leaf ≡ Some last }
+        requires one { nat_lt 0 request ≡ true }
+        ensures row { Meets self.old (λ how. request_placed self.old.leaves how self.old.bot leaf request change.now last
+            (place_of request (last_request last))) result self.new }
+        ensures packets { GoOut (MAX_LEAVES + 1) result }
+    {
+        let number = last_request(last);
+        if request < number {
+            return Ok(Answer::only(alloc, Note::Old));
+        }
+        if request == number {
+            let packets = repeat_packets(alloc, leaf, request, last)?;
+            return Ok(Answer {
+                note: Note::Repeat,
+                packets: Seq::new(packets),
+            });
+        }
+        if request - 1 > number {
+            return Ok(Answer::only(alloc, Note::Gap));
+        }
+        match self.kept.state().userfile().refusal_of(change) {
+            Some(fault) => self.refuse_request(alloc, leaf, request, fault),
+            None => accept(alloc, &mut self.kept, leaf, request, change),
+        }
+    }
+
+    // Refuses a leaf's next request.
+    fn refuse_request(
+        &mut self,
+        alloc: Global,
+        leaf: u16,
+        request: u32,
+        fault: ChangeFault,
     ) -> Result<Answer, LinkError>
         requires up { self.old.bot.down ≡ false }
         requires next { is_next_of (item_at self.old.bot.kept.replies leaf) request ≡ true }
-        ensures row { Meets self.old (λ how. next_request self.old.leaves how self.old.bot leaf request change.now
-            (refusal self.old.bot.kept.records change.now)) result self.new }
+        ensures row { (change : _) → Meets self.old (λ how. next_request self.old.leaves how self.old.bot leaf request change (Some fault)) result self.new }
+        ensures packets { GoOut (MAX_LEAVES + 1) result }
     {
-        let Some(fault) = self.state.userfile().refusal_of(change) else {
-            if self.state.version() == u32::MAX {
-                return Err(Failure::Refused(LinkFault::NumbersSpent));
-            }
-            let entry = AcceptedChange::new(leaf, request, change.copy(alloc)?);
-            return self.accept(alloc, &entry);
-        };
         let reply = reply_packet(leaf, request, Outcome::Refused(fault));
-        let packets = vec![in alloc; reply]?;
-        self.keep_settled(alloc, leaf, request, fault)?;
-        Ok(Answer {
-            note: Note::Refused(fault),
-            packets: Seq::new(packets),
-        })
+        let packets = Seq::new(vec![in alloc; reply]?);
+        match self.kept.settle(alloc, leaf, request, fault) {
+            Ok(()) => Ok(Answer {
+                note: Note::Refused(fault),
+                packets,
+            }),
+            Err(error) => Err(error),
+        }
     }
 }
 
 ghost use Rattle.std.specs.Prelude.{◌≡◌};
-ghost use Rattle.protocol.specs.HubRules.{Hub, last_request};
+ghost use Rattle.protocol.specs.HubRules.{last_request};
 
 // The number of the last request that was replied to.
 fn last_request(reply: Option<Reply>) -> u32
@@ -169,25 +213,5 @@ fn last_request(reply: Option<Reply>) -> u32
     match reply {
         Some(reply) => reply.request,
         None => 0,
-    }
-}
-
-ghost use Rattle.std.specs.Prelude.{IfOk, Ok, length, ◌<◌, OnErr};
-ghost use Rattle.linkcalls.specs.Calls.{outgoings_of};
-ghost use Rattle.hublink.specs.Calls.{repeated};
-
-// The reply that is kept, once more.
-fn repeat_packets(
-    alloc: Global,
-    leaf: u16,
-    request: u32,
-    last: Option<Reply>,
-) -> Result<Vec<Outgoing>, NoMemory>
-    ensures packets { IfOk result (λ packets. outgoings_of packets.items ≡ repeated leaf request last) }
-    ensures some { OnErr result (0 < length (repeated leaf request last)) }
-{
-    match last {
-        Some(reply) => Ok(vec![in alloc; reply_packet(leaf, request, reply.answer)]?),
-        None => Ok(Vec::new(alloc)),
     }
 }

@@ -252,8 +252,7 @@ impl HubState {
     }
 
     /// Journals a change that isn't refused as the next one, and makes it. All memory is taken before the journal's first
-    /// device call. The change is the one that this bot asked for under this number of its own; both are 0 for the hub's
-    /// own changes.
+    /// device call. The change is the next request of the leaf that asked for it, or the hub's own.
     ///
     /// # Errors
     /// What [`Ledger::append`] is refused for, and `NoMemory` for what else the change takes; all leave the state as it
@@ -262,27 +261,20 @@ impl HubState {
         &mut self,
         alloc: Global,
         ledger: &mut Ledger<D>,
-        origin: u16,
-        request: u32,
-        change: Change,
+        entry: AcceptedChange,
     ) -> Result<(), LedgerError>
         requires up { ledger.old.account.down ≡ false }
-        requires taken { refusal self.old.records change ≡ None }
+        requires taken { refusal self.old.records entry.change ≡ None }
         requires numbered { nat_lt (version_of self.old) last_number ≡ true }
-        requires next { is_next self.old.replies origin request ≡ true }
-        ensures row { Appends ledger.old (Accepted origin request change) result ledger.new }
-        ensures accepts { OnOk result (self.new ≡ hub_folded self.old
-            (Accept (record { origin = origin; request = request; change = change }))) }
+        requires next { is_next self.old.replies entry.origin entry.request ≡ true }
+        ensures row { Appends ledger.old (Accepted entry.origin entry.request entry.change) result ledger.new }
+        ensures accepts { OnOk result (self.new ≡ hub_folded self.old (Accept entry)) }
         ensures stays { OnErr result (self.new ≡ self.old) }
     {
-        know_change(&change);
+        let record = accepted_entry(alloc, &entry)?;
         let number = self.version() + 1;
-        let record = Entry::Accepted {
-            origin,
-            request,
-            change: change.copy(alloc)?,
-        };
-        let entry = AcceptedChange::new(origin, request, change);
+        let origin = entry.origin();
+        let request = entry.request();
         match keep_next(
             alloc,
             &mut self.userfile,
@@ -452,9 +444,28 @@ fn base_of(version: u32, records: Vec<Record>, replies: Vec<Reply>) -> Base
     }
 }
 
-ghost use Rattle.std.specs.Prelude.{false};
+ghost use Rattle.std.specs.Prelude.{false, IfOk};
+ghost use Rattle.userfile.specs.Apply.{bad_shape};
 ghost use Rattle.botjournal.specs.Ledger.{Appends};
 ghost use Rattle.botjournal.specs.Entries.{IsGoodEntry};
+ghost use Rattle.botjournal.specs.declared.entry.Entry.TheVariants.{Accepted};
+
+// The entry of an accepted change of good shape.
+fn accepted_entry(alloc: Global, accepted: &AcceptedChange) -> Result<Entry, NoMemory>
+    requires shape { bad_shape accepted.now.change ≡ None }
+    ensures entry { IfOk result (λ entry. entry ≡ Accepted accepted.now.origin accepted.now.request accepted.now.change) }
+    ensures good { IfOk result IsGoodEntry }
+{
+    know_change(accepted.change());
+    let origin = accepted.origin();
+    let request = accepted.request();
+    let change = accepted.change().copy(alloc)?;
+    Ok(Entry::Accepted {
+        origin,
+        request,
+        change,
+    })
+}
 
 // Journals an entry, makes the change of it, which isn't refused, and puts the change after the others.
 fn keep_next<D: Disk>(

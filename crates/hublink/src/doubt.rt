@@ -1,9 +1,9 @@
-// What a hub journals, and what is in doubt where that fails.
+// What was being journaled when a disk failed.
 use linkstate::AcceptedChange;
 use std::snapshot::Snapshot;
 use userfile::ChangeFault;
 
-/// What was being journaled when a disk failed. The change is there for contracts alone.
+// The record that is in doubt until a restart tells, for contracts alone.
 #[derive(Drop)]
 pub(crate) enum Doubt {
     Accept(Snapshot<AcceptedChange>),
