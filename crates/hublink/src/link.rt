@@ -28,7 +28,7 @@ impl<D: Disk> Model for HubLink<D> {
 }
 
 impl<D: Disk> HubLink<D> {
-    ghost use Rattle.std.specs.Prelude.{◌≡◌, ◌≤◌, ◌+◌, false, length};
+    ghost use Rattle.std.specs.Prelude.{◌≡◌, ◌≤◌, ◌+◌, false, length, OnErr};
     ghost use Rattle.storage.specs.State.{IsSettled};
     ghost use Rattle.protocol.specs.Bots.{unless_down};
     ghost use Rattle.protocol.specs.HubRules.{version_of, hub_asked, text_told, hub_pumped, hub_pumped_up, hub_compacted, hub_restarted};
@@ -43,7 +43,12 @@ impl<D: Disk> HubLink<D> {
     /// # Errors
     /// With the disks: `NoMemory`, where nothing was written; `DiskFault` where a disk failed: what the disks hold is
     /// then unknown.
-    pub fn create(alloc: Global, first: D, second: D, leaves: u16) -> Result<HubLink<D>, Returned<D>>
+    pub fn create(
+        alloc: Global,
+        first: D,
+        second: D,
+        leaves: u16,
+    ) -> Result<HubLink<D>, Returned<D>>
         requires first_settled { IsSettled (D.state first) }
         requires second_settled { IsSettled (D.state second) }
         requires few { leaves ≤ MAX_LEAVES }
@@ -124,6 +129,8 @@ impl<D: Disk> HubLink<D> {
     /// as it was, and only `Queued` takes memory.
     pub fn ask(&mut self, alloc: Global, change: Change) -> Result<Answer, LinkError>
         ensures row { Meets self.old (λ how. hub_asked self.old.bot change) result self.new }
+        ensures quiet { self.new.failures ≡ self.old.failures }
+        ensures stays { OnErr result (self.new ≡ self.old) }
         ensures packets { GoOut 0 result }
     {
         if self.kept.is_down() {
