@@ -6,6 +6,8 @@ ghost use Rattle.protocol.specs.Journals.{is_next};
 
 use crate::accepted::AcceptedChange;
 use crate::fault::{StateError, StateFault};
+use crate::fields::know_change;
+use crate::journaled::change_journaled;
 use crate::records::{items_of, userfile_of};
 use crate::replies::{
     is_next, is_next_of, know_replies, put_reply, replies_in, replies_of, reply_at,
@@ -50,11 +52,12 @@ impl HubState {
     ghost use Rattle.std.specs.Prelude.{◌≡◌, ◌≢◌, ◌&&◌, ◌<◌, ◌≤◌, ◌^◌, true, false, nat_lt, is_none, None, Err, IfOk, OnOk, OnErr, length};
     ghost use Rattle.bytetext.specs.declared.failure.Failure.TheVariants.{NoMemory as no_memory};
     ghost use Rattle.userfile.specs.Apply.{refusal};
-    ghost use Rattle.botjournal.specs.Bases.{IsGoodBase};
+    ghost use Rattle.usercodec.specs.Records.{IsGoodRecord};
+    ghost use Rattle.botjournal.specs.Bases.{AreListed, IsGoodBase};
     ghost use Rattle.botjournal.specs.Ledger.{Appends, Rebases};
     ghost use Rattle.botjournal.specs.declared.entry.Entry.TheVariants.{Accepted, Settled};
     ghost use Rattle.protocol.specs.Numbers.{last_number, item_at};
-    ghost use Rattle.protocol.specs.HubRules.{Settle, Rebase, version_of, hub_folded};
+    ghost use Rattle.protocol.specs.HubRules.{Accept, Settle, Rebase, version_of, hub_folded};
     ghost use Rattle.protocol.specs.Snapshots.{items_of};
     ghost use Rattle.protocol.specs.Network.{new_hub};
     ghost use Rattle.protocol.specs.Journals.{hub_of, hub_base, hub_record, hub_meaning, is_next, is_next_of, IsHubState};
@@ -248,6 +251,46 @@ impl HubState {
         Ok(())
     }
 
+    /// Journals a change that isn't refused as the next one, and makes it. All memory is taken before the journal's first
+    /// device call. The change is the next request of the leaf that asked for it, or the hub's own.
+    ///
+    /// # Errors
+    /// What [`Ledger::append`] is refused for, and `NoMemory` for what else the change takes; all leave the state as it
+    /// was.
+    pub fn accept_next<D: Disk>(
+        &mut self,
+        alloc: Global,
+        ledger: &mut Ledger<D>,
+        entry: AcceptedChange,
+    ) -> Result<(), LedgerError>
+        requires up { ledger.old.account.down ≡ false }
+        requires taken { refusal self.old.records entry.change ≡ None }
+        requires numbered { nat_lt (version_of self.old) last_number ≡ true }
+        requires next { is_next self.old.replies entry.origin entry.request ≡ true }
+        ensures row { Appends ledger.old (Accepted entry.origin entry.request entry.change) result ledger.new }
+        ensures accepts { OnOk result (self.new ≡ hub_folded self.old (Accept entry)) }
+        ensures stays { OnErr result (self.new ≡ self.old) }
+    {
+        let record = accepted_entry(alloc, &entry)?;
+        let number = self.version() + 1;
+        let origin = entry.origin();
+        let request = entry.request();
+        match keep_next(
+            alloc,
+            &mut self.userfile,
+            &mut self.tail,
+            ledger,
+            &record,
+            entry,
+        ) {
+            Ok(()) => {
+                put_reply(&mut self.replies, origin, request, Answer::Taken(number));
+                Ok(())
+            }
+            Err(error) => Err(error),
+        }
+    }
+
     /// Journals that a leaf's next request is refused, and keeps that as the reply to it.
     ///
     /// # Errors
@@ -310,12 +353,13 @@ impl HubState {
         }
     }
 
-    /// The userfile's records one by one, its users first: at most 700.
+    /// The userfile's records one by one, its users first: at most 700, each of which has a spelling.
     ///
     /// # Errors
     /// `NoMemory` where room for copies is refused.
     pub fn items(&self, alloc: Global) -> Result<Vec<Record>, NoMemory>
         ensures items { IfOk result (λ items. items.items ≡ items_of self.now.records) }
+        ensures good { IfOk result (λ items. AreListed IsGoodRecord items.items) }
         ensures few { IfOk result (λ items. length items.items ≤ 700) }
     {
         items_of(alloc, &self.userfile)
@@ -397,5 +441,56 @@ fn base_of(version: u32, records: Vec<Record>, replies: Vec<Reply>) -> Base
         replies: Seq::new(replies),
         last_request: 0,
         out: None,
+    }
+}
+
+ghost use Rattle.std.specs.Prelude.{false, IfOk};
+ghost use Rattle.userfile.specs.Apply.{bad_shape};
+ghost use Rattle.botjournal.specs.Ledger.{Appends};
+ghost use Rattle.botjournal.specs.Entries.{IsGoodEntry};
+ghost use Rattle.botjournal.specs.declared.entry.Entry.TheVariants.{Accepted};
+
+// The entry of an accepted change of good shape.
+fn accepted_entry(alloc: Global, accepted: &AcceptedChange) -> Result<Entry, NoMemory>
+    requires shape { bad_shape accepted.now.change ≡ None }
+    ensures entry { IfOk result (λ entry. entry ≡ Accepted accepted.now.origin accepted.now.request accepted.now.change) }
+    ensures good { IfOk result IsGoodEntry }
+{
+    know_change(accepted.change());
+    let origin = accepted.origin();
+    let request = accepted.request();
+    let change = accepted.change().copy(alloc)?;
+    Ok(Entry::Accepted {
+        origin,
+        request,
+        change,
+    })
+}
+
+// Journals an entry, makes the change of it, which isn't refused, and puts the change after the others.
+fn keep_next<D: Disk>(
+    alloc: Global,
+    userfile: &mut Userfile,
+    tail: &mut Vec<AcceptedChange>,
+    ledger: &mut Ledger<D>,
+    entry: &Entry,
+    kept: AcceptedChange,
+) -> Result<(), LedgerError>
+    requires up { ledger.old.account.down ≡ false }
+    requires good { IsGoodEntry entry.now }
+    requires taken { refusal userfile.old kept.change ≡ None }
+    ensures row { Appends ledger.old entry.now result ledger.new }
+    ensures records { OnOk result (userfile.new ≡ changed userfile.old kept.change) }
+    ensures tail { OnOk result (tail.new.items ≡ tail.old.items ++ kept ∷ []) }
+    ensures same_records { OnErr result (userfile.new ≡ userfile.old) }
+    ensures same_tail { OnErr result (tail.new.items ≡ tail.old.items) }
+{
+    tail.reserve(1)?;
+    match change_journaled(alloc, userfile, ledger, kept.change(), entry) {
+        Ok(()) => {
+            tail.push_reserved(kept);
+            Ok(())
+        }
+        Err(error) => Err(error),
     }
 }

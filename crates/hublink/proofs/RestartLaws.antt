@@ -1,0 +1,122 @@
+-- What a restart finds.
+use Rattle.std.proofs.Common.{◌≡◌, ◌⊎◌, ◌<◌, ℕ, Bool, true, false, List, Option, None, Some, Result, Ok, Err, refl, sym, ap, subst, ◌∙◌, inl, inr}
+use Rattle.bytetext.specs.declared.failure.Failure.{Failure}
+use Rattle.bytetext.specs.declared.failure.Failure.TheVariants.{Refused, NoMemory}
+use Rattle.storage.specs.declared.disk.DiskFault.{DiskFault}
+use Rattle.botjournal.specs.Contents.{Contents}
+use Rattle.botjournal.specs.declared.found.Found.{Found}
+use Rattle.botjournal.specs.Ledger.{Ledger, Account, IsFound, StaysDown, settled, written_if, counted as contents_counted, Restarts as LedgerRestarts}
+use Rattle.protocol.specs.Bots.{counted}
+use Rattle.protocol.specs.HubRules.{HubState, HubRecord, hub_folded}
+use Rattle.protocol.specs.Journals.{hub_meaning, IsHubState}
+use Rattle.hublink.specs.Kept.{Means, MeansEither, IsUp, IsDown, Stands, Holds}
+use Rattle.hublink.specs.Opening.{contents_in}
+
+-- in a journal of which nothing is in doubt, what would count is what is there
+certain-counted : (account : Account) → account.doubt ≡ None → contents_counted account ≡ account.contents
+certain-counted account certain = ap (λ d. written_if d account.contents) certain
+
+pub either-of : (leaves : ℕ) (kept : HubState) (down : Bool) (doubt : Option HubRecord) (account : Account) (contents : Contents)
+    → Stands down leaves kept doubt account → (contents ≡ account.contents) ⊎ (contents ≡ contents_counted account)
+    → MeansEither leaves kept doubt contents
+either-of leaves kept false doubt account contents is (inl same) =
+    subst (λ (c : Contents). MeansEither leaves kept doubt c) (sym same) (inl is.means)
+either-of leaves kept false doubt account contents is (inr same) =
+    subst (λ (c : Contents). MeansEither leaves kept doubt c) (sym (same ∙ certain-counted account is.certain)) (inl is.means)
+either-of leaves kept true doubt account contents is (inl same) =
+    subst (λ (c : Contents). MeansEither leaves kept doubt c) (sym same) is.held
+either-of leaves kept true doubt account contents is (inr same) =
+    subst (λ (c : Contents). MeansEither leaves kept doubt c) (sym same) is.counted
+
+contents-found : (old new : Account) → (new ≡ settled old.contents) ⊎ (new ≡ settled (contents_counted old))
+    → (new.contents ≡ old.contents) ⊎ (new.contents ≡ contents_counted old)
+contents-found old new (inl e) = inl (ap (λ (a : Account). a.contents) e)
+contents-found old new (inr e) = inr (ap (λ (a : Account). a.contents) e)
+
+settled-found : (old new : Account) → (new ≡ settled old.contents) ⊎ (new ≡ settled (contents_counted old)) → new ≡ settled new.contents
+settled-found old new (inl e) = e ∙ sym (ap (λ (a : Account). settled a.contents) e)
+settled-found old new (inr e) = e ∙ sym (ap (λ (a : Account). settled a.contents) e)
+
+-- what is found is what the journal then holds
+pub found-is : (contents : Contents) (generation : ℕ) (found : Found) → generation ≡ contents.generation → IsFound found contents
+    → contents_in generation found ≡ contents
+found-is contents generation found at is =
+    ap (λ n. (let c : Contents = record { generation = n; base = found.base; entries = found.entries } in c)) at
+    ∙ ap (λ b. (let c : Contents = record { generation = contents.generation; base = b; entries = found.entries } in c)) is.0
+    ∙ ap (λ l. (let c : Contents = record { generation = contents.generation; base = contents.base; entries = l } in c)) is.1
+
+-- which state it means
+state-is : (leaves : ℕ) (kept state : HubState) (doubt : Option HubRecord) (contents : Contents) → MeansEither leaves kept doubt contents
+    → hub_meaning leaves contents ≡ Some state → (state ≡ kept) ⊎ (state ≡ counted hub_folded kept doubt)
+state-is leaves kept state doubt contents (inl m) is = let same : Some state ≡ Some kept = sym is ∙ m.means in inl (cc)
+state-is leaves kept state doubt contents (inr m) is =
+    let same : Some state ≡ Some (counted hub_folded kept doubt) = sym is ∙ m.means in inr (cc)
+
+state-means : (leaves : ℕ) (kept state : HubState) (doubt : Option HubRecord) (contents : Contents) → MeansEither leaves kept doubt contents
+    → hub_meaning leaves contents ≡ Some state → Means leaves contents state
+state-means leaves kept state doubt contents (inl m) is =
+    let same : Some state ≡ Some kept = sym is ∙ m.means in
+    let state-kept : state ≡ kept = cc in
+    record { means = is; generation = ap (λ (h : HubState). h.generation) state-kept ∙ m.generation }
+state-means leaves kept state doubt contents (inr m) is =
+    let same : Some state ≡ Some (counted hub_folded kept doubt) = sym is ∙ m.means in
+    let state-counted : state ≡ counted hub_folded kept doubt = cc in
+    record { means = is; generation = ap (λ (h : HubState). h.generation) state-counted ∙ m.generation }
+
+module _ (leaves : ℕ) (kept : HubState) (down : Bool) (doubt : Option HubRecord) (old new : Ledger) (found : Found) (generation : ℕ)
+    (holds : Holds leaves kept down doubt old.account) (restarts : LedgerRestarts old (Ok found) new)
+    (at : new.account.down ≡ false → generation ≡ new.account.contents.generation) where
+  either : MeansEither leaves kept doubt new.account.contents
+  either = either-of leaves kept down doubt old.account new.account.contents holds.stands (contents-found old.account new.account restarts.0)
+
+  rests : new.account ≡ settled new.account.contents
+  rests = settled-found old.account new.account restarts.0
+
+  up : new.account.down ≡ false
+  up = ap (λ (a : Account). a.down) rests
+
+  read : (state : HubState) → hub_meaning leaves (contents_in generation found) ≡ Some state
+      → hub_meaning leaves new.account.contents ≡ Some state
+  read state is = ap (λ c. hub_meaning leaves c) (sym (found-is new.account.contents generation found (at up) restarts.1)) ∙ is
+
+  -- the state that was read is kept
+  pub restarted-holds : (state : HubState) → hub_meaning leaves (contents_in generation found) ≡ Some state → IsHubState leaves state
+      → Holds leaves state false None new.account
+  restarted-holds state is good = record {
+    few = holds.few;
+    state = good;
+    stands = record {
+      up = up;
+      certain = ap (λ (a : Account). a.doubt) rests;
+      none = refl;
+      means = state-means leaves kept state doubt new.account.contents either (read state is);
+    };
+  }
+
+  pub restarted-state : (state : HubState) → hub_meaning leaves (contents_in generation found) ≡ Some state
+      → (state ≡ kept) ⊎ (state ≡ counted hub_folded kept doubt)
+  restarted-state state is = state-is leaves kept state doubt new.account.contents either (read state is)
+
+  -- a journal that was opened, but not read
+  pub unread-holds : Holds leaves kept true doubt new.account
+  unread-holds = record {
+    few = holds.few;
+    state = holds.state;
+    stands = record {
+      held = either;
+      counted = subst (λ (c : Contents). MeansEither leaves kept doubt c)
+          (sym (certain-counted new.account (ap (λ (a : Account). a.doubt) rests))) either;
+    };
+  }
+
+-- a journal that wasn't opened
+pub down-holds : (leaves : ℕ) (kept : HubState) (down : Bool) (doubt : Option HubRecord) (old new : Ledger) → Holds leaves kept down doubt old.account
+    → StaysDown old new → Holds leaves kept true doubt new.account
+down-holds leaves kept down doubt old new holds stays = record {
+  few = holds.few;
+  state = holds.state;
+  stands = record {
+    held = either-of leaves kept down doubt old.account new.account.contents holds.stands (inl (ap (λ (a : Account). a.contents) stays));
+    counted = either-of leaves kept down doubt old.account (contents_counted new.account) holds.stands (inr (ap contents_counted stays));
+  };
+}

@@ -1,0 +1,4 @@
+pub mod Kept
+pub mod Doubts
+pub mod Opening
+pub mod Link

@@ -1,0 +1,49 @@
+// What a hub accepts.
+ghost use Rattle.std.specs.Prelude.{◌≡◌, ◌+◌, false, None};
+ghost use Rattle.userfile.specs.Apply.{refusal};
+ghost use Rattle.protocol.specs.Journals.{is_next};
+ghost use Rattle.linkcalls.specs.declared.TheConstants.{MAX_LEAVES};
+ghost use Rattle.linkcalls.specs.Shapes.{GoOut};
+ghost use Rattle.hublink.specs.Link.{Accepts};
+
+use crate::kept::KeptHub;
+use crate::packets::accepted_packets;
+use bytetext::{Failure, Seq, TryCopy};
+use linkcalls::{Answer, LinkError, LinkFault, Note};
+use linkstate::AcceptedChange;
+use std::alloc::Global;
+use storage::Disk;
+use userfile::Change;
+
+/// Accepts a change that isn't refused, under the next number: it is journaled, and goes to each leaf, after the reply to
+/// the leaf that asked for it under this request number. Both are 0 for a change of the hub's own.
+///
+/// # Errors
+/// `NumbersSpent` at the last version; `NoMemory`; `JournalFault` where a disk failed.
+pub(crate) fn accept<D: Disk>(
+    alloc: Global,
+    kept: &mut KeptHub<D>,
+    origin: u16,
+    request: u32,
+    change: &Change,
+) -> Result<Answer, LinkError>
+    requires up { kept.old.down ≡ false }
+    requires taken { refusal kept.old.kept.records change.now ≡ None }
+    requires next { is_next kept.old.kept.replies origin request ≡ true }
+    ensures accepts { Accepts kept.old (record { origin = origin; request = request; change = change.now }) result kept.new }
+    ensures packets { GoOut (MAX_LEAVES + 1) result }
+{
+    let version = kept.state().version();
+    if version == u32::MAX {
+        return Err(Failure::Refused(LinkFault::NumbersSpent));
+    }
+    let entry = AcceptedChange::new(origin, request, change.copy(alloc)?);
+    let packets = accepted_packets(alloc, kept.leaves(), version + 1, &entry)?;
+    match kept.accept(alloc, entry) {
+        Ok(()) => Ok(Answer {
+            note: Note::Accepted(version + 1),
+            packets: Seq::new(packets),
+        }),
+        Err(error) => Err(error),
+    }
+}

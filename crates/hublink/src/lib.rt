@@ -1,0 +1,28 @@
+//! The hub's end of the sharing link, over a journal on two disks.
+//!
+//! A [`HubLink`] accepts changes of the userfile, numbers them, and sends them to its leaves. Each change that it accepts,
+//! and each request that it refuses, is in its journal before anything of it is told or sent; so a restart finds all that
+//! was told. A call makes one call of the journal at most, and takes all memory before it: a call that is out of memory
+//! leaves the link as it was.
+//!
+//! Where a disk fails while the journal is written, the link is down: it shows what it showed, and takes nothing but a
+//! restart, which finds that what was being written counts, or doesn't.
+//!
+//! ```text
+//! let mut hub = HubLink::create(alloc, first, second, 1)?;
+//! hub.ask(alloc, Change::AddUser { handle })?;          // Queued
+//! let answer = hub.pump(alloc)?;                        // Accepted(1), and Change 1 to each leaf
+//! if hub.is_down() {
+//!     hub.restart(alloc)?;                              // Restarted(0) or Restarted(1)
+//! }
+//! ```
+#![tactic(auto)]
+
+mod accepting;
+mod doubt;
+mod kept;
+mod link;
+mod packets;
+mod receiving;
+
+pub use crate::link::HubLink;

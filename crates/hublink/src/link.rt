@@ -1,0 +1,255 @@
+// The hub's end of the link.
+use crate::accepting::accept;
+use crate::kept::KeptHub;
+use bytejournal::{Disks, Returned};
+use bytetext::{Failure, TryCopy, refuse};
+use linkcalls::{Answer, LinkError, LinkFault, MAX_ASKS, Note, Outgoing, text_by, text_fault};
+use std::alloc::Global;
+use std::collections::VecDeque;
+use std::marker::Model;
+use storage::Disk;
+use userfile::{Change, Userfile, shape};
+
+/// The hub's end: what its journal keeps, and the asks that wait.
+#[derive(Drop)]
+pub struct HubLink<D: Disk> {
+    pub(crate) kept: KeptHub<D>,
+    waiting: VecDeque<Change>,
+}
+
+impl<D: Disk> Model for HubLink<D> {
+    ghost use Rattle.hublink.specs.Link.{HubEnd};
+
+    ghost Value = { HubEnd };
+
+    ghost use Rattle.hublink.specs.Link.{end_of};
+
+    ghost view = { λ h. end_of h.kept h.waiting.items };
+}
+
+impl<D: Disk> HubLink<D> {
+    ghost use Rattle.std.specs.Prelude.{◌≡◌, ◌≤◌, ◌+◌, false, length, OnErr};
+    ghost use Rattle.storage.specs.State.{IsSettled};
+    ghost use Rattle.protocol.specs.Bots.{unless_down};
+    ghost use Rattle.protocol.specs.HubRules.{version_of, hub_asked, text_told, hub_pumped, hub_pumped_up, hub_compacted, hub_restarted};
+    ghost use Rattle.linkcalls.specs.declared.TheConstants.{MAX_LEAVES};
+    ghost use Rattle.linkcalls.specs.Texts.{Sends};
+    ghost use Rattle.linkcalls.specs.Shapes.{GoOut};
+    ghost use Rattle.hublink.specs.Opening.{MayLeave};
+    ghost use Rattle.hublink.specs.Link.{Meets, Restarts, Creates, Opens, with_oldest, kept_in};
+
+    /// Makes a hub without records, for this many leaves, on two disks. What the disks held is lost.
+    ///
+    /// # Errors
+    /// With the disks: `NoMemory`, where nothing was written; `DiskFault` where a disk failed: what the disks hold is
+    /// then unknown.
+    pub fn create(
+        alloc: Global,
+        first: D,
+        second: D,
+        leaves: u16,
+    ) -> Result<HubLink<D>, Returned<D>>
+        requires first_settled { IsSettled (D.state first) }
+        requires second_settled { IsSettled (D.state second) }
+        requires few { leaves ≤ MAX_LEAVES }
+        ensures row { Creates D.state leaves first second result }
+    {
+        match KeptHub::create(alloc, first, second, leaves) {
+            Ok(kept) => Ok(HubLink {
+                kept,
+                waiting: VecDeque::new(alloc),
+            }),
+            Err(returned) => Err(returned),
+        }
+    }
+
+    /// Opens a hub with this many leaves on the two disks that it wrote. Nothing is written.
+    ///
+    /// # Errors
+    /// With the disks, which mean what they meant: `DiskFault` where a read failed; `NotAJournal` where they hold no
+    /// journal, or one that means nothing to a hub with so many leaves: another bot's, one with a reply to a leaf above
+    /// the last, with records that no userfile holds, or with an entry that no hub writes there; `NoMemory`.
+    pub fn open(alloc: Global, first: D, second: D, leaves: u16) -> Result<HubLink<D>, Returned<D>>
+        requires first_settled { IsSettled (D.state first) }
+        requires second_settled { IsSettled (D.state second) }
+        requires few { leaves ≤ MAX_LEAVES }
+        ensures row { Opens D.state leaves first second result }
+    {
+        match KeptHub::open(alloc, first, second, leaves) {
+            Ok(kept) => Ok(HubLink {
+                kept,
+                waiting: VecDeque::new(alloc),
+            }),
+            Err(returned) => Err(returned),
+        }
+    }
+
+    /// The version: how many changes the hub ever accepted.
+    pub fn version(&self) -> u32
+        ensures { result ≡ version_of self.now.bot.kept }
+    {
+        self.kept.state().version()
+    }
+
+    /// The userfile at that version.
+    pub fn userfile(&self) -> &Userfile
+        ensures { result.now ≡ self.now.bot.kept.records }
+    {
+        self.kept.state().userfile()
+    }
+
+    /// Whether a disk failed, or a restart did not end, since the journal was last opened. Only a restart is taken then.
+    pub fn is_down(&self) -> bool
+        ensures { result ≡ self.now.bot.down }
+    {
+        self.kept.is_down()
+    }
+
+    /// How many asks wait.
+    pub fn ask_count(&self) -> usize
+        ensures { result ≡ length self.now.bot.loose }
+    {
+        self.waiting.len()
+    }
+
+    /// Takes back all asks but the oldest ones, of which this many stay. Takes no memory.
+    ///
+    /// A caller that asks for several things, all or none, counts the asks before it begins, and comes back to that
+    /// count where it has to give up.
+    pub fn keep_asks(&mut self, count: usize)
+        ensures { self.new ≡ with_oldest self.old count }
+    {
+        self.waiting.truncate(count);
+    }
+
+    /// Lets a change wait for a pump: `Queued`.
+    ///
+    /// # Errors
+    /// `Down`, then `BadChange` for a bad shape, then `AsksFull` where 64 asks wait, then `NoMemory`; each leaves the hub
+    /// as it was, and only `Queued` takes memory.
+    pub fn ask(&mut self, alloc: Global, change: Change) -> Result<Answer, LinkError>
+        ensures row { Meets self.old (λ how. hub_asked self.old.bot change) result self.new }
+        ensures quiet { self.new.failures ≡ self.old.failures }
+        ensures stays { OnErr result (self.new ≡ self.old) }
+        ensures packets { GoOut 0 result }
+    {
+        if self.kept.is_down() {
+            return Err(Failure::Refused(LinkFault::Down));
+        }
+        if let Some(fault) = shape(&change) {
+            return Err(Failure::Refused(LinkFault::BadChange(fault)));
+        }
+        if self.waiting.len() >= MAX_ASKS {
+            return Err(Failure::Refused(LinkFault::AsksFull));
+        }
+        self.waiting.push_back(change)?;
+        Ok(Answer::only(alloc, Note::Queued))
+    }
+
+    /// Takes the oldest ask: `Accepted` with its number, and the change to each leaf; or `Refused` where the userfile
+    /// refuses it; or `Idle` where none waits.
+    ///
+    /// # Errors
+    /// `Down`; `NumbersSpent` at the last version, where the ask still waits; `NoMemory`, which leaves the hub as it was;
+    /// `JournalFault` where a disk failed: the hub is down, shows what it showed, and sends nothing, and the ask waits
+    /// until a restart. `Idle` and `Refused` take no memory.
+    pub fn pump(&mut self, alloc: Global) -> Result<Answer, LinkError>
+        ensures row { Meets self.old (λ how. hub_pumped self.old.leaves how self.old.bot) result self.new }
+        ensures packets { GoOut (MAX_LEAVES + 1) result }
+    {
+        if self.kept.is_down() {
+            return Err(Failure::Refused(LinkFault::Down));
+        }
+        self.pump_oldest(alloc)
+    }
+
+    fn pump_oldest(&mut self, alloc: Global) -> Result<Answer, LinkError>
+        requires up { self.old.bot.down ≡ false }
+        ensures row { Meets self.old (λ how. hub_pumped_up self.old.leaves how self.old.bot self.old.bot.loose) result self.new }
+        ensures packets { GoOut (MAX_LEAVES + 1) result }
+    {
+        let Some(change) = self.waiting.front() else {
+            return Ok(Answer::only(alloc, Note::Idle));
+        };
+        if let Some(fault) = self.kept.state().userfile().refusal_of(change) {
+            let _ = self.waiting.pop_front();
+            return Ok(Answer::only(alloc, Note::Refused(fault)));
+        }
+        match accept(alloc, &mut self.kept, 0, 0, change) {
+            Ok(answer) => {
+                let _ = self.waiting.pop_front();
+                Ok(answer)
+            }
+            Err(error) => Err(error),
+        }
+    }
+
+    /// A text to a leaf, which the caller is to send, where its step has sent so many so far. The hub stays as it was.
+    ///
+    /// # Errors
+    /// `Down`, then `BadBotText` where there is no such leaf or the text is none that a bot may tell another, then
+    /// `TextsFull` from 64 on, then `NoMemory`.
+    pub fn send_text(
+        &self,
+        alloc: Global,
+        to: u16,
+        text: &[u8],
+        sent: usize,
+    ) -> Result<Outgoing, LinkError>
+        ensures row { Sends (unless_down self.now.bot (text_told self.now.bot self.now.leaves 0 to to text.now)) sent result }
+    {
+        if self.kept.is_down() {
+            return Err(Failure::Refused(LinkFault::Down));
+        }
+        refuse(text_fault(self.kept.leaves(), 0, to, text, sent))?;
+        Ok(text_by(alloc, to, 0, to, text)?)
+    }
+
+    /// Puts the state alone into the journal: `Compacted`. The changes so far are no longer kept one by one, and a leaf
+    /// whose version is below the hub's now is sent all records.
+    ///
+    /// # Errors
+    /// `Down`; `NumbersSpent` in the journal's last generation; `NoMemory`, which leaves the hub as it was;
+    /// `JournalFault` where a disk failed: the hub is down, and shows what it showed.
+    pub fn compact(&mut self, alloc: Global) -> Result<Answer, LinkError>
+        ensures row { Meets self.old (λ how. hub_compacted self.old.leaves how self.old.bot) result self.new }
+        ensures packets { GoOut 0 result }
+    {
+        if self.kept.is_down() {
+            return Err(Failure::Refused(LinkFault::Down));
+        }
+        if self.kept.state().generation() == u32::MAX {
+            return Err(Failure::Refused(LinkFault::NumbersSpent));
+        }
+        match self.kept.compact(alloc) {
+            Ok(()) => Ok(Answer::only(alloc, Note::Compacted)),
+            Err(error) => Err(error),
+        }
+    }
+
+    /// Crashes both disks, as where the program that used them ended, and opens the journal again: `Restarted` with the
+    /// version. The asks that waited are lost. Where a record was in doubt, it counts from now on, or it doesn't.
+    ///
+    /// # Errors
+    /// `DiskFault` where a read failed, or `NoMemory`: the hub is down, and all else stays.
+    pub fn restart(&mut self, alloc: Global) -> Result<Answer, LinkError>
+        ensures row { Restarts self.old (λ how. hub_restarted self.old.leaves how self.old.bot) result self.new }
+        ensures packets { GoOut 0 result }
+    {
+        match self.kept.restart(alloc) {
+            Ok(()) => {
+                self.waiting.clear();
+                Ok(Answer::only(alloc, Note::Restarted(self.kept.state().version())))
+            }
+            Err(error) => Err(error),
+        }
+    }
+
+    /// The two disks, in the order in which they were given.
+    pub fn into_disks(self) -> Disks<D>
+        // Whatever a crash leaves on them is the hub's, with the record in doubt or without it.
+        ensures left { MayLeave D.state result.first result.second (kept_in self) }
+    {
+        self.kept.into_disks()
+    }
+}

@@ -1,0 +1,217 @@
+// What a hub makes of a packet.
+use crate::accepting::accept;
+use crate::link::HubLink;
+use crate::packets::{hello_packets, repeat_packets, reply_packet};
+use botjournal::{Answer as Outcome, Reply};
+use bytetext::{Failure, Seq, Text, TryCopy};
+use linkcalls::{Answer, LinkError, LinkFault, Note, Packet, text_by};
+use std::alloc::Global;
+use storage::Disk;
+use userfile::{Change, ChangeFault};
+
+impl<D: Disk> HubLink<D> {
+    ghost use Rattle.std.specs.Prelude.{◌≡◌, ◌+◌, ◌||◌, true, false, nat_lt};
+    ghost use Rattle.userfile.specs.Apply.{refusal};
+    ghost use Rattle.protocol.specs.Packets.{from_wire};
+    ghost use Rattle.protocol.specs.Packets.Packet.{Hello as hello_packet, Request as request_packet, BotText as text_packet};
+    ghost use Rattle.protocol.specs.Numbers.{item_at, place_of};
+    ghost use Rattle.protocol.specs.HubRules.{version_of, is_no_leaf, hub_received, hub_received_up, request_placed, next_request, last_request};
+    ghost use Rattle.protocol.specs.Journals.{is_next_of};
+    ghost use Rattle.linkcalls.specs.declared.TheConstants.{MAX_LEAVES};
+    ghost use Rattle.linkcalls.specs.Shapes.{GoOut};
+    ghost use Rattle.std.specs.Prelude.{Some};
+    ghost use Rattle.hublink.specs.Link.{Meets};
+
+    /// Takes a packet.
+    ///
+    /// - A hello of a leaf, at a version that the hub has, is `Served`: with the changes that follow, at most 16, or with
+    ///   all records in parts where those changes are no longer kept one by one.
+    /// - A leaf's request is `Old` below the last one, `Repeat` where it is the last one, whose reply goes out again, and
+    ///   `Gap` where one before it is missing. Else it is `Refused`, which is journaled and told to the leaf, or
+    ///   `Accepted`, which is journaled, told to the leaf, and goes to each leaf as a change.
+    /// - A text of a bot of the net is `Text` where it is for the hub, and `Relayed` to the leaf that it is for.
+    /// - Any other packet is `Stray`.
+    ///
+    /// # Errors
+    /// `Down`; `NumbersSpent` for a request at the last version; `NoMemory`, which leaves the hub as it was;
+    /// `JournalFault` where a disk failed: the hub is down, shows what it showed, and sends nothing. `Stray`, `Old` and
+    /// `Gap`, and what is answered with no packet, take no memory.
+    pub fn receive(&mut self, alloc: Global, packet: &Packet) -> Result<Answer, LinkError>
+        ensures row { Meets self.old (λ how. hub_received self.old.leaves how self.old.bot (from_wire packet.now)) result self.new }
+        ensures packets { GoOut (MAX_LEAVES + 1) result }
+    {
+        if self.kept.is_down() {
+            return Err(Failure::Refused(LinkFault::Down));
+        }
+        self.receive_up(alloc, packet)
+    }
+
+    fn receive_up(&mut self, alloc: Global, packet: &Packet) -> Result<Answer, LinkError>
+        requires up { self.old.bot.down ≡ false }
+        ensures row { Meets self.old (λ how. hub_received_up self.old.leaves how self.old.bot (from_wire packet.now)) result self.new }
+        ensures packets { GoOut (MAX_LEAVES + 1) result }
+    {
+        match packet {
+            Packet::Hello { leaf, version } => self.receive_hello(alloc, *leaf, *version),
+            Packet::Request {
+                leaf,
+                request,
+                change,
+            } => self.receive_request(alloc, *leaf, *request, change),
+            Packet::BotText { from, to, text } => self.receive_text(alloc, *from, *to, text),
+            Packet::Change { .. }
+            | Packet::Accepted { .. }
+            | Packet::Refused { .. }
+            | Packet::Part { .. } => Ok(Answer::only(alloc, Note::Stray)),
+        }
+    }
+
+    // Answers a leaf's hello.
+    fn receive_hello(&self, alloc: Global, leaf: u16, version: u32) -> Result<Answer, LinkError>
+        ensures row { Meets self.now (λ how. hub_received_up self.now.leaves how self.now.bot (hello_packet leaf version)) result self.now }
+        ensures packets { GoOut (MAX_LEAVES + 1) result }
+    {
+        if self.is_stray_hello(leaf, version) {
+            return Ok(Answer::only(alloc, Note::Stray));
+        }
+        let packets = hello_packets(alloc, leaf, version, self.kept.state())?;
+        Ok(Answer {
+            note: Note::Served(packets.len()),
+            packets: Seq::new(packets),
+        })
+    }
+
+    // Whether there is no such leaf, or no such version yet.
+    fn is_stray_hello(&self, leaf: u16, version: u32) -> bool
+        ensures { result ≡ (is_no_leaf self.now.leaves leaf || nat_lt (version_of self.now.bot.kept) version) }
+    {
+        leaf == 0 || leaf > self.kept.leaves() || version > self.kept.state().version()
+    }
+
+    // Takes a text, or sends it on.
+    fn receive_text(
+        &self,
+        alloc: Global,
+        from: u16,
+        to: u16,
+        text: &Text,
+    ) -> Result<Answer, LinkError>
+        ensures row { Meets self.now (λ how. hub_received_up self.now.leaves how self.now.bot (text_packet from to text.now)) result self.now }
+        ensures packets { GoOut (MAX_LEAVES + 1) result }
+    {
+        if self.is_stray_text(from, to) {
+            return Ok(Answer::only(alloc, Note::Stray));
+        }
+        if to == 0 {
+            let text = text.copy(alloc)?;
+            return Ok(Answer::only(alloc, Note::Text { from, text }));
+        }
+        let outgoing = text_by(alloc, to, from, to, text.as_bytes())?;
+        Ok(Answer {
+            note: Note::Relayed,
+            packets: Seq::new(vec![in alloc; outgoing]?),
+        })
+    }
+
+    // Whether there is no such bot.
+    fn is_stray_text(&self, from: u16, to: u16) -> bool
+        ensures { result ≡ (nat_lt self.now.leaves from || nat_lt self.now.leaves to) }
+    {
+        let leaves = self.kept.leaves();
+        from > leaves || to > leaves
+    }
+
+    // Takes a leaf's request.
+    fn receive_request(
+        &mut self,
+        alloc: Global,
+        leaf: u16,
+        request: u32,
+        change: &Change,
+    ) -> Result<Answer, LinkError>
+        requires up { self.old.bot.down ≡ false }
+        ensures row { Meets self.old (λ how. hub_received_up self.old.leaves how self.old.bot (request_packet leaf request change.now)) result self.new }
+        ensures packets { GoOut (MAX_LEAVES + 1) result }
+    {
+        if request == 0 {
+            return Ok(Answer::only(alloc, Note::Stray));
+        }
+        match self.kept.state().reply_of(leaf) {
+            Some(last) => self.place_request(alloc, leaf, request, change, last),
+            None => Ok(Answer::only(alloc, Note::Stray)),
+        }
+    }
+
+    // Takes a request by where its number stands to that of the last reply.
+    fn place_request(
+        &mut self,
+        alloc: Global,
+        leaf: u16,
+        request: u32,
+        change: &Change,
+        last: Option<Reply>,
+    ) -> Result<Answer, LinkError>
+        requires up { self.old.bot.down ≡ false }
+        requires last { item_at self.old.bot.kept.replies leaf ≡ Some last }
+        requires one { nat_lt 0 request ≡ true }
+        ensures row { Meets self.old (λ how. request_placed self.old.leaves how self.old.bot leaf request change.now last
+            (place_of request (last_request last))) result self.new }
+        ensures packets { GoOut (MAX_LEAVES + 1) result }
+    {
+        let number = last_request(last);
+        if request < number {
+            return Ok(Answer::only(alloc, Note::Old));
+        }
+        if request == number {
+            let packets = repeat_packets(alloc, leaf, request, last)?;
+            return Ok(Answer {
+                note: Note::Repeat,
+                packets: Seq::new(packets),
+            });
+        }
+        if request - 1 > number {
+            return Ok(Answer::only(alloc, Note::Gap));
+        }
+        match self.kept.state().userfile().refusal_of(change) {
+            Some(fault) => self.refuse_request(alloc, leaf, request, fault),
+            None => accept(alloc, &mut self.kept, leaf, request, change),
+        }
+    }
+
+    // Refuses a leaf's next request.
+    fn refuse_request(
+        &mut self,
+        alloc: Global,
+        leaf: u16,
+        request: u32,
+        fault: ChangeFault,
+    ) -> Result<Answer, LinkError>
+        requires up { self.old.bot.down ≡ false }
+        requires next { is_next_of (item_at self.old.bot.kept.replies leaf) request ≡ true }
+        ensures row { (change : _) → Meets self.old (λ how. next_request self.old.leaves how self.old.bot leaf request change (Some fault)) result self.new }
+        ensures packets { GoOut (MAX_LEAVES + 1) result }
+    {
+        let reply = reply_packet(leaf, request, Outcome::Refused(fault));
+        let packets = Seq::new(vec![in alloc; reply]?);
+        match self.kept.settle(alloc, leaf, request, fault) {
+            Ok(()) => Ok(Answer {
+                note: Note::Refused(fault),
+                packets,
+            }),
+            Err(error) => Err(error),
+        }
+    }
+}
+
+ghost use Rattle.std.specs.Prelude.{◌≡◌};
+ghost use Rattle.protocol.specs.HubRules.{last_request};
+
+// The number of the last request that was replied to.
+fn last_request(reply: Option<Reply>) -> u32
+    ensures { result ≡ last_request reply }
+{
+    match reply {
+        Some(reply) => reply.request,
+        None => 0,
+    }
+}
