@@ -1,0 +1,4 @@
+mod KeptLaws
+mod LinkLaws
+mod RestartLaws
+mod OpenLaws

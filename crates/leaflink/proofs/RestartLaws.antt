@@ -1,0 +1,123 @@
+-- What a restart finds.
+use Rattle.std.proofs.Common.{◌≡◌, ◌⊎◌, ◌<◌, ℕ, Bool, true, false, List, Option, None, Some, Result, Ok, Err, refl, sym, ap, subst, ◌∙◌, inl, inr}
+use Rattle.bytetext.specs.declared.failure.Failure.{Failure}
+use Rattle.bytetext.specs.declared.failure.Failure.TheVariants.{Refused, NoMemory}
+use Rattle.storage.specs.declared.disk.DiskFault.{DiskFault}
+use Rattle.botjournal.specs.Bases.{IsGoodOut}
+use Rattle.botjournal.specs.Contents.{Contents}
+use Rattle.botjournal.specs.declared.found.Found.{Found}
+use Rattle.botjournal.specs.Ledger.{Ledger, Account, IsFound, StaysDown, settled, written_if, counted as contents_counted, Restarts as LedgerRestarts}
+use Rattle.protocol.specs.Bots.{counted}
+use Rattle.protocol.specs.LeafRules.{LeafState, LeafRecord, leaf_folded}
+use Rattle.protocol.specs.Journals.{leaf_meaning}
+use Rattle.leaflink.specs.Kept.{Means, MeansEither, IsUp, IsDown, Stands, Holds}
+use Rattle.leaflink.specs.Opening.{contents_in}
+
+-- in a journal of which nothing is in doubt, what would count is what is there
+certain-counted : (account : Account) → account.doubt ≡ None → contents_counted account ≡ account.contents
+certain-counted account certain = ap (λ d. written_if d account.contents) certain
+
+pub either-of : (number : ℕ) (kept : LeafState) (down : Bool) (doubt : Option LeafRecord) (account : Account) (contents : Contents)
+    → Stands down number kept doubt account → (contents ≡ account.contents) ⊎ (contents ≡ contents_counted account)
+    → MeansEither number kept doubt contents
+either-of number kept false doubt account contents is (inl same) =
+    subst (λ (c : Contents). MeansEither number kept doubt c) (sym same) (inl is.means)
+either-of number kept false doubt account contents is (inr same) =
+    subst (λ (c : Contents). MeansEither number kept doubt c) (sym (same ∙ certain-counted account is.certain)) (inl is.means)
+either-of number kept true doubt account contents is (inl same) =
+    subst (λ (c : Contents). MeansEither number kept doubt c) (sym same) is.held
+either-of number kept true doubt account contents is (inr same) =
+    subst (λ (c : Contents). MeansEither number kept doubt c) (sym same) is.counted
+
+contents-found : (old new : Account) → (new ≡ settled old.contents) ⊎ (new ≡ settled (contents_counted old))
+    → (new.contents ≡ old.contents) ⊎ (new.contents ≡ contents_counted old)
+contents-found old new (inl e) = inl (ap (λ (a : Account). a.contents) e)
+contents-found old new (inr e) = inr (ap (λ (a : Account). a.contents) e)
+
+settled-found : (old new : Account) → (new ≡ settled old.contents) ⊎ (new ≡ settled (contents_counted old)) → new ≡ settled new.contents
+settled-found old new (inl e) = e ∙ sym (ap (λ (a : Account). settled a.contents) e)
+settled-found old new (inr e) = e ∙ sym (ap (λ (a : Account). settled a.contents) e)
+
+-- what is found is what the journal then holds
+found-is : (contents : Contents) (generation : ℕ) (found : Found) → generation ≡ contents.generation → IsFound found contents
+    → contents_in generation found ≡ contents
+found-is contents generation found at is =
+    ap (λ n. (let c : Contents = record { generation = n; base = found.base; entries = found.entries } in c)) at
+    ∙ ap (λ b. (let c : Contents = record { generation = contents.generation; base = b; entries = found.entries } in c)) is.0
+    ∙ ap (λ l. (let c : Contents = record { generation = contents.generation; base = contents.base; entries = l } in c)) is.1
+
+-- which state it means
+state-is : (number : ℕ) (kept state : LeafState) (doubt : Option LeafRecord) (contents : Contents) → MeansEither number kept doubt contents
+    → leaf_meaning number contents ≡ Some state → (state ≡ kept) ⊎ (state ≡ counted leaf_folded kept doubt)
+state-is number kept state doubt contents (inl m) is = let same : Some state ≡ Some kept = sym is ∙ m.means in inl (cc)
+state-is number kept state doubt contents (inr m) is =
+    let same : Some state ≡ Some (counted leaf_folded kept doubt) = sym is ∙ m.means in inr (cc)
+
+state-means : (number : ℕ) (kept state : LeafState) (doubt : Option LeafRecord) (contents : Contents) → MeansEither number kept doubt contents
+    → leaf_meaning number contents ≡ Some state → Means number contents state
+state-means number kept state doubt contents (inl m) is =
+    let same : Some state ≡ Some kept = sym is ∙ m.means in
+    let state-kept : state ≡ kept = cc in
+    record { means = is; generation = ap (λ (l : LeafState). l.generation) state-kept ∙ m.generation }
+state-means number kept state doubt contents (inr m) is =
+    let same : Some state ≡ Some (counted leaf_folded kept doubt) = sym is ∙ m.means in
+    let state-counted : state ≡ counted leaf_folded kept doubt = cc in
+    record { means = is; generation = ap (λ (l : LeafState). l.generation) state-counted ∙ m.generation }
+
+module _ (number : ℕ) (kept : LeafState) (down : Bool) (doubt : Option LeafRecord) (old new : Ledger) (found : Found) (generation : ℕ)
+    (holds : Holds number kept down doubt old.account) (restarts : LedgerRestarts old (Ok found) new)
+    (at : new.account.down ≡ false → generation ≡ new.account.contents.generation) where
+  either : MeansEither number kept doubt new.account.contents
+  either = either-of number kept down doubt old.account new.account.contents holds.stands (contents-found old.account new.account restarts.0)
+
+  rests : new.account ≡ settled new.account.contents
+  rests = settled-found old.account new.account restarts.0
+
+  up : new.account.down ≡ false
+  up = ap (λ (a : Account). a.down) rests
+
+  read : (state : LeafState) → leaf_meaning number (contents_in generation found) ≡ Some state
+      → leaf_meaning number new.account.contents ≡ Some state
+  read state is = ap (λ c. leaf_meaning number c) (sym (found-is new.account.contents generation found (at up) restarts.1)) ∙ is
+
+  -- the state that was read is kept
+  pub restarted-holds : (state : LeafState) → leaf_meaning number (contents_in generation found) ≡ Some state → IsGoodOut state.out
+      → Holds number state false None new.account
+  restarted-holds state is good = record {
+    numbered = holds.numbered;
+    out = good;
+    stands = record {
+      up = up;
+      certain = ap (λ (a : Account). a.doubt) rests;
+      none = refl;
+      means = state-means number kept state doubt new.account.contents either (read state is);
+    };
+  }
+
+  pub restarted-state : (state : LeafState) → leaf_meaning number (contents_in generation found) ≡ Some state
+      → (state ≡ kept) ⊎ (state ≡ counted leaf_folded kept doubt)
+  restarted-state state is = state-is number kept state doubt new.account.contents either (read state is)
+
+  -- a journal that was opened, but not read
+  pub unread-holds : Holds number kept true doubt new.account
+  unread-holds = record {
+    numbered = holds.numbered;
+    out = holds.out;
+    stands = record {
+      held = either;
+      counted = subst (λ (c : Contents). MeansEither number kept doubt c)
+          (sym (certain-counted new.account (ap (λ (a : Account). a.doubt) rests))) either;
+    };
+  }
+
+-- a journal that wasn't opened
+pub down-holds : (number : ℕ) (kept : LeafState) (down : Bool) (doubt : Option LeafRecord) (old new : Ledger) → Holds number kept down doubt old.account
+    → StaysDown old new → Holds number kept true doubt new.account
+down-holds number kept down doubt old new holds stays = record {
+  numbered = holds.numbered;
+  out = holds.out;
+  stands = record {
+    held = either-of number kept down doubt old.account new.account.contents holds.stands (inl (ap (λ (a : Account). a.contents) stays));
+    counted = either-of number kept down doubt old.account (contents_counted new.account) holds.stands (inr (ap contents_counted stays));
+  };
+}

@@ -1,0 +1,357 @@
+// A leaf's end of the link.
+ghost use Rattle.std.specs.Prelude.{◌≡◌, ◌∷◌, [], IfOk, IfErr};
+ghost use Rattle.bytetext.specs.declared.failure.Failure.TheVariants.{NoMemory as no_memory};
+ghost use Rattle.leaflink.specs.Link.{link_error};
+
+use crate::kept::KeptLeaf;
+use crate::parts::KeptParts;
+use botjournal::{Answer as Reply, LedgerError};
+use bytejournal::{Disks, Returned};
+use bytetext::{Failure, NoMemory, Seq, Text, TryCopy, refuse};
+use linkcalls::{
+    Answer, LinkError, LinkFault, MAX_ASKS, Note, Outgoing, Outgoings, Packet, text_by, text_fault,
+};
+use linkstate::{LeafState, know_change};
+use std::alloc::Global;
+use std::collections::VecDeque;
+use std::marker::Model;
+use storage::Disk;
+use userfile::{Change, Userfile, shape};
+
+/// A leaf's end: its userfile at a version, the asks that wait, the request that is out, and the journal.
+#[derive(Drop)]
+pub struct LeafLink<D: Disk> {
+    pub(crate) leaves: u16,
+    pub(crate) kept: KeptLeaf<D>,
+    pub(crate) waiting: VecDeque<Change>,
+    pub(crate) parts: Option<KeptParts>,
+}
+
+impl<D: Disk> Model for LeafLink<D> {
+    ghost use Rattle.leaflink.specs.Link.{LeafEnd};
+
+    ghost Value = { LeafEnd };
+
+    ghost use Rattle.leaflink.specs.Link.{end_of, IsLink};
+
+    ghost view = { λ l. end_of l.leaves l.kept (record { waiting = l.waiting.items; parts = l.parts }) };
+
+    ghost invariant = { λ l. IsLink l.leaves l.kept.number l.waiting.items };
+}
+
+impl<D: Disk> LeafLink<D> {
+    ghost use Rattle.std.specs.Prelude.{◌≡◌, ◌<◌, ◌≤◌, [], length, IfOk, OnErr, None, false};
+    ghost use Rattle.storage.specs.State.{IsSettled};
+    ghost use Rattle.linkcalls.specs.declared.TheConstants.{MAX_LEAVES};
+    ghost use Rattle.leaflink.specs.Opening.{MayLeave};
+    ghost use Rattle.linkcalls.specs.Shapes.{GoOut};
+    ghost use Rattle.leaflink.specs.Link.{MeetsRow, RestartsAs, asked, keeps_asks, pumped, pumped_up, compacted, restarted, told, leaf_in, MakesLink, FindsLink};
+    ghost use Rattle.linkcalls.specs.Texts.{Sends};
+
+    /// The leaf of this number, from 1 to the number of leaves, before the first change. What the disks held is lost.
+    ///
+    /// # Errors
+    /// With the disks: `NoMemory` where room is refused: nothing was written. `DiskFault` where a disk failed: what the
+    /// disks hold is then unknown.
+    pub fn create(
+        alloc: Global,
+        first: D,
+        second: D,
+        number: u16,
+        leaves: u16,
+    ) -> Result<LeafLink<D>, Returned<D>>
+        requires first_settled { IsSettled (D.state first) }
+        requires second_settled { IsSettled (D.state second) }
+        requires numbered { (0 < number) × (number ≤ leaves) }
+        requires few { leaves ≤ MAX_LEAVES }
+        ensures row { MakesLink D.state number leaves first second result }
+    {
+        match KeptLeaf::create(alloc, first, second, number) {
+            Ok(kept) => Ok(LeafLink {
+                leaves,
+                kept,
+                waiting: VecDeque::new(alloc),
+                parts: None,
+            }),
+            Err(returned) => Err(returned),
+        }
+    }
+
+    /// The leaf of this number, as its journal on the two disks has it. Nothing is written.
+    ///
+    /// # Errors
+    /// With the disks, which hold what they held: `DiskFault` where a read failed; `NotAJournal` where the disks hold no
+    /// journal, or one that no leaf of this number writes; `NoMemory` where room for what they hold is refused.
+    pub fn open(
+        alloc: Global,
+        first: D,
+        second: D,
+        number: u16,
+        leaves: u16,
+    ) -> Result<LeafLink<D>, Returned<D>>
+        requires first_settled { IsSettled (D.state first) }
+        requires second_settled { IsSettled (D.state second) }
+        requires numbered { (0 < number) × (number ≤ leaves) }
+        requires few { leaves ≤ MAX_LEAVES }
+        ensures row { FindsLink D.state number leaves first second result }
+    {
+        match KeptLeaf::open(alloc, first, second, number) {
+            Ok(kept) => Ok(LeafLink {
+                leaves,
+                kept,
+                waiting: VecDeque::new(alloc),
+                parts: None,
+            }),
+            Err(returned) => Err(returned),
+        }
+    }
+
+    /// The version: the number of the last change that was applied, or that of the records that were put in place.
+    pub fn version(&self) -> u32
+        ensures { result ≡ self.now.bot.kept.version }
+    {
+        self.kept.state().version()
+    }
+
+    /// The userfile at that version.
+    pub fn userfile(&self) -> &Userfile
+        ensures { result.now ≡ self.now.bot.kept.records }
+    {
+        self.kept.state().userfile()
+    }
+
+    /// Whether a disk failed, or a restart did not end, since the journal was last opened: nothing is taken but a
+    /// restart.
+    pub fn is_down(&self) -> bool
+        ensures { result ≡ self.now.bot.down }
+    {
+        self.kept.is_down()
+    }
+
+    /// How many asks wait.
+    pub fn ask_count(&self) -> usize
+        ensures { result ≡ length self.now.bot.loose.waiting }
+    {
+        self.waiting.len()
+    }
+
+    /// Takes back all asks but the oldest ones, of which this many stay. Takes no memory.
+    ///
+    /// A caller that asks for several things, all or none, counts the asks before it begins, and comes back to that
+    /// count where it has to give up.
+    pub fn keep_asks(&mut self, count: usize)
+        ensures { self.new ≡ keeps_asks self.old count }
+    {
+        self.waiting.truncate(count);
+    }
+
+    /// Lets a change wait for a pump: `Queued`.
+    ///
+    /// # Errors
+    /// `Down`, then `BadChange` for a bad shape, then `AsksFull` where 64 asks wait, then `NoMemory`; each leaves the
+    /// leaf as it was.
+    pub fn ask(&mut self, alloc: Global, change: Change) -> Result<Answer, LinkError>
+        ensures row { MeetsRow (asked self.old change) self.old result self.new }
+        ensures few { IfOk result (λ answer. answer.packets ≡ []) }
+        // No disk is used, and a refusal leaves all as it was.
+        ensures quiet { self.new.failures ≡ self.old.failures }
+        ensures stays { OnErr result (self.new ≡ self.old) }
+    {
+        if self.kept.is_down() {
+            return Err(Failure::Refused(LinkFault::Down));
+        }
+        if let Some(fault) = shape(&change) {
+            return Err(Failure::Refused(LinkFault::BadChange(fault)));
+        }
+        if self.waiting.len() >= MAX_ASKS {
+            return Err(Failure::Refused(LinkFault::AsksFull));
+        }
+        know_change(&change);
+        self.waiting.push_back(change)?;
+        Ok(Answer::only(alloc, Note::Queued))
+    }
+
+    /// Says hello to the hub, with the version that the leaf is at, and asks it for what is asked here. Where a request
+    /// is out it goes again, and else the oldest ask goes under the next number, once that is journaled: `Sent` with the
+    /// number. Where nothing is asked: `Idle`, and the hello alone.
+    ///
+    /// # Errors
+    /// `Down`; then `NumbersSpent` after request 4,294,967,295, where the ask still waits; then `NoMemory`; each leaves
+    /// the leaf as it was. `JournalFault` where a disk failed in this call: the leaf is down, and the request is in
+    /// doubt.
+    pub fn pump(&mut self, alloc: Global) -> Result<Answer, LinkError>
+        ensures row { MeetsRow (pumped self.old) self.old result self.new }
+        ensures few { GoOut 2 result }
+    {
+        if self.kept.is_down() {
+            return Err(Failure::Refused(LinkFault::Down));
+        }
+        match self.kept.state().out() {
+            Some(change) => again(alloc, self.kept.number(), self.kept.state(), change),
+            None => self.pump_ask(alloc),
+        }
+    }
+
+    // Lets the oldest ask go out.
+    fn pump_ask(&mut self, alloc: Global) -> Result<Answer, LinkError>
+        requires up { self.old.bot.down ≡ false }
+        requires free { self.old.bot.kept.out ≡ None }
+        ensures row { MeetsRow (pumped_up self.old) self.old result self.new }
+        ensures few { GoOut 2 result }
+    {
+        let number = self.kept.number();
+        let version = self.kept.state().version();
+        let Some(change) = self.waiting.front() else {
+            return Ok(Answer {
+                note: Note::Idle,
+                packets: Seq::new(vec![in alloc; hello(number, version)]?),
+            });
+        };
+        let last = self.kept.state().last_request();
+        if last == u32::MAX {
+            return Err(Failure::Refused(LinkFault::NumbersSpent));
+        }
+        let packets = hello_and_request(alloc, number, version, last + 1, change)?;
+        match self.kept.put_out(alloc, change) {
+            Ok(()) => {
+                let _ = self.waiting.pop_front();
+                Ok(Answer {
+                    note: Note::Sent(last + 1),
+                    packets,
+                })
+            }
+            Err(error) => Err(link_error(error)),
+        }
+    }
+
+    /// A text to another bot, which the caller is to send to the hub, where its step has sent so many so far. The leaf
+    /// stays as it was.
+    ///
+    /// # Errors
+    /// `Down`; `BadBotText` where there is no such bot, it is this leaf, or the text is none that a bot may tell
+    /// another; then `TextsFull` from 64 on, then `NoMemory`.
+    pub fn send_text(
+        &self,
+        alloc: Global,
+        to: u16,
+        text: &[u8],
+        sent: usize,
+    ) -> Result<Outgoing, LinkError>
+        ensures row { Sends (told self.now to text.now) sent result }
+    {
+        if self.kept.is_down() {
+            return Err(Failure::Refused(LinkFault::Down));
+        }
+        refuse(text_fault(self.leaves, self.kept.number(), to, text, sent))?;
+        Ok(text_by(alloc, 0, self.kept.number(), to, text)?)
+    }
+
+    /// Writes the state alone into the journal, in its next generation: `Compacted`.
+    ///
+    /// # Errors
+    /// `Down`; then `NumbersSpent` at generation 4,294,967,295; then `NoMemory`; each leaves the leaf as it was.
+    /// `JournalFault` where a disk failed in this call: the leaf is down, and whether the journal was written in doubt.
+    pub fn compact(&mut self, alloc: Global) -> Result<Answer, LinkError>
+        ensures row { MeetsRow (compacted self.old) self.old result self.new }
+        ensures few { IfOk result (λ answer. answer.packets ≡ []) }
+    {
+        if self.kept.is_down() {
+            return Err(Failure::Refused(LinkFault::Down));
+        }
+        if self.kept.state().generation() == u32::MAX {
+            return Err(Failure::Refused(LinkFault::NumbersSpent));
+        }
+        match self.kept.compact(alloc) {
+            Ok(()) => Ok(Answer::only(alloc, Note::Compacted)),
+            Err(error) => Err(link_error(error)),
+        }
+    }
+
+    /// Crashes both disks, as where the program ended, and opens the journal on what that left: `Restarted` with the
+    /// version. The record that was in doubt counts, or doesn't. The asks that wait, and the parts that are kept, are
+    /// lost.
+    ///
+    /// # Errors
+    /// `DiskFault` where a disk failed, or `NoMemory`: the leaf is down, and all else as it was.
+    pub fn restart(&mut self, alloc: Global) -> Result<Answer, LinkError>
+        ensures row { RestartsAs (restarted self.old) self.old result self.new }
+        ensures few { IfOk result (λ answer. answer.packets ≡ []) }
+    {
+        match self.kept.restart(alloc) {
+            Ok(()) => {
+                self.waiting.clear();
+                self.parts = None;
+                Ok(Answer::only(alloc, Note::Restarted(self.kept.state().version())))
+            }
+            Err(Failure::Refused(_)) => Err(Failure::Refused(LinkFault::DiskFault)),
+            Err(Failure::NoMemory) => Err(Failure::NoMemory),
+        }
+    }
+
+    /// The two disks, in the order in which they were given.
+    pub fn into_disks(self) -> Disks<D>
+        // Whatever a crash leaves on them is the leaf's, with the record in doubt or without it.
+        ensures left { MayLeave D.state result.first result.second (leaf_in self) }
+    {
+        self.kept.into_disks()
+    }
+}
+
+// A hello and the request that is out.
+fn again(alloc: Global, leaf: u16, state: &LeafState, change: &Change) -> Result<Answer, LinkError>
+    ensures told { IfOk result (λ answer. answer ≡ record {
+      note = Note.Sent state.now.last;
+      packets = record { to = 0; packet = Packet.Hello leaf state.now.version }
+          ∷ record { to = 0; packet = Packet.Request leaf state.now.last change.now } ∷ [];
+    }) }
+    ensures memory { IfErr result (λ error. error ≡ no_memory) }
+{
+    let request = state.last_request();
+    let packets = hello_and_request(alloc, leaf, state.version(), request, change)?;
+    Ok(Answer {
+        note: Note::Sent(request),
+        packets,
+    })
+}
+
+// A hello, to the hub.
+fn hello(leaf: u16, version: u32) -> Outgoing
+    ensures { result ≡ record { to = 0; packet = Packet.Hello leaf version } }
+{
+    Outgoing {
+        to: 0,
+        packet: Packet::Hello { leaf, version },
+    }
+}
+
+// A hello and a request, to the hub.
+fn hello_and_request(
+    alloc: Global,
+    leaf: u16,
+    version: u32,
+    request: u32,
+    change: &Change,
+) -> Result<Outgoings, NoMemory>
+    ensures { IfOk result (λ packets. packets ≡ record { to = 0; packet = Packet.Hello leaf version }
+        ∷ record { to = 0; packet = Packet.Request leaf request change.now } ∷ []) }
+{
+    let asking = Outgoing {
+        to: 0,
+        packet: Packet::Request {
+            leaf,
+            request,
+            change: change.copy(alloc)?,
+        },
+    };
+    Ok(Seq::new(vec![in alloc; hello(leaf, version), asking]?))
+}
+
+// What the link says of a record that isn't kept.
+pub(crate) fn link_error(error: LedgerError) -> LinkError
+    ensures { result ≡ link_error error }
+{
+    match error {
+        Failure::Refused(_) => Failure::Refused(LinkFault::JournalFault),
+        Failure::NoMemory => Failure::NoMemory,
+    }
+}

@@ -1,0 +1,221 @@
+// How a leaf takes the hub's packets.
+ghost use Rattle.std.specs.Prelude.{◌≡◌, ◌==◌, ◌||◌, not, nat_lt};
+ghost use Rattle.linkcalls.specs.Calls.{note_of as told_of};
+ghost use Rattle.leaflink.specs.Link.{reply_note};
+
+use crate::link::{LeafLink, link_error};
+use crate::parts::{is_behind, keep_part, whole_set};
+use botjournal::Answer as Reply;
+use bytetext::{Failure, Seq, Text, TryCopy};
+use linkcalls::{Answer, LinkError, LinkFault, Note, Packet};
+use std::alloc::Global;
+use storage::Disk;
+use usercodec::Record;
+use userfile::Change;
+
+impl<D: Disk> LeafLink<D> {
+    ghost use Rattle.std.specs.Prelude.{◌≡◌, ◌<◌, ◌≤◌, [], IfOk, false};
+    ghost use Rattle.std.specs.List.{AllByRecursion};
+    ghost use Rattle.usercodec.specs.Records.{IsGoodRecord};
+    ghost use Rattle.linkcalls.specs.Shapes.{HasGoodRecords};
+    ghost use Rattle.leaflink.specs.Link.{MeetsRow, received, received_up, change_placed_at, reply_placed_at, part_placed_at, part_taken_at, text_placed_at};
+
+    /// Takes a packet of the hub's.
+    ///
+    /// The change numbered one above the version is `Applied`; one at most the version is `Old`, and one further above
+    /// is `Early`. A reply to the request that is out ends it: `Accepted` with the change's number, or `Refused`; any
+    /// other reply is `Old`. A part of the records at a later version is `Kept` until the others of that version are
+    /// there; then all are put in place, `Installed` with the version. A part of a version that is not above the leaf's,
+    /// or is below that of the kept parts, is `Old`; one of another version, or of another count, takes the place of all
+    /// kept parts. A text for this leaf from a bot of the net is `Text`. What is not for this leaf is `Stray`.
+    ///
+    /// # Errors
+    /// `Down`; then `Diverged` where the records refuse the next change, or the parts are not those of one userfile; then
+    /// `NumbersSpent` where the parts are whole at generation 4,294,967,295 of the journal; then `NoMemory`; each leaves
+    /// the leaf as it was, save that `Diverged` drops the kept parts. `JournalFault` where a disk failed in this call:
+    /// the leaf is down, and what the packet tells is in doubt. `Old`, `Early` and `Stray` take no memory.
+    pub fn receive(&mut self, alloc: Global, packet: &Packet) -> Result<Answer, LinkError>
+        requires records { HasGoodRecords packet.now }
+        ensures row { MeetsRow (received self.old packet.now) self.old result self.new }
+        ensures few { IfOk result (λ answer. answer.packets ≡ []) }
+    {
+        if self.kept.is_down() {
+            return Err(Failure::Refused(LinkFault::Down));
+        }
+        self.receive_up(alloc, packet)
+    }
+
+    fn receive_up(&mut self, alloc: Global, packet: &Packet) -> Result<Answer, LinkError>
+        requires up { self.old.bot.down ≡ false }
+        requires records { HasGoodRecords packet.now }
+        ensures row { MeetsRow (received_up self.old packet.now) self.old result self.new }
+        ensures few { IfOk result (λ answer. answer.packets ≡ []) }
+    {
+        match packet {
+            Packet::Change { number, change, .. } => self.receive_change(alloc, *number, change),
+            Packet::Accepted {
+                leaf,
+                request,
+                number,
+            } => self.receive_reply(alloc, *leaf, *request, Reply::Taken(*number)),
+            Packet::Refused {
+                leaf,
+                request,
+                fault,
+            } => self.receive_reply(alloc, *leaf, *request, Reply::Refused(*fault)),
+            Packet::BotText { from, to, text } => self.receive_text(alloc, *from, *to, text),
+            Packet::Part {
+                version,
+                part,
+                count,
+                records,
+            } => self.receive_part(alloc, *version, *part, *count, records),
+            Packet::Hello { .. } | Packet::Request { .. } => Ok(Answer::only(alloc, Note::Stray)),
+        }
+    }
+
+    // Applies the next change.
+    fn receive_change(
+        &mut self,
+        alloc: Global,
+        number: u32,
+        change: &Change,
+    ) -> Result<Answer, LinkError>
+        requires up { self.old.bot.down ≡ false }
+        ensures row { MeetsRow (change_placed_at self.old number change.now) self.old result self.new }
+        ensures few { IfOk result (λ answer. answer.packets ≡ []) }
+    {
+        let version = self.kept.state().version();
+        if number <= version {
+            return Ok(Answer::only(alloc, Note::Old));
+        }
+        if number - version > 1 {
+            return Ok(Answer::only(alloc, Note::Early));
+        }
+        if self.kept.state().userfile().refusal_of(change).is_some() {
+            return Err(Failure::Refused(LinkFault::Diverged));
+        }
+        match self.kept.apply(alloc, change) {
+            Ok(()) => Ok(Answer::only(alloc, Note::Applied(number))),
+            Err(error) => Err(link_error(error)),
+        }
+    }
+
+    // Ends the request that is out, where the reply is to it.
+    fn receive_reply(
+        &mut self,
+        alloc: Global,
+        leaf: u16,
+        request: u32,
+        reply: Reply,
+    ) -> Result<Answer, LinkError>
+        requires up { self.old.bot.down ≡ false }
+        ensures row { MeetsRow (reply_placed_at self.old leaf request reply) self.old result self.new }
+        ensures few { IfOk result (λ answer. answer.packets ≡ []) }
+    {
+        if leaf != self.kept.number() || request == 0 {
+            return Ok(Answer::only(alloc, Note::Stray));
+        }
+        if self.kept.state().out().is_none() || request != self.kept.state().last_request() {
+            return Ok(Answer::only(alloc, Note::Old));
+        }
+        match self.kept.end_request(alloc) {
+            Ok(()) => Ok(Answer::only(alloc, note_of(reply))),
+            Err(error) => Err(link_error(error)),
+        }
+    }
+
+    // Takes a part of a later version's records.
+    fn receive_part(
+        &mut self,
+        alloc: Global,
+        version: u32,
+        part: u8,
+        count: u8,
+        records: &Seq<Record>,
+    ) -> Result<Answer, LinkError>
+        requires up { self.old.bot.down ≡ false }
+        requires good { AllByRecursion IsGoodRecord records.now }
+        ensures row { MeetsRow (part_placed_at self.old version part count records.now) self.old result self.new }
+        ensures few { IfOk result (λ answer. answer.packets ≡ []) }
+    {
+        if is_no_part(part, count) {
+            return Ok(Answer::only(alloc, Note::Stray));
+        }
+        if version <= self.kept.state().version() || is_behind(version, &self.parts) {
+            return Ok(Answer::only(alloc, Note::Old));
+        }
+        self.take_part(alloc, version, part, count, records)
+    }
+
+    // Takes a part that is new: where it is the last one that was missing, all records are put in place.
+    fn take_part(
+        &mut self,
+        alloc: Global,
+        version: u32,
+        part: u8,
+        count: u8,
+        records: &Seq<Record>,
+    ) -> Result<Answer, LinkError>
+        requires up { self.old.bot.down ≡ false }
+        requires numbered { (0 < part) × (part ≤ count) }
+        requires good { AllByRecursion IsGoodRecord records.now }
+        ensures row { MeetsRow (part_taken_at self.old version part count records.now) self.old result self.new }
+        ensures few { IfOk result (λ answer. answer.packets ≡ []) }
+    {
+        let Some(whole) = whole_set(&self.parts, version, part, count, records.as_slice()) else {
+            keep_part(alloc, &mut self.parts, version, part, count, records)?;
+            return Ok(Answer::only(alloc, Note::Kept(u32::from(part))));
+        };
+        if !whole.stand_together() {
+            self.parts = None;
+            return Err(Failure::Refused(LinkFault::Diverged));
+        }
+        if self.kept.state().generation() == u32::MAX {
+            return Err(Failure::Refused(LinkFault::NumbersSpent));
+        }
+        let userfile = whole.userfile(alloc)?;
+        match self.kept.install(alloc, version, userfile) {
+            Ok(()) => {
+                self.parts = None;
+                Ok(Answer::only(alloc, Note::Installed(version)))
+            }
+            Err(error) => Err(link_error(error)),
+        }
+    }
+
+    // Takes a text.
+    fn receive_text(
+        &self,
+        alloc: Global,
+        from: u16,
+        to: u16,
+        text: &Text,
+    ) -> Result<Answer, LinkError>
+        ensures row { MeetsRow (text_placed_at self.now from to text.now) self.now result self.now }
+        ensures few { IfOk result (λ answer. answer.packets ≡ []) }
+    {
+        if from > self.leaves || to != self.kept.number() {
+            return Ok(Answer::only(alloc, Note::Stray));
+        }
+        let text = text.copy(alloc)?;
+        Ok(Answer::only(alloc, Note::Text { from, text }))
+    }
+}
+
+// The note of a reply.
+fn note_of(reply: Reply) -> Note
+    ensures { told_of result ≡ reply_note reply }
+{
+    match reply {
+        Reply::Taken(number) => Note::Accepted(number),
+        Reply::Refused(fault) => Note::Refused(fault),
+    }
+}
+
+// Whether there is no part of this number among so many.
+fn is_no_part(part: u8, count: u8) -> bool
+    ensures { result ≡ ((part == 0) || nat_lt count part) }
+{
+    part == 0 || count < part
+}
