@@ -14,8 +14,9 @@ use ircline::{Message, source};
 use outqueue::Queue;
 use procstore::PutWish;
 use std::alloc::Global;
+use storage::Disk;
 
-impl Bot {
+impl<D: Disk> Bot<D> {
     ghost use Rattle.std.specs.Prelude.{◌≡◌, [], IfOk, IsOk};
     ghost use Rattle.botcore.specs.Automatic.{automatic_lines, watched_in};
     ghost use Rattle.botcore.specs.Links.{link_records};

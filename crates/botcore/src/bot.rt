@@ -1,22 +1,24 @@
 // One bot.
 use crate::config::Config;
-use crate::fault::BotError;
-use crate::link::Link;
+use crate::fault::{BotError, BotFault};
 use bindtable::BindTable;
+use botlink::BotLink;
 use bottimers::{Clock, Timers};
-use bytetext::{Failure, NoMemory, TryCopy};
+use bytejournal::{Disks, JournalFault, Returned};
+use bytetext::Failure;
 use chanstate::ChanState;
 use outqueue::Queues;
 use std::alloc::Global;
+use storage::Disk;
 use std::marker::Model;
 use userfile::Userfile;
 
 /// A bot: its end of the sharing link, its binds, the channels that it is on, its clock, its timers, and its lines for the
 /// server.
 #[derive(Drop)]
-pub struct Bot {
+pub struct Bot<D: Disk> {
     pub(crate) config: Config,
-    pub(crate) link: Link,
+    pub(crate) link: BotLink<D>,
     pub(crate) binds: BindTable,
     pub(crate) channels: ChanState,
     pub(crate) clock: Clock,
@@ -26,7 +28,7 @@ pub struct Bot {
     pub(crate) welcomed: bool,
 }
 
-impl Model for Bot {
+impl<D: Disk> Model for Bot<D> {
     ghost use Rattle.botcore.specs.Bots.{Bot};
 
     ghost Value = { Bot };
@@ -52,41 +54,75 @@ impl Model for Bot {
     ghost invariant = { λ b. IsReached b.timers.last b.clock × IsOffset b.config.offset × (b.queues.room ≡ no_room) };
 }
 
-impl Bot {
+impl<D: Disk> Bot<D> {
     ghost use Rattle.std.specs.Prelude.{◌≡◌, IfOk, OnOk, IfErr};
     ghost use Rattle.botcore.specs.Configs.{IsGood};
     ghost use Rattle.botcore.specs.Links.{link_records, link_version};
-    ghost use Rattle.botcore.specs.Bots.{new_bot, IsWhyNot};
 
-    /// A bot at version 0, without binds, that is on no channel.
+    /// A bot at version 0, without binds, that is on no channel, with its journal on two disks. What the disks held is lost.
     ///
     /// # Errors
-    /// `BadConfig` (G1) where the configuration breaks a rule. `NoMemory` where it breaks none and room for the nick is
-    /// refused.
-    pub fn new(alloc: Global, config: Config) -> Result<Bot, BotError>
-        ensures made { IfOk result (λ bot. bot ≡ new_bot config) }
-        ensures good { OnOk result (IsGood config) }
-        ensures why { IfErr result (λ why. IsWhyNot config why) }
+    /// With the disks: `BadConfig` (G1) where the configuration breaks a rule; `NoMemory` where it breaks none and room is
+    /// refused: nothing was written; `DiskFault` (J1) where a disk failed: what the disks hold is then unknown.
+    pub fn create(
+        alloc: Global,
+        config: Config,
+        first: D,
+        second: D,
+    ) -> Result<Bot<D>, RefusedBot<D>>
     {
         if let Some(fault) = config.refusal() {
-            return Err(Failure::Refused(fault));
+            return Err(RefusedBot::new(Failure::Refused(fault), first, second));
         }
-        let channels = match ChanState::new(alloc, config.nick.as_bytes()) {
-            Ok(channels) => channels,
-            Err(NoMemory) => return Err(Failure::NoMemory),
+        let Ok(channels) = ChanState::new(alloc, config.nick.as_bytes()) else {
+            return Err(RefusedBot::new(Failure::NoMemory, first, second));
         };
-        let link = Link::new(alloc, config.number, config.leaves);
-        let binds = BindTable::new(alloc);
-        Ok(Bot {
+        match BotLink::create(alloc, first, second, config.number, config.leaves) {
+            Ok(link) => Ok(Bot::begun(alloc, config, channels, link)),
+            Err(returned) => Err(refused_by_link(returned)),
+        }
+    }
+
+    /// A bot whose journal is on two disks. Nothing is written.
+    ///
+    /// # Errors
+    /// With the disks, which hold what they held: `BadConfig` (G1); `DiskFault` (J1) where a read failed; `NotAJournal`
+    /// (J2) where they hold no journal of this bot; `NoMemory`.
+    pub fn open(
+        alloc: Global,
+        config: Config,
+        first: D,
+        second: D,
+    ) -> Result<Bot<D>, RefusedBot<D>>
+    {
+        if let Some(fault) = config.refusal() {
+            return Err(RefusedBot::new(Failure::Refused(fault), first, second));
+        }
+        let Ok(channels) = ChanState::new(alloc, config.nick.as_bytes()) else {
+            return Err(RefusedBot::new(Failure::NoMemory, first, second));
+        };
+        match BotLink::open(alloc, first, second, config.number, config.leaves) {
+            Ok(link) => Ok(Bot::begun(alloc, config, channels, link)),
+            Err(returned) => Err(refused_by_link(returned)),
+        }
+    }
+
+    fn begun(alloc: Global, config: Config, channels: ChanState, link: BotLink<D>) -> Bot<D> {
+        Bot {
             config,
             link,
-            binds,
+            binds: BindTable::new(alloc),
             channels,
             clock: Clock::new(),
             timers: Timers::new(alloc),
             queues: Queues::new(alloc),
             welcomed: false,
-        })
+        }
+    }
+
+    /// The two disks, in the order in which they were given.
+    pub fn into_disks(self) -> Disks<D> {
+        self.link.into_disks()
     }
 
     /// What it was told before it was made.
@@ -111,24 +147,35 @@ impl Bot {
     }
 }
 
-impl TryCopy for Bot {
-    fn copy(&self, alloc: Global) -> Result<Bot, NoMemory> {
-        let config = self.config.copy(alloc)?;
-        let link = self.link.copy(alloc)?;
-        let binds = self.binds.copy(alloc)?;
-        let channels = self.channels.copy(alloc)?;
-        let clock = self.clock.copy(alloc)?;
-        let timers = self.timers.copy(alloc)?;
-        let queues = self.queues.copy(alloc)?;
-        Ok(Bot {
-            config,
-            link,
-            binds,
-            channels,
-            clock,
-            timers,
-            queues,
-            welcomed: self.welcomed,
-        })
+// Why the link was not made or found, as a bot tells it.
+fn refused_by_link<D: Disk>(returned: Returned<D>) -> RefusedBot<D> {
+    let why = match returned.error {
+        Failure::Refused(JournalFault::DiskFault) => Failure::Refused(BotFault::DiskFault),
+        Failure::Refused(JournalFault::NotAJournal | JournalFault::Spent | JournalFault::GenerationsSpent) => {
+            Failure::Refused(BotFault::NotAJournal)
+        }
+        Failure::NoMemory => Failure::NoMemory,
+    };
+    RefusedBot {
+        why,
+        disks: returned.disks,
+    }
+}
+
+/// Disks on which no bot was made or found, as they were handed in.
+#[derive(Drop)]
+pub struct RefusedBot<D: Disk> {
+    /// Why.
+    pub why: BotError,
+    /// The disks.
+    pub disks: Disks<D>,
+}
+
+impl<D: Disk> RefusedBot<D> {
+    fn new(why: BotError, first: D, second: D) -> RefusedBot<D> {
+        RefusedBot {
+            why,
+            disks: Disks { first, second },
+        }
     }
 }

@@ -12,8 +12,9 @@ use bottimers::Timers;
 use bytetext::{NoMemory, Seq, Texts, TryCopy};
 use outqueue::Queues;
 use procstore::{ProcStore, Promise, Run};
-use sharelink::Outgoings;
+use linkcalls::Outgoings;
 use std::alloc::Global;
+use storage::Disk;
 use std::mem;
 
 // What actions leave, beside the link and the queues.
@@ -38,7 +39,7 @@ pub(crate) struct Told {
     pub(crate) faults: Faults,
 }
 
-impl Bot {
+impl<D: Disk> Bot<D> {
     ghost use Rattle.std.specs.Prelude.{◌≡◌, ◌≤◌, ◌++◌, length, unwrap_or, IfOk, IfSome, OnOk};
     ghost use Rattle.botcore.specs.Rising.{IsReached};
     ghost use Rattle.linkcalls.specs.declared.TheConstants.{MAX_TEXTS};

@@ -9,7 +9,7 @@ use crate::limits::MAX_NICK;
 use bottimers::MAX_OFFSET;
 use bytetext::{NoMemory, Text, Texts, TryCopy};
 use rfccase::is_channel_name;
-use sharelink::MAX_LEAVES;
+use linkcalls::MAX_LEAVES;
 use std::alloc::Global;
 
 /// What a bot is told before it is made.

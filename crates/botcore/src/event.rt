@@ -2,7 +2,7 @@
 use bindtable::BindKind;
 use bytetext::{NoMemory, Text, TryCopy};
 use ircline::Line;
-use sharelink::Packet;
+use linkcalls::Packet;
 use std::alloc::Global;
 use userfile::Change;
 
@@ -25,6 +25,10 @@ pub enum Event {
     Bind(NewBind),
     /// A bind is to be taken away.
     Unbind(OldBind),
+    /// The journal is to have the state alone.
+    Compact,
+    /// It ends and begins again, from its journal. All else but its binds is lost.
+    Restart,
 }
 
 impl TryCopy for Event {
@@ -38,6 +42,8 @@ impl TryCopy for Event {
             Event::Clock(now) => Ok(Event::Clock(*now)),
             Event::Bind(asked) => Ok(Event::Bind(asked.copy(alloc)?)),
             Event::Unbind(gone) => Ok(Event::Unbind(gone.copy(alloc)?)),
+            Event::Compact => Ok(Event::Compact),
+            Event::Restart => Ok(Event::Restart),
         }
     }
 }

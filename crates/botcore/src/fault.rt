@@ -9,7 +9,7 @@ use botcalls::Unbound;
 use bottimers::ClockFault;
 use bytetext::{Failure, NoMemory, TryCopy};
 use outqueue::QueueFault;
-use sharelink::LinkFault;
+use linkcalls::LinkFault;
 use std::alloc::Global;
 use thiserror::Error;
 
@@ -19,6 +19,12 @@ pub enum BotFault {
     /// G1: the configuration breaks one of the rules that [`Config`](crate::Config) states.
     #[error("mend the configuration: number, leaves, nick, channels or offset is out of its range")]
     BadConfig,
+    /// J1: a disk failed.
+    #[error("a disk failed: mend it, and open the bot again")]
+    DiskFault,
+    /// J2: the disks hold no journal of this bot.
+    #[error("the disks hold no journal of this bot: create it")]
+    NotAJournal,
 }
 
 impl BotFault {
@@ -28,6 +34,8 @@ impl BotFault {
     {
         match self {
             BotFault::BadConfig => "G1",
+            BotFault::DiskFault => "J1",
+            BotFault::NotAJournal => "J2",
         }
     }
 }

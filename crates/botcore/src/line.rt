@@ -15,8 +15,9 @@ use chanstate::{ChanState, events};
 use ircline::Message;
 use procstore::{ProcStore, Promise, PutWish, Run};
 use std::alloc::Global;
+use storage::Disk;
 
-impl Bot {
+impl<D: Disk> Bot<D> {
     ghost use Rattle.std.specs.Prelude.{◌≡◌, ◌≤◌, ◌++◌, [], length, map, IfOk, OnOk, OnErr};
     ghost use Rattle.chanstate.specs.Events.{events_of};
     ghost use Rattle.linkcalls.specs.declared.TheConstants.{MAX_TEXTS};
@@ -193,7 +194,7 @@ impl Bot {
         let (calls, unbound) = made.into_parts();
         match self.settle(alloc, calls.as_slice(), unbound) {
             Ok(told) => {
-                let note = Note::Link(sharelink::Note::Text { from, text });
+                let note = Note::Link(linkcalls::Note::Text { from, text });
                 Report::told(Some(note), calls, told.packets, told.lines, told.faults)
             }
             Err(NoMemory) => Report::cut_short(alloc, calls),

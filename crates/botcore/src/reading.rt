@@ -12,6 +12,7 @@ use bottimers::{Clock, ClockFault, Timers};
 use bytetext::{MOMENTS_END, NoMemory, Seq, Texts, TryCopy};
 use procstore::{ProcStore, Promise, Run};
 use std::alloc::Global;
+use storage::Disk;
 use std::mem;
 
 // What the seconds of a reading bring, and the clock and the timers after them.
@@ -22,7 +23,7 @@ struct Ran {
     occasions: Vec<Occasion>,
 }
 
-impl Bot {
+impl<D: Disk> Bot<D> {
     ghost use Rattle.std.specs.Prelude.{◌≡◌, ◌≤◌, ◌<◌, [], false, Some, length, IfOk, IsOk, OnOk, OnErr};
     ghost use Rattle.bytetext.specs.declared.moment.TheConstants.{MOMENTS_END as end_of_moments};
     ghost use Rattle.botcore.specs.Rising.{IsReached};

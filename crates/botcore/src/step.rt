@@ -4,16 +4,18 @@ use crate::bot::Bot;
 use crate::event::{Event, NewBind, OldBind};
 use crate::putting::put_all;
 use crate::report::{Faults, Note, Report};
+use bottimers::{Clock, Timers};
 use bytetext::{NoMemory, Seq};
 use chanstate::ChanState;
 use ircline::Line;
 use outqueue::Queues;
 use procstore::{ProcStore, Promise, Run};
-use sharelink::{Answer, Packet};
+use linkcalls::{Answer, Packet};
 use std::alloc::Global;
+use storage::Disk;
 use userfile::Change;
 
-impl Bot {
+impl<D: Disk> Bot<D> {
     ghost use Rattle.std.specs.Prelude.{◌≡◌, ◌≤◌, [], Some, None, Ok, length, IfOk, OnOk, OnErr};
     ghost use Rattle.botcore.specs.Happenings.{Saying, saying_in};
     ghost use Rattle.botcore.specs.Reports.{answer_report};
@@ -53,6 +55,8 @@ impl Bot {
             Event::Clock(now) => self.read_clock(alloc, store, now),
             Event::Bind(asked) => self.bind(alloc, &asked),
             Event::Unbind(gone) => self.unbind(alloc, &gone),
+            Event::Compact => self.compact(alloc),
+            Event::Restart => self.restart(alloc),
         }
     }
 
@@ -122,6 +126,28 @@ impl Bot {
         Report::of_answer(alloc, answer)
     }
 
+    // The journal is to have the state alone.
+    fn compact(&mut self, alloc: Global) -> Report {
+        let answer = self.link.compact(alloc);
+        Report::of_answer(alloc, answer)
+    }
+
+    // The bot begins again.
+    fn restart(&mut self, alloc: Global) -> Report {
+        let Ok(channels) = ChanState::new(alloc, self.config.nick.as_bytes()) else {
+            return Report::out_of_memory(alloc);
+        };
+        let answer = self.link.restart(alloc);
+        if answer.is_ok() {
+            self.channels = channels;
+            self.clock = Clock::new();
+            self.timers = Timers::new(alloc);
+            self.queues = Queues::new(alloc);
+            self.welcomed = false;
+        }
+        Report::of_answer(alloc, answer)
+    }
+
     // A packet comes.
     fn receive<P: Promise, B: Run>(
         &mut self,
@@ -154,7 +180,7 @@ impl Bot {
     {
         let Answer { note, packets } = answer;
         match note {
-            sharelink::Note::Text { from, text } => self.hear_text(alloc, store, from, text),
+            linkcalls::Note::Text { from, text } => self.hear_text(alloc, store, from, text),
             note => Report::of_answer(alloc, Ok(Answer { note, packets })),
         }
     }

@@ -12,9 +12,10 @@ use botcore::Bot;
 use bytetext::{NoMemory, Seq};
 use ircline::LineReader;
 use procstore::{ProcStore, Promise, Run};
-use sharelink::Outgoings;
+use linkcalls::Outgoings;
 use std::alloc::Global;
 use std::io::{Read, Write};
+use storage::Disk;
 
 /// How a drive ends.
 #[derive(Clone, Copy, Debug, PartialEq, Eq)]
@@ -58,9 +59,9 @@ pub struct DriveReport {
 /// let report = drive(alloc, &mut bot, &store, &mut lines, &mut reader, &mut writer, now);
 /// for packet in report.packets.into_vec() { .. }             // to the other bots
 /// ```
-pub fn drive<P: Promise, B: Run, R: Read, W: Write>(
+pub fn drive<P: Promise, B: Run, D: Disk, R: Read, W: Write>(
     alloc: Global,
-    bot: &mut Bot,
+    bot: &mut Bot<D>,
     store: &ProcStore<P, B>,
     lines: &mut LineReader,
     reader: &mut R,
@@ -78,9 +79,9 @@ pub fn drive<P: Promise, B: Run, R: Read, W: Write>(
 
 /// Drives a bot over bytes that are all there, of which the first are taken: it ends `Done` only where none is left, or
 /// 1,000 or more were taken, and never `Read`. Otherwise as [`drive`], for the moment `now` too.
-pub fn drive_bytes<P: Promise, B: Run, W: Write>(
+pub fn drive_bytes<P: Promise, B: Run, D: Disk, W: Write>(
     alloc: Global,
-    bot: &mut Bot,
+    bot: &mut Bot<D>,
     store: &ProcStore<P, B>,
     lines: &mut LineReader,
     bytes: &mut &[u8],
@@ -100,9 +101,9 @@ pub fn drive_bytes<P: Promise, B: Run, W: Write>(
 }
 
 // Drives a bot over any input.
-fn drive_over<P: Promise, B: Run, I: Input, W: Write>(
+fn drive_over<P: Promise, B: Run, D: Disk, I: Input, W: Write>(
     alloc: Global,
-    bot: &mut Bot,
+    bot: &mut Bot<D>,
     store: &ProcStore<P, B>,
     lines: &mut LineReader,
     input: &mut I,
@@ -123,9 +124,9 @@ fn drive_over<P: Promise, B: Run, I: Input, W: Write>(
 }
 
 // Drives a bot with an empty outbox.
-fn drive_with<P: Promise, B: Run, I: Input, W: Write>(
+fn drive_with<P: Promise, B: Run, D: Disk, I: Input, W: Write>(
     alloc: Global,
-    bot: &mut Bot,
+    bot: &mut Bot<D>,
     store: &ProcStore<P, B>,
     lines: &mut LineReader,
     input: &mut I,
@@ -149,9 +150,9 @@ fn drive_with<P: Promise, B: Run, I: Input, W: Write>(
 }
 
 // Takes in what has come, and reads the clock.
-fn take_in<P: Promise, B: Run, I: Input>(
+fn take_in<P: Promise, B: Run, D: Disk, I: Input>(
     alloc: Global,
-    bot: &mut Bot,
+    bot: &mut Bot<D>,
     store: &ProcStore<P, B>,
     lines: &mut LineReader,
     input: &mut I,

@@ -1,6 +1,7 @@
 // A bot's end of the link.
 use bytejournal::{Disks, Returned};
-use bytetext::Failure;
+use hublink::HubLink;
+use leaflink::LeafLink;
 use linkcalls::{Answer, LinkError, Outgoing, Packet};
 use std::alloc::Global;
 use std::marker::Model;
@@ -12,7 +13,14 @@ use userfile::{Change, Userfile};
 pub struct BotLink<D: Disk> {
     number: u16,
     leaves: u16,
-    disks: Disks<D>,
+    end: Ends<D>,
+}
+
+// Which end it is.
+#[derive(Drop)]
+enum Ends<D: Disk> {
+    Hub(HubLink<D>),
+    Leaf(LeafLink<D>),
 }
 
 impl<D: Disk> Model for BotLink<D> {
@@ -55,10 +63,25 @@ impl<D: Disk> BotLink<D> {
         requires few { leaves ≤ MAX_LEAVES }
         ensures row { Makes D.state number leaves first second result }
     {
-        Err(Returned {
-            error: Failure::NoMemory,
-            disks: Disks { first, second },
-        })
+        if number == 0 {
+            match HubLink::create(alloc, first, second, leaves) {
+                Ok(hub) => Ok(BotLink {
+                    number,
+                    leaves,
+                    end: Ends::Hub(hub),
+                }),
+                Err(returned) => Err(returned),
+            }
+        } else {
+            match LeafLink::create(alloc, first, second, number, leaves) {
+                Ok(leaf) => Ok(BotLink {
+                    number,
+                    leaves,
+                    end: Ends::Leaf(leaf),
+                }),
+                Err(returned) => Err(returned),
+            }
+        }
     }
 
     /// The bot of this number, as its journal on the two disks has it. Nothing is written.
@@ -80,24 +103,45 @@ impl<D: Disk> BotLink<D> {
         requires few { leaves ≤ MAX_LEAVES }
         ensures row { Opens D.state number leaves first second result }
     {
-        Err(Returned {
-            error: Failure::NoMemory,
-            disks: Disks { first, second },
-        })
+        if number == 0 {
+            match HubLink::open(alloc, first, second, leaves) {
+                Ok(hub) => Ok(BotLink {
+                    number,
+                    leaves,
+                    end: Ends::Hub(hub),
+                }),
+                Err(returned) => Err(returned),
+            }
+        } else {
+            match LeafLink::open(alloc, first, second, number, leaves) {
+                Ok(leaf) => Ok(BotLink {
+                    number,
+                    leaves,
+                    end: Ends::Leaf(leaf),
+                }),
+                Err(returned) => Err(returned),
+            }
+        }
     }
 
     /// The version: how many changes the hub has accepted, or the number of the last one that the leaf holds.
     pub fn version(&self) -> u32
         ensures { result ≡ end_version self.now.end }
     {
-        unreachable!()
+        match &self.end {
+            Ends::Hub(hub) => hub.version(),
+            Ends::Leaf(leaf) => leaf.version(),
+        }
     }
 
     /// The userfile at that version.
     pub fn userfile(&self) -> &Userfile
         ensures { result.now ≡ end_records self.now.end }
     {
-        unreachable!()
+        match &self.end {
+            Ends::Hub(hub) => hub.userfile(),
+            Ends::Leaf(leaf) => leaf.userfile(),
+        }
     }
 
     /// Whether a disk failed, or a restart did not end, since the journal was last opened: nothing is taken but a
@@ -105,14 +149,20 @@ impl<D: Disk> BotLink<D> {
     pub fn is_down(&self) -> bool
         ensures { result ≡ end_is_down self.now.end }
     {
-        unreachable!()
+        match &self.end {
+            Ends::Hub(hub) => hub.is_down(),
+            Ends::Leaf(leaf) => leaf.is_down(),
+        }
     }
 
     /// How many asks wait.
     pub fn ask_count(&self) -> usize
         ensures { result ≡ length (end_asks self.now.end) }
     {
-        unreachable!()
+        match &self.end {
+            Ends::Hub(hub) => hub.ask_count(),
+            Ends::Leaf(leaf) => leaf.ask_count(),
+        }
     }
 
     /// Takes back all asks but the oldest ones, of which this many stay. Takes no memory.
@@ -122,7 +172,10 @@ impl<D: Disk> BotLink<D> {
     pub fn keep_asks(&mut self, count: usize)
         ensures { self.new ≡ keeps_asks self.old count }
     {
-        unreachable!()
+        match &mut self.end {
+            Ends::Hub(hub) => hub.keep_asks(count),
+            Ends::Leaf(leaf) => leaf.keep_asks(count),
+        }
     }
 
     /// Lets a change wait for a pump: `Queued`, and nothing to send.
@@ -134,7 +187,10 @@ impl<D: Disk> BotLink<D> {
         ensures row { Asks self.old change result self.new }
         ensures packets { GoOut (MAX_LEAVES + 1) result }
     {
-        unreachable!()
+        match &mut self.end {
+            Ends::Hub(hub) => hub.ask(alloc, change),
+            Ends::Leaf(leaf) => leaf.ask(alloc, change),
+        }
     }
 
     /// Does the next piece of work. The hub takes its oldest ask: `Accepted`, once that is journaled, with the change for
@@ -148,7 +204,10 @@ impl<D: Disk> BotLink<D> {
         ensures row { Calls self.old (did self.old Pump) result self.new }
         ensures packets { GoOut (MAX_LEAVES + 1) result }
     {
-        unreachable!()
+        match &mut self.end {
+            Ends::Hub(hub) => hub.pump(alloc),
+            Ends::Leaf(leaf) => leaf.pump(alloc),
+        }
     }
 
     /// Takes a packet.
@@ -165,7 +224,10 @@ impl<D: Disk> BotLink<D> {
         ensures row { Calls self.old (took self.old packet.now) result self.new }
         ensures packets { GoOut (MAX_LEAVES + 1) result }
     {
-        unreachable!()
+        match &mut self.end {
+            Ends::Hub(hub) => hub.receive(alloc, packet),
+            Ends::Leaf(leaf) => leaf.receive(alloc, packet),
+        }
     }
 
     /// A text to another bot, which the caller is to send, where its step has sent so many so far. The bot stays as it
@@ -183,7 +245,10 @@ impl<D: Disk> BotLink<D> {
     ) -> Result<Outgoing, LinkError>
         ensures row { Tells self.now to text.now sent result }
     {
-        unreachable!()
+        match &self.end {
+            Ends::Hub(hub) => hub.send_text(alloc, to, text, sent),
+            Ends::Leaf(leaf) => leaf.send_text(alloc, to, text, sent),
+        }
     }
 
     /// Writes the state alone into the journal, in its next generation: `Compacted`, and nothing to send.
@@ -195,7 +260,10 @@ impl<D: Disk> BotLink<D> {
         ensures row { Calls self.old (did self.old Compact) result self.new }
         ensures packets { GoOut (MAX_LEAVES + 1) result }
     {
-        unreachable!()
+        match &mut self.end {
+            Ends::Hub(hub) => hub.compact(alloc),
+            Ends::Leaf(leaf) => leaf.compact(alloc),
+        }
     }
 
     /// Crashes both disks, as where the program ended, and opens the journal on what that left: `Restarted` with the
@@ -207,7 +275,10 @@ impl<D: Disk> BotLink<D> {
         ensures row { CallsRestart self.old result self.new }
         ensures packets { GoOut (MAX_LEAVES + 1) result }
     {
-        unreachable!()
+        match &mut self.end {
+            Ends::Hub(hub) => hub.restart(alloc),
+            Ends::Leaf(leaf) => leaf.restart(alloc),
+        }
     }
 
     /// The two disks, in the order in which they were given.
@@ -215,6 +286,9 @@ impl<D: Disk> BotLink<D> {
         // Whatever a crash leaves on them is the bot's, with the record in doubt or without it.
         ensures left { MayLeave D.state result.first result.second self }
     {
-        self.disks
+        match self.end {
+            Ends::Hub(hub) => hub.into_disks(),
+            Ends::Leaf(leaf) => leaf.into_disks(),
+        }
     }
 }
