@@ -1,0 +1,220 @@
+// A bot's end of the link.
+use bytejournal::{Disks, Returned};
+use bytetext::Failure;
+use linkcalls::{Answer, LinkError, Outgoing, Packet};
+use std::alloc::Global;
+use std::marker::Model;
+use storage::Disk;
+use userfile::{Change, Userfile};
+
+/// A bot's end of the link: the hub's where its number is 0, else a leaf's.
+#[derive(Drop)]
+pub struct BotLink<D: Disk> {
+    number: u16,
+    leaves: u16,
+    disks: Disks<D>,
+}
+
+impl<D: Disk> Model for BotLink<D> {
+    ghost use Rattle.botlink.specs.Links.{BotEnd};
+
+    ghost Value = { BotEnd };
+
+    ghost use Rattle.botlink.specs.Links.{new_bot_end};
+
+    ghost view = { λ l. new_bot_end l.number l.leaves (record { first = 0; second = 0 }) };
+
+    ghost invariant = { λ l. ⊥ };
+}
+
+impl<D: Disk> BotLink<D> {
+    ghost use Rattle.std.specs.Prelude.{◌≡◌, ◌≤◌, ◌+◌, length};
+    ghost use Rattle.storage.specs.State.{IsSettled};
+    ghost use Rattle.protocol.specs.Network.{Pump, Compact};
+    ghost use Rattle.linknet.specs.Ends.{end_version, end_records, end_is_down, end_asks};
+    ghost use Rattle.linkcalls.specs.declared.TheConstants.{MAX_LEAVES};
+    ghost use Rattle.linkcalls.specs.Shapes.{HasGoodRecords, GoOut};
+    ghost use Rattle.botlink.specs.Links.{Calls, CallsRestart, Asks, Tells, did, took, keeps_asks};
+    ghost use Rattle.botlink.specs.Opening.{Makes, Opens, MayLeave};
+
+    /// The bot of this number, from 0 to the number of leaves, before the first change. What the disks held is lost.
+    ///
+    /// # Errors
+    /// With the disks: `NoMemory` where room is refused: nothing was written. `DiskFault` where a disk failed: what the
+    /// disks hold is then unknown.
+    pub fn create(
+        alloc: Global,
+        first: D,
+        second: D,
+        number: u16,
+        leaves: u16,
+    ) -> Result<BotLink<D>, Returned<D>>
+        requires first_settled { IsSettled (D.state first) }
+        requires second_settled { IsSettled (D.state second) }
+        requires numbered { number ≤ leaves }
+        requires few { leaves ≤ MAX_LEAVES }
+        ensures row { Makes D.state number leaves first second result }
+    {
+        Err(Returned {
+            error: Failure::NoMemory,
+            disks: Disks { first, second },
+        })
+    }
+
+    /// The bot of this number, as its journal on the two disks has it. Nothing is written.
+    ///
+    /// # Errors
+    /// With the disks, which hold what they held: `DiskFault` where a read failed; `NotAJournal` where the disks hold no
+    /// journal, or one that no bot of this number writes in such a net; `NoMemory` where room for what they hold is
+    /// refused.
+    pub fn open(
+        alloc: Global,
+        first: D,
+        second: D,
+        number: u16,
+        leaves: u16,
+    ) -> Result<BotLink<D>, Returned<D>>
+        requires first_settled { IsSettled (D.state first) }
+        requires second_settled { IsSettled (D.state second) }
+        requires numbered { number ≤ leaves }
+        requires few { leaves ≤ MAX_LEAVES }
+        ensures row { Opens D.state number leaves first second result }
+    {
+        Err(Returned {
+            error: Failure::NoMemory,
+            disks: Disks { first, second },
+        })
+    }
+
+    /// The version: how many changes the hub has accepted, or the number of the last one that the leaf holds.
+    pub fn version(&self) -> u32
+        ensures { result ≡ end_version self.now.end }
+    {
+        unreachable!()
+    }
+
+    /// The userfile at that version.
+    pub fn userfile(&self) -> &Userfile
+        ensures { result.now ≡ end_records self.now.end }
+    {
+        unreachable!()
+    }
+
+    /// Whether a disk failed, or a restart did not end, since the journal was last opened: nothing is taken but a
+    /// restart.
+    pub fn is_down(&self) -> bool
+        ensures { result ≡ end_is_down self.now.end }
+    {
+        unreachable!()
+    }
+
+    /// How many asks wait.
+    pub fn ask_count(&self) -> usize
+        ensures { result ≡ length (end_asks self.now.end) }
+    {
+        unreachable!()
+    }
+
+    /// Takes back all asks but the oldest ones, of which this many stay. Takes no memory.
+    ///
+    /// A caller that asks for several things, all or none, counts the asks before it begins, and comes back to that
+    /// count where it has to give up.
+    pub fn keep_asks(&mut self, count: usize)
+        ensures { self.new ≡ keeps_asks self.old count }
+    {
+        unreachable!()
+    }
+
+    /// Lets a change wait for a pump: `Queued`, and nothing to send.
+    ///
+    /// # Errors
+    /// `Down`, then `BadChange` for a bad shape, then `AsksFull` where 64 asks wait, then `NoMemory`; each leaves the bot
+    /// as it was.
+    pub fn ask(&mut self, alloc: Global, change: Change) -> Result<Answer, LinkError>
+        ensures row { Asks self.old change result self.new }
+        ensures packets { GoOut (MAX_LEAVES + 1) result }
+    {
+        unreachable!()
+    }
+
+    /// Does the next piece of work. The hub takes its oldest ask: `Accepted`, once that is journaled, with the change for
+    /// each leaf, or `Refused`, or `Idle`. A leaf says hello, and sends its request: `Sent`, once that is journaled, or
+    /// `Idle`.
+    ///
+    /// # Errors
+    /// `Down`; then `NumbersSpent`; then `NoMemory`; each leaves the bot as it was. `JournalFault` where a disk failed in
+    /// this call: the bot is down, sends nothing, and what was being journaled is in doubt.
+    pub fn pump(&mut self, alloc: Global) -> Result<Answer, LinkError>
+        ensures row { Calls self.old (did self.old Pump) result self.new }
+        ensures packets { GoOut (MAX_LEAVES + 1) result }
+    {
+        unreachable!()
+    }
+
+    /// Takes a packet.
+    ///
+    /// The hub takes a leaf's hello and its requests, a leaf the hub's changes, replies and parts of a userfile, and each
+    /// a text of another bot's; what is for none of them is `Stray`.
+    ///
+    /// # Errors
+    /// `Down`; then `Diverged` where a leaf's records aren't the hub's, which drops its kept parts; then `NumbersSpent`;
+    /// then `NoMemory`; the last two leave the bot as it was. `JournalFault` where a disk failed in this call: the bot is
+    /// down, sends nothing, and what was being journaled is in doubt.
+    pub fn receive(&mut self, alloc: Global, packet: &Packet) -> Result<Answer, LinkError>
+        requires records { HasGoodRecords packet.now }
+        ensures row { Calls self.old (took self.old packet.now) result self.new }
+        ensures packets { GoOut (MAX_LEAVES + 1) result }
+    {
+        unreachable!()
+    }
+
+    /// A text to another bot, which the caller is to send, where its step has sent so many so far. The bot stays as it
+    /// was.
+    ///
+    /// # Errors
+    /// `Down`; `BadBotText` where there is no such bot, it is this one, or the text is none that a bot may tell another;
+    /// then `TextsFull` from 64 on, then `NoMemory`.
+    pub fn send_text(
+        &self,
+        alloc: Global,
+        to: u16,
+        text: &[u8],
+        sent: usize,
+    ) -> Result<Outgoing, LinkError>
+        ensures row { Tells self.now to text.now sent result }
+    {
+        unreachable!()
+    }
+
+    /// Writes the state alone into the journal, in its next generation: `Compacted`, and nothing to send.
+    ///
+    /// # Errors
+    /// `Down`; then `NumbersSpent` at generation 4,294,967,295; then `NoMemory`; each leaves the bot as it was.
+    /// `JournalFault` where a disk failed in this call: the bot is down, and whether the journal was written in doubt.
+    pub fn compact(&mut self, alloc: Global) -> Result<Answer, LinkError>
+        ensures row { Calls self.old (did self.old Compact) result self.new }
+        ensures packets { GoOut (MAX_LEAVES + 1) result }
+    {
+        unreachable!()
+    }
+
+    /// Crashes both disks, as where the program ended, and opens the journal on what that left: `Restarted` with the
+    /// version. The record that was in doubt counts, or doesn't. The asks that wait are lost, and a leaf's kept parts.
+    ///
+    /// # Errors
+    /// `DiskFault` where a disk failed, or `NoMemory`: the bot is down, and all else as it was.
+    pub fn restart(&mut self, alloc: Global) -> Result<Answer, LinkError>
+        ensures row { CallsRestart self.old result self.new }
+        ensures packets { GoOut (MAX_LEAVES + 1) result }
+    {
+        unreachable!()
+    }
+
+    /// The two disks, in the order in which they were given.
+    pub fn into_disks(self) -> Disks<D>
+        // Whatever a crash leaves on them is the bot's, with the record in doubt or without it.
+        ensures left { MayLeave D.state result.first result.second self }
+    {
+        self.disks
+    }
+}
