@@ -5,8 +5,8 @@ use Rattle.userfile.specs.declared.change.Change.{Change}
 use Rattle.procstore.specs.declared.action.Action.{Action}
 use Rattle.bytetext.specs.declared.failure.Failure.{Failure}
 use Rattle.bytetext.specs.declared.failure.Failure.TheVariants.{Refused, NoMemory}
-use Rattle.sharelink.specs.declared.answer.Answer.{Answer}
-use Rattle.sharelink.specs.declared.error.LinkFault.{LinkFault}
+use Rattle.linkcalls.specs.declared.answer.Answer.{Answer}
+use Rattle.linkcalls.specs.declared.error.LinkFault.{LinkFault}
 use Rattle.sharelink.specs.Meets.{Meets}
 use Rattle.sharelink.proofs.Asks.{hub_asked-with_asks, with_oldest-with_asks}
 use Rattle.botcore.specs.declared.fault.ActionFault.{ActionFault}

@@ -10,9 +10,9 @@ use Rattle.procstore.specs.declared.call.Call.{Call}
 use Rattle.procstore.specs.declared.reply.Code.{Code}
 use Rattle.sharewire.specs.declared.packet.Packet.{Packet}
 use Rattle.sharewire.specs.declared.packet.Packet.TheVariants.{Hello, Change as change_packet, BotText}
-use Rattle.sharelink.specs.declared.answer.Answer.{Answer}
-use Rattle.sharelink.specs.declared.answer.Note.TheVariants.{Old, Early, Text, Stray}
-use Rattle.sharelink.specs.declared.error.LinkFault.{LinkFault}
+use Rattle.linkcalls.specs.declared.answer.Answer.{Answer}
+use Rattle.linkcalls.specs.declared.note.Note.TheVariants.{Old, Early, Text, Stray}
+use Rattle.linkcalls.specs.declared.error.LinkFault.{LinkFault}
 use Rattle.sharelink.specs.Meets.{Meets, noted}
 use Rattle.sharelink.specs.Texts.{is_no_bot}
 use Rattle.sharelink.specs.HubRules.{Hub, hub_received, is_no_leaf, version_of, hello_served, relayed}

@@ -11,8 +11,8 @@ use Rattle.procstore.specs.declared.action.PutWish.{PutWish}
 use Rattle.procstore.specs.declared.action.TimerWish.{TimerWish}
 use Rattle.outqueue.specs.declared.fault.QueueFault.{QueueFault}
 use Rattle.outqueue.specs.Refusals.{refusal}
-use Rattle.sharelink.specs.declared.answer.Outgoing.{Outgoing}
-use Rattle.sharelink.specs.declared.error.LinkFault.{LinkFault}
+use Rattle.linkcalls.specs.declared.answer.Outgoing.{Outgoing}
+use Rattle.linkcalls.specs.declared.error.LinkFault.{LinkFault}
 use Rattle.botcore.specs.Acting.{Acting, acted, acted_all, made_unless, timer_made, timer_of, killed_if, sent_if, put_unless}
 use Rattle.botcore.specs.declared.link.Link.{Link}
 use Rattle.botcore.specs.Links.{link_text}

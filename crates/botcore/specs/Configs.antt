@@ -3,7 +3,7 @@ use Rattle.std.specs.Prelude.{◌≡◌, ℕ, ◌≤◌, ◌==◌, nat_lt, nat_l
 use Rattle.std.specs.List.{list_all}
 use Rattle.rfccase.specs.Channels.{is_channel_name}
 use Rattle.bottimers.specs.Civil.{IsOffset}
-use Rattle.sharelink.specs.declared.TheConstants.{MAX_LEAVES}
+use Rattle.linkcalls.specs.declared.TheConstants.{MAX_LEAVES}
 use Rattle.botcore.specs.declared.config.Config.{Config}
 use Rattle.botcore.specs.declared.fault.BotFault.{BotFault}
 use Rattle.botcore.specs.declared.fault.BotFault.TheVariants.{BadConfig}

@@ -32,7 +32,7 @@ pub(crate) struct Doing {
 impl Model for Doing {
     ghost use Rattle.std.specs.Prelude.{◌≤◌, length};
     ghost use Rattle.bottimers.specs.Held.{IsNotBelow};
-    ghost use Rattle.sharelink.specs.declared.TheConstants.{MAX_TEXTS};
+    ghost use Rattle.linkcalls.specs.declared.TheConstants.{MAX_TEXTS};
     ghost use Rattle.botcore.specs.Progress.{Progress};
 
     ghost Value = { Progress };

@@ -41,7 +41,7 @@ pub(crate) struct Told {
 impl Bot {
     ghost use Rattle.std.specs.Prelude.{◌≡◌, ◌≤◌, ◌++◌, length, unwrap_or, IfOk, IfSome, OnOk};
     ghost use Rattle.botcore.specs.Rising.{IsReached};
-    ghost use Rattle.sharelink.specs.declared.TheConstants.{MAX_TEXTS};
+    ghost use Rattle.linkcalls.specs.declared.TheConstants.{MAX_TEXTS};
     ghost use Rattle.botcore.specs.Acting.{action_faults, actions_of, faults_of};
     ghost use Rattle.botcore.specs.Bots.{bot_setting};
     ghost use Rattle.botcalls.specs.Dispatched.{IsDispatched};

@@ -19,7 +19,7 @@ use std::alloc::Global;
 impl Bot {
     ghost use Rattle.std.specs.Prelude.{◌≡◌, ◌≤◌, ◌++◌, [], length, map, IfOk, OnOk, OnErr};
     ghost use Rattle.chanstate.specs.Events.{events_of};
-    ghost use Rattle.sharelink.specs.declared.TheConstants.{MAX_TEXTS};
+    ghost use Rattle.linkcalls.specs.declared.TheConstants.{MAX_TEXTS};
     ghost use Rattle.botcalls.specs.declared.occasion.Occasion.TheVariants.{Heard as heard_event};
     ghost use Rattle.botcore.specs.Acting.{faults_of};
     ghost use Rattle.botcore.specs.Bots.{bot_setting};

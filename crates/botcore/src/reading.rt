@@ -27,7 +27,7 @@ impl Bot {
     ghost use Rattle.bytetext.specs.declared.moment.TheConstants.{MOMENTS_END as end_of_moments};
     ghost use Rattle.botcore.specs.Rising.{IsReached};
     ghost use Rattle.bottimers.specs.Seconds.{reading_fault, seconds_run};
-    ghost use Rattle.sharelink.specs.declared.TheConstants.{MAX_TEXTS};
+    ghost use Rattle.linkcalls.specs.declared.TheConstants.{MAX_TEXTS};
     ghost use Rattle.botcore.specs.Acting.{faults_of};
     ghost use Rattle.botcore.specs.Happenings.{seconds_of};
     ghost use Rattle.botcore.specs.Lines.{acting_of, acting_after, finish_reading};

@@ -17,7 +17,7 @@ impl Bot {
     ghost use Rattle.std.specs.Prelude.{◌≡◌, ◌≤◌, [], Some, None, Ok, length, IfOk, OnOk, OnErr};
     ghost use Rattle.botcore.specs.Happenings.{Saying, saying_in};
     ghost use Rattle.botcore.specs.Reports.{answer_report};
-    ghost use Rattle.sharelink.specs.declared.TheConstants.{MAX_LEAVES, MAX_TEXTS};
+    ghost use Rattle.linkcalls.specs.declared.TheConstants.{MAX_LEAVES, MAX_TEXTS};
     ghost use Rattle.botcore.specs.Links.{link_asked, link_pumped, link_received};
     ghost use Rattle.botcore.specs.Steps.{TakesStep, TakesText};
     ghost use Rattle.botcore.specs.Steps.{Gives, GivesRow, GivesBind, GivesUnbind, connect_due, asked_of};
