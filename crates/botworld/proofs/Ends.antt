@@ -11,7 +11,7 @@ use Rattle.protocol.specs.History.{History, asked_of, Extends, Grows}
 use Rattle.protocol.specs.Truth.{IsKeptAnswer, AllOutgoing}
 use Rattle.protocol.specs.Soundness.{IsSound as IsSoundHistory}
 use Rattle.protocol.specs.Standing.{Stands as StandsFor}
-use Rattle.protocol.specs.Network.{Net as Links, Event, Step, At, Deliver, Course, Makes, posted, hub_stepped, leaf_stepped, leaf_met, hub_event, leaf_event, delivered, stepped}
+use Rattle.protocol.specs.Network.{Net as LinkNet, Event, Step, At, Deliver, Course, Makes, posted, hub_stepped, leaf_stepped, leaf_met, hub_event, leaf_event, delivered, stepped}
 use Rattle.protocol.specs.Claims.{IsFine}
 use Rattle.protocol.proofs.Lists.{length-one}
 use Rattle.protocol.proofs.HubGoes.{version_stands}
@@ -102,10 +102,10 @@ pub record EndGoes (h : History) (all : List End) (sent : List Sent) (place : �
   pub fine : IsFine row.told
   pub accepted : GrowsAsTold place row.told h.hub.kept.accepted after.hub.kept.accepted
 
-hub_version : (w : Links) (h : History) → StandsFor w h → IsSoundHistory h → version_of w.hub.kept ≡ length h.hub.kept.accepted
+hub_version : (w : LinkNet) (h : History) → StandsFor w h → IsSoundHistory h → version_of w.hub.kept ≡ length h.hub.kept.accepted
 hub_version w h stands sound = version_stands (asked_of h.leaves) w.hub.kept h.hub.kept stands.hub.kept sound.hub.kept
 
-module _ (w : Links) (h : History) (stands : StandsFor w h) (sound : IsSoundHistory h) where
+module _ (w : LinkNet) (h : History) (stands : StandsFor w h) (sound : IsSoundHistory h) where
   hub_goes : (row : Row Hub) → TellsOf row.told (version_of w.hub.kept) (version_of row.after.kept) → Follows h (hub_stepped w row)
       → EndGoes h (ends_in w) w.packets 0 (of_hub row)
   hub_goes row tells goes = record {

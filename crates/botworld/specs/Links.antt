@@ -4,7 +4,7 @@ use Rattle.protocol.specs.Packets.{AcceptedChange, Sent, from_wire}
 use Rattle.protocol.specs.Notes.{Note, LinkFault}
 use Rattle.protocol.specs.Notes.Note.{Accepted, Restarted}
 use Rattle.protocol.specs.LeafRules.{Leaf}
-use Rattle.protocol.specs.Network.{Net as Links}
+use Rattle.protocol.specs.Network.{Net as LinkNet}
 use Rattle.protocol.specs.History.{History}
 use Rattle.protocol.specs.Soundness.{IsSound as IsSoundHistory}
 use Rattle.protocol.specs.Standing.{Stands as StandsFor}
@@ -17,13 +17,13 @@ leaf_ends [] = []
 leaf_ends (leaf ∷ leaves) = AtLeaf leaf ∷ leaf_ends leaves
 
 -- the ends of a net, the hub's first
-abbrev pub ends_in : Links → List End
+abbrev pub ends_in : LinkNet → List End
 ends_in links = AtHub links.hub ∷ leaf_ends links.leaves
 
 -- ends and packets that are those of a net which stands for this history, and it is sound: whatever the links promise of a
 -- moment holds
 pub record AreSound (h : History) (all : List End) (sent : List Sent) : Type 0 where
-  pub links : Links
+  pub links : LinkNet
   pub ends : all ≡ ends_in links
   pub packets : sent ≡ links.packets
   pub stands : StandsFor links h
