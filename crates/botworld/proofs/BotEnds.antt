@@ -45,7 +45,7 @@ use Rattle.botworld.proofs.Ends.{EndGoes, did_goes, took_goes}
 
 -- ---- lists
 
-set-same : {X : Type 0} (xs : List X) (i : ℕ) (x : X) → slice_get xs i ≡ Some x → slice_set xs i x ≡ xs
+pub set-same : {X : Type 0} (xs : List X) (i : ℕ) (x : X) → slice_get xs i ≡ Some x → slice_set xs i x ≡ xs
 set-same [] i x e = cc
 set-same (z ∷ xs) zero x e = let same : z ≡ x = cc in ap (λ y. y ∷ xs) (sym same)
 set-same (z ∷ xs) (suc i) x e = ap (λ ys. z ∷ ys) (set-same xs i x e)
@@ -65,7 +65,7 @@ posted-append from [] ys = refl
 posted-append from (x ∷ xs) ys =
     ap (λ (ps : List Sent). record { from = from; to = x.to; packet = x.packet } ∷ ps) (posted-append from xs ys)
 
-outgoings_of-append : (xs ys : List Outgoing) → outgoings_of (xs ++ ys) ≡ outgoings_of xs ++ outgoings_of ys
+pub outgoings_of-append : (xs ys : List Outgoing) → outgoings_of (xs ++ ys) ≡ outgoings_of xs ++ outgoings_of ys
 outgoings_of-append [] ys = refl
 outgoings_of-append (x ∷ xs) ys = ap (λ os. outgoing_of x ∷ os) (outgoings_of-append xs ys)
 
