@@ -1,4 +1,5 @@
 pub mod Codes
+pub mod Links
 pub mod Net
 pub mod Network
 pub mod Calling
