@@ -69,13 +69,13 @@ impl<D: Disk> Bot<D> {
         config: Config,
         first: D,
         second: D,
-    ) -> Result<Bot<D>, RefusedBot<D>>
+    ) -> Result<Bot<D>, Returned_<D>>
     {
         if let Some(fault) = config.refusal() {
-            return Err(RefusedBot::new(Failure::Refused(fault), first, second));
+            return Err(Returned_::new(Failure::Refused(fault), first, second));
         }
         let Ok(channels) = ChanState::new(alloc, config.nick.as_bytes()) else {
-            return Err(RefusedBot::new(Failure::NoMemory, first, second));
+            return Err(Returned_::new(Failure::NoMemory, first, second));
         };
         match BotLink::create(alloc, first, second, config.number, config.leaves) {
             Ok(link) => Ok(Bot::begun(alloc, config, channels, link)),
@@ -93,13 +93,13 @@ impl<D: Disk> Bot<D> {
         config: Config,
         first: D,
         second: D,
-    ) -> Result<Bot<D>, RefusedBot<D>>
+    ) -> Result<Bot<D>, Returned_<D>>
     {
         if let Some(fault) = config.refusal() {
-            return Err(RefusedBot::new(Failure::Refused(fault), first, second));
+            return Err(Returned_::new(Failure::Refused(fault), first, second));
         }
         let Ok(channels) = ChanState::new(alloc, config.nick.as_bytes()) else {
-            return Err(RefusedBot::new(Failure::NoMemory, first, second));
+            return Err(Returned_::new(Failure::NoMemory, first, second));
         };
         match BotLink::open(alloc, first, second, config.number, config.leaves) {
             Ok(link) => Ok(Bot::begun(alloc, config, channels, link)),
@@ -148,7 +148,7 @@ impl<D: Disk> Bot<D> {
 }
 
 // Why the link was not made or found, as a bot tells it.
-fn refused_by_link<D: Disk>(returned: Returned<D>) -> RefusedBot<D> {
+fn refused_by_link<D: Disk>(returned: Returned<D>) -> Returned_<D> {
     let why = match returned.error {
         Failure::Refused(JournalFault::DiskFault) => Failure::Refused(BotFault::DiskFault),
         Failure::Refused(JournalFault::NotAJournal | JournalFault::Spent | JournalFault::GenerationsSpent) => {
@@ -156,7 +156,7 @@ fn refused_by_link<D: Disk>(returned: Returned<D>) -> RefusedBot<D> {
         }
         Failure::NoMemory => Failure::NoMemory,
     };
-    RefusedBot {
+    Returned_ {
         why,
         disks: returned.disks,
     }
@@ -164,16 +164,16 @@ fn refused_by_link<D: Disk>(returned: Returned<D>) -> RefusedBot<D> {
 
 /// Disks on which no bot was made or found, as they were handed in.
 #[derive(Drop)]
-pub struct RefusedBot<D: Disk> {
+pub struct Returned_<D: Disk> {
     /// Why.
     pub why: BotError,
     /// The disks.
     pub disks: Disks<D>,
 }
 
-impl<D: Disk> RefusedBot<D> {
-    fn new(why: BotError, first: D, second: D) -> RefusedBot<D> {
-        RefusedBot {
+impl<D: Disk> Returned_<D> {
+    fn new(why: BotError, first: D, second: D) -> Returned_<D> {
+        Returned_ {
             why,
             disks: Disks { first, second },
         }

@@ -3,7 +3,8 @@ ghost use Rattle.std.specs.Prelude.{◌≡◌};
 ghost use Rattle.botworld.specs.Codes.{fault_code};
 
 use botcore::Bot;
-use procstore::{Body, ProcStore, Promise, Run};
+use procstore::{ProcStore, Promise, Run};
+use storage::Disk;
 use thiserror::Error;
 
 /// A refusal to make a world.
@@ -27,11 +28,11 @@ impl WorldFault {
 
 /// Bots of which no world was made, with their store, as they were handed in.
 #[derive(Drop)]
-pub struct RefusedWorld<P: Promise, B: Run = Body> {
+pub struct RefusedWorld<P: Promise, B: Run, D: Disk> {
     /// Why no world was made.
     pub why: WorldFault,
     /// The bots.
-    pub bots: Vec<Bot>,
+    pub bots: Vec<Bot<D>>,
     /// The store.
     pub store: ProcStore<P, B>,
 }

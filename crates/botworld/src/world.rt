@@ -1,6 +1,6 @@
 // The world.
 ghost use Rattle.std.specs.Prelude.{◌≡◌, ◌+◌, ◌≤◌, ◌++◌, ◌↔◌, IsTrue, length, vec_len, vec_capacity};
-ghost use Rattle.sharelink.specs.declared.TheConstants.{MAX_LEAVES};
+ghost use Rattle.linkcalls.specs.declared.TheConstants.{MAX_LEAVES};
 ghost use Rattle.botworld.specs.Net.{is_packet, posted, report_of};
 ghost use Rattle.botworld.specs.Network.{IsNumberedAt, AreNumbered};
 ghost use Rattle.botworld.specs.declared.world.TheConstants.{MOST_SENT};
@@ -12,10 +12,11 @@ use crate::sent::Sent;
 use crate::step::{Part, Step};
 use botcore::{Bot, Event, Report as BotReport};
 use bytetext::{NoMemory, Seq, TryCopy};
-use procstore::{Body, ProcStore, Promise, Run};
-use sharelink::Outgoing;
+use procstore::{ProcStore, Promise, Run};
+use linkcalls::Outgoing;
 use std::alloc::Global;
 use std::marker::Model;
+use storage::Disk;
 use userfile::Userfile;
 
 /// Room that is made for the packets of a step: one to each of 1,000 leaves, and an answer.
@@ -23,13 +24,13 @@ const MOST_SENT: usize = 1001;
 
 /// Bots, the hub first; the procs that their binds call; and every packet ever sent.
 #[derive(Drop)]
-pub struct World<P: Promise, B: Run = Body> {
-    bots: Vec<Bot>,
+pub struct World<P: Promise, B: Run, D: Disk> {
+    bots: Vec<Bot<D>>,
     packets: Vec<Sent>,
     store: ProcStore<P, B>,
 }
 
-impl<P: Promise, B: Run> Model for World<P, B> {
+impl<P: Promise, B: Run, D: Disk> Model for World<P, B, D> {
     ghost use Rattle.botworld.specs.Net.{Net};
 
     ghost Value = { Net };
@@ -37,7 +38,7 @@ impl<P: Promise, B: Run> Model for World<P, B> {
     ghost view = { λ w. record { bots = w.bots.items; packets = w.packets.items; store = w.store } };
 }
 
-impl<P: Promise, B: Run> World<P, B> {
+impl<P: Promise, B: Run, D: Disk> World<P, B, D> {
     ghost use Rattle.std.specs.Prelude.{◌≡◌, ◌<◌, ◌≤◌, ◌⊎◌, ℕ, Some, nat_lt, true, length, take, IfOk, OnOk, OnErr};
     ghost use Rattle.std.specs.Prelude.{Ok, Err, IfErr, IfSome, IsOk, None, MatchResult, if◌then◌else◌};
     ghost use Rattle.std.specs.Option.{option_copied};
@@ -49,16 +50,16 @@ impl<P: Promise, B: Run> World<P, B> {
     ghost use Rattle.botworld.specs.Standing.{Past, beginning, Stands, LeadsTo, SameRecords, SameAlways};
     ghost use Rattle.botworld.specs.Standing.{SameCalls};
 
-    /// A world of these bots, each of which is as [`Bot::new`] left it. Takes no memory.
+    /// A world of these bots, each of which is as [`Bot::create`] left it. Takes no memory.
     ///
     /// # Errors
     /// `BadWorld` (O1) where the bots aren't numbered 0 to N in order, one has other than N leaves, or there is none.
     /// Bots and store are handed back.
     pub fn new(
         alloc: Global,
-        bots: Vec<Bot>,
+        bots: Vec<Bot<D>>,
         store: ProcStore<P, B>,
-    ) -> Result<World<P, B>, RefusedWorld<P, B>>
+    ) -> Result<World<P, B, D>, RefusedWorld<P, B, D>>
         requires as_made { AllNew bots.items }
         ensures made { IfOk result (λ w. w ≡ (start bots.items store).net) }
         ensures stands { IfOk result (λ w. Stands P.code_of P.may w (beginning (start bots.items store))) }
@@ -264,7 +265,7 @@ impl<P: Promise, B: Run> World<P, B> {
 }
 
 // Whether the bots are a hub and its leaves, in order.
-fn are_numbered(bots: &[Bot]) -> bool
+fn are_numbered<D: Disk>(bots: &[Bot<D>]) -> bool
     ensures { IsTrue result ↔ AreNumbered bots.now }
 {
     for place in 0..bots.len() {
@@ -276,7 +277,7 @@ fn are_numbered(bots: &[Bot]) -> bool
 }
 
 // Whether a bot has the number of its place, and as many leaves as there are after the hub.
-fn is_numbered_at(bots: usize, place: usize, bot: &Bot) -> bool
+fn is_numbered_at<D: Disk>(bots: usize, place: usize, bot: &Bot<D>) -> bool
     ensures { IsTrue result ↔ IsNumberedAt bots place bot.now }
 {
     let config = bot.config();
@@ -294,7 +295,9 @@ fn is_packet(event: &Event) -> bool
         | Event::Pump
         | Event::Clock(_)
         | Event::Bind(_)
-        | Event::Unbind(_) => false,
+        | Event::Unbind(_)
+        | Event::Compact
+        | Event::Restart => false,
     }
 }
 

@@ -1,6 +1,6 @@
 // The bots of a script before its first step.
 ghost use Rattle.std.specs.Prelude.{◌≡◌, ◌+◌, ◌≤◌, IfOk};
-ghost use Rattle.sharelink.specs.declared.TheConstants.{MAX_LEAVES};
+ghost use Rattle.linkcalls.specs.declared.TheConstants.{MAX_LEAVES};
 ghost use Rattle.botcore.specs.Bots.{new_bot};
 ghost use Rattle.botworld.specs.Standing.{Stands, beginning};
 ghost use Rattle.replay.specs.Starting.{bots_from, config_of, first_state};
@@ -9,6 +9,7 @@ use crate::print::put_number;
 use botcore::{Bot, Config};
 use botworld::World;
 use bytetext::{Failure, NoMemory, Text, Texts};
+use disks::MemDisk;
 use procstore::{ProcStore, Promise, Run};
 use std::alloc::Global;
 
@@ -17,7 +18,7 @@ pub fn new_world<P: Promise, B: Run>(
     alloc: Global,
     store: ProcStore<P, B>,
     leaves: u16,
-) -> Result<World<P, B>, NoMemory>
+) -> Result<World<P, B, MemDisk>, NoMemory>
     requires { leaves ≤ MAX_LEAVES }
     ensures { IfOk result (λ w. Stands P.code_of P.may w (beginning (first_state leaves store))) }
 {
@@ -28,12 +29,12 @@ pub fn new_world<P: Promise, B: Run>(
     }
 }
 
-/// The hub and its leaves, as they are before their first step: their nicks are `egg` and their number, and their one
-/// channel is `#egg`.
+/// The hub and its leaves, as they are before their first step, each with its journal on two disks in memory that never
+/// fail: their nicks are `egg` and their number, and their one channel is `#egg`.
 ///
 /// # Errors
 /// `NoMemory` where room is refused.
-pub fn new_bots(alloc: Global, leaves: u16) -> Result<Vec<Bot>, NoMemory>
+pub fn new_bots(alloc: Global, leaves: u16) -> Result<Vec<Bot<MemDisk>>, NoMemory>
     requires { leaves ≤ MAX_LEAVES }
     ensures { IfOk result (λ bots. bots.items ≡ bots_from leaves 0 (leaves + 1)) }
 {
@@ -45,16 +46,19 @@ pub fn new_bots(alloc: Global, leaves: u16) -> Result<Vec<Bot>, NoMemory>
 }
 
 // A bot of this number.
-fn bot(alloc: Global, leaves: u16, number: u16) -> Result<Bot, NoMemory>
+fn bot(alloc: Global, leaves: u16, number: u16) -> Result<Bot<MemDisk>, NoMemory>
     requires few { leaves ≤ MAX_LEAVES }
     requires numbered { number ≤ leaves }
     ensures { IfOk result (λ bot. bot ≡ new_bot (config_of leaves number)) }
 {
-    match Bot::new(alloc, config(alloc, leaves, number)?) {
+    let config = config(alloc, leaves, number)?;
+    match Bot::create(alloc, config, MemDisk::new(alloc), MemDisk::new(alloc)) {
         Ok(bot) => Ok(bot),
-        // Nick and channel are good, and the number is one of the botnet.
-        Err(Failure::Refused(_)) => unreachable!(),
-        Err(Failure::NoMemory) => Err(NoMemory),
+        Err(returned) => match returned.error {
+            // Nick and channel are good, the number is one of the botnet, and no fault of a disk is planned.
+            Failure::Refused(_) => unreachable!(),
+            Failure::NoMemory => Err(NoMemory),
+        },
     }
 }
 

@@ -2,7 +2,7 @@
 ghost use Rattle.std.specs.Prelude.{◌≡◌, ◌<◌, ◌≤◌, [], ◌∷◌, ◌++◌, ℕ, Err, length, map, IfOk, OnOk};
 ghost use Rattle.script.specs.Reading.{HasFault};
 ghost use Rattle.script.specs.declared.TheConstants.{MAX_SCRIPT};
-ghost use Rattle.sharelink.specs.declared.TheConstants.{MAX_LEAVES};
+ghost use Rattle.linkcalls.specs.declared.TheConstants.{MAX_LEAVES};
 ghost use Rattle.botworld.specs.Standing.{Past, Stands};
 ghost use Rattle.replay.specs.Deeds.{Shows, Makes, command_deeds, deeds_of};
 ghost use Rattle.replay.specs.Doing.{Does, IsDoneFrom};
@@ -18,6 +18,7 @@ use procstore::{ProcStore, Promise, Run};
 use script::{Command, Script, ScriptError};
 use std::alloc::Global;
 use std::slice;
+use storage::Disk;
 
 /// The whole transcript of the script that these bytes spell, where its binds call the procs of this store.
 ///
@@ -58,10 +59,10 @@ fn text_of<P: Promise, B: Run>(
 }
 
 // Does commands in order, and adds what each prints.
-fn put_commands<P: Promise, B: Run>(
+fn put_commands<P: Promise, B: Run, D: Disk>(
     alloc: Global,
     text: &mut Vec<u8>,
-    world: &mut World<P, B>,
+    world: &mut World<P, B, D>,
     commands: &[Command],
 ) -> Result<(), NoMemory>
     ensures { OnOk result ((past : Past) → Stands P.code_of P.may world.old past
@@ -74,10 +75,10 @@ fn put_commands<P: Promise, B: Run>(
 }
 
 // Does a command, and adds what it prints.
-fn put_command<P: Promise, B: Run>(
+fn put_command<P: Promise, B: Run, D: Disk>(
     alloc: Global,
     text: &mut Vec<u8>,
-    world: &mut World<P, B>,
+    world: &mut World<P, B, D>,
     command: &Command,
 ) -> Result<(), NoMemory>
     ensures { OnOk result ((past : Past) → Stands P.code_of P.may world.old past
@@ -90,10 +91,10 @@ fn put_command<P: Promise, B: Run>(
 }
 
 // Adds what a bot is at.
-fn put_show<P: Promise, B: Run>(
+fn put_show<P: Promise, B: Run, D: Disk>(
     alloc: Global,
     text: &mut Vec<u8>,
-    world: &World<P, B>,
+    world: &World<P, B, D>,
     bot: u16,
 ) -> Result<(), NoMemory>
     ensures { OnOk result ((past : Past) → Stands P.code_of P.may world.now past
@@ -103,10 +104,10 @@ fn put_show<P: Promise, B: Run>(
 }
 
 // Makes steps in order, and adds what comes of each.
-fn put_steps<P: Promise, B: Run>(
+fn put_steps<P: Promise, B: Run, D: Disk>(
     alloc: Global,
     text: &mut Vec<u8>,
-    world: &mut World<P, B>,
+    world: &mut World<P, B, D>,
     steps: &[Step],
 ) -> Result<(), NoMemory>
     ensures { OnOk result ((past : Past) → Stands P.code_of P.may world.old past
@@ -119,10 +120,10 @@ fn put_steps<P: Promise, B: Run>(
 }
 
 // Makes a step, and adds what comes of it.
-fn put_step<P: Promise, B: Run>(
+fn put_step<P: Promise, B: Run, D: Disk>(
     alloc: Global,
     text: &mut Vec<u8>,
-    world: &mut World<P, B>,
+    world: &mut World<P, B, D>,
     step: &Step,
 ) -> Result<(), NoMemory>
     ensures { OnOk result ((past : Past) → Stands P.code_of P.may world.old past
