@@ -1,26 +1,22 @@
 // One bot.
 use crate::config::Config;
-use crate::fault::{BotError, BotFault};
+use crate::presence::Presence;
 use bindtable::BindTable;
 use botlink::BotLink;
 use bottimers::{Clock, Timers};
-use bytejournal::{Disks, JournalFault, Returned};
-use bytetext::Failure;
-use chanstate::ChanState;
 use outqueue::Queues;
-use std::alloc::Global;
-use storage::Disk;
 use std::marker::Model;
+use storage::Disk;
 use userfile::Userfile;
 
-/// A bot: its end of the sharing link, its binds, the channels that it is on, its clock, its timers, and its lines for the
+/// A bot: its end of the sharing link over a journal on two disks, its binds, the channels that it is on, its clock, its timers, and its lines for the
 /// server.
 #[derive(Drop)]
 pub struct Bot<D: Disk> {
     pub(crate) config: Config,
     pub(crate) link: BotLink<D>,
     pub(crate) binds: BindTable,
-    pub(crate) channels: ChanState,
+    pub(crate) channels: Presence,
     pub(crate) clock: Clock,
     pub(crate) timers: Timers,
     pub(crate) queues: Queues,
@@ -37,7 +33,7 @@ impl<D: Disk> Model for Bot<D> {
       config = b.config;
       link = b.link;
       binds = b.binds;
-      channels = b.channels;
+      channels = b.channels.current;
       clock = b.clock;
       timers = b.timers;
       queues = b.queues;
@@ -48,82 +44,18 @@ impl<D: Disk> Model for Bot<D> {
     ghost use Rattle.std.specs.Prelude.{◌≡◌};
     ghost use Rattle.bottimers.specs.Civil.{IsOffset};
     ghost use Rattle.outqueue.specs.Sending.{no_room};
+    ghost use Rattle.chanstate.specs.Views.{connected};
 
-    // No timer has seen a second that the clock has not, the clock has an offset of less than a day, and no room is kept for
-    // lines to come.
-    ghost invariant = { λ b. IsReached b.timers.last b.clock × IsOffset b.config.offset × (b.queues.room ≡ no_room) };
+    // No timer has seen a second that the clock has not, the clock has an offset of less than a day, no room is kept for
+    // lines to come, and what it goes back to when it leaves all channels is under its configuration's nick.
+    ghost invariant = { λ b. IsReached b.timers.last b.clock × IsOffset b.config.offset × (b.queues.room ≡ no_room)
+        × (b.channels.first ≡ connected b.config.nick) };
 }
 
 impl<D: Disk> Bot<D> {
-    ghost use Rattle.std.specs.Prelude.{◌≡◌, IfOk, OnOk, IfErr};
-    ghost use Rattle.botcore.specs.Configs.{IsGood};
+    ghost use Rattle.std.specs.Prelude.{◌≡◌};
+    ghost use Rattle.linknet.specs.Ends.{end_is_down};
     ghost use Rattle.botcore.specs.Links.{link_records, link_version};
-
-    /// A bot at version 0, without binds, that is on no channel, with its journal on two disks. What the disks held is lost.
-    ///
-    /// # Errors
-    /// With the disks: `BadConfig` (G1) where the configuration breaks a rule; `NoMemory` where it breaks none and room is
-    /// refused: nothing was written; `DiskFault` (J1) where a disk failed: what the disks hold is then unknown.
-    pub fn create(
-        alloc: Global,
-        config: Config,
-        first: D,
-        second: D,
-    ) -> Result<Bot<D>, Returned_<D>>
-    {
-        if let Some(fault) = config.refusal() {
-            return Err(Returned_::new(Failure::Refused(fault), first, second));
-        }
-        let Ok(channels) = ChanState::new(alloc, config.nick.as_bytes()) else {
-            return Err(Returned_::new(Failure::NoMemory, first, second));
-        };
-        match BotLink::create(alloc, first, second, config.number, config.leaves) {
-            Ok(link) => Ok(Bot::begun(alloc, config, channels, link)),
-            Err(returned) => Err(refused_by_link(returned)),
-        }
-    }
-
-    /// A bot whose journal is on two disks. Nothing is written.
-    ///
-    /// # Errors
-    /// With the disks, which hold what they held: `BadConfig` (G1); `DiskFault` (J1) where a read failed; `NotAJournal`
-    /// (J2) where they hold no journal of this bot; `NoMemory`.
-    pub fn open(
-        alloc: Global,
-        config: Config,
-        first: D,
-        second: D,
-    ) -> Result<Bot<D>, Returned_<D>>
-    {
-        if let Some(fault) = config.refusal() {
-            return Err(Returned_::new(Failure::Refused(fault), first, second));
-        }
-        let Ok(channels) = ChanState::new(alloc, config.nick.as_bytes()) else {
-            return Err(Returned_::new(Failure::NoMemory, first, second));
-        };
-        match BotLink::open(alloc, first, second, config.number, config.leaves) {
-            Ok(link) => Ok(Bot::begun(alloc, config, channels, link)),
-            Err(returned) => Err(refused_by_link(returned)),
-        }
-    }
-
-    fn begun(alloc: Global, config: Config, channels: ChanState, link: BotLink<D>) -> Bot<D> {
-        Bot {
-            config,
-            link,
-            binds: BindTable::new(alloc),
-            channels,
-            clock: Clock::new(),
-            timers: Timers::new(alloc),
-            queues: Queues::new(alloc),
-            welcomed: false,
-        }
-    }
-
-    /// The two disks, in the order in which they were given.
-    pub fn into_disks(self) -> Disks<D> {
-        self.link.into_disks()
-    }
 
     /// What it was told before it was made.
     pub fn config(&self) -> &Config
@@ -132,7 +64,7 @@ impl<D: Disk> Bot<D> {
         &self.config
     }
 
-    /// The version of its userfile: how many changes the hub has accepted, or the leaf has applied.
+    /// The version of its userfile: how many changes the hub has accepted, or the number of the last one that the leaf holds.
     pub fn version(&self) -> u32
         ensures { result ≡ link_version self.now.link }
     {
@@ -145,37 +77,12 @@ impl<D: Disk> Bot<D> {
     {
         self.link.userfile()
     }
-}
 
-// Why the link was not made or found, as a bot tells it.
-fn refused_by_link<D: Disk>(returned: Returned<D>) -> Returned_<D> {
-    let why = match returned.error {
-        Failure::Refused(JournalFault::DiskFault) => Failure::Refused(BotFault::DiskFault),
-        Failure::Refused(JournalFault::NotAJournal | JournalFault::Spent | JournalFault::GenerationsSpent) => {
-            Failure::Refused(BotFault::NotAJournal)
-        }
-        Failure::NoMemory => Failure::NoMemory,
-    };
-    Returned_ {
-        why,
-        disks: returned.disks,
-    }
-}
-
-/// Disks on which no bot was made or found, as they were handed in.
-#[derive(Drop)]
-pub struct Returned_<D: Disk> {
-    /// Why.
-    pub why: BotError,
-    /// The disks.
-    pub disks: Disks<D>,
-}
-
-impl<D: Disk> Returned_<D> {
-    fn new(why: BotError, first: D, second: D) -> Returned_<D> {
-        Returned_ {
-            why,
-            disks: Disks { first, second },
-        }
+    /// Whether a disk failed, or a restart did not end, since its journal was last opened. Until a restart its end of the link
+    /// takes nothing: no ask, no pump, no packet and no compaction. Lines, readings and binds go on.
+    pub fn is_down(&self) -> bool
+        ensures { result ≡ end_is_down self.now.link.end }
+    {
+        self.link.is_down()
     }
 }

@@ -10,12 +10,12 @@ use crate::report::Faults;
 use botcalls::{Dispatch, MadeCall, Occasion, Scene, Unbound, call_procs};
 use bottimers::Timers;
 use bytetext::{NoMemory, Seq, Texts, TryCopy};
+use linkcalls::Outgoings;
 use outqueue::Queues;
 use procstore::{ProcStore, Promise, Run};
-use linkcalls::Outgoings;
 use std::alloc::Global;
-use storage::Disk;
 use std::mem;
+use storage::Disk;
 
 // What actions leave, beside the link and the queues.
 #[derive(Drop)]

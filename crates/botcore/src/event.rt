@@ -17,7 +17,7 @@ pub enum Event {
     Ask(Change),
     /// The next piece of the link's work is to be done.
     Pump,
-    /// A packet comes over the link.
+    /// A packet comes over the link. The records of a part are of good shape, as those that are read are.
     Receive(Packet),
     /// The clock reads this many seconds since 1970-01-01 00:00 UTC.
     Clock(u64),
@@ -25,9 +25,9 @@ pub enum Event {
     Bind(NewBind),
     /// A bind is to be taken away.
     Unbind(OldBind),
-    /// The journal is to have the state alone.
+    /// The journal is to have the state alone, in its next generation.
     Compact,
-    /// It ends and begins again, from its journal. All else but its binds is lost.
+    /// The bot ends, its disks crash, and it begins again with what its journal has.
     Restart,
 }
 

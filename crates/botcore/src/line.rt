@@ -62,7 +62,7 @@ impl<D: Disk> Bot<D> {
         ensures { IsDispatched (bot_setting P.code_of store.now self.now) P.may
             (map (λ e. heard_event e) (events_of message.now self.now.channels)) result }
     {
-        match heard_of(alloc, message, &self.channels) {
+        match heard_of(alloc, message, self.channels.current()) {
             Ok(occasions) => self.call_procs(alloc, store, occasions.as_slice()),
             Err(NoMemory) => Err(Dispatch::new(alloc)),
         }

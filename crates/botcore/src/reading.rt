@@ -12,8 +12,8 @@ use bottimers::{Clock, ClockFault, Timers};
 use bytetext::{MOMENTS_END, NoMemory, Seq, Texts, TryCopy};
 use procstore::{ProcStore, Promise, Run};
 use std::alloc::Global;
-use storage::Disk;
 use std::mem;
+use storage::Disk;
 
 // What the seconds of a reading bring, and the clock and the timers after them.
 #[derive(Drop)]

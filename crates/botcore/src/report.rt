@@ -18,7 +18,7 @@ pub enum End {
     Done,
     /// A rule stands against it.
     Refused(Refusal),
-    /// A growth was refused, and the bot is as it was.
+    /// A growth was refused, and the bot is as it was; its end of the link is down where it was to restart.
     NoMemory,
 }
 
