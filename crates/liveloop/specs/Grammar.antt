@@ -2,7 +2,7 @@
 -- what the network itself does in a live botnet.
 use Rattle.std.specs.Prelude.{ℕ, List, [], ◌∷◌, Option, None, Some}
 use Rattle.botcore.specs.declared.event.Event.{Event}
-use Rattle.botcore.specs.declared.event.Event.TheVariants.{Connect, Line, Ask, Pump, Receive, Clock, Bind, Unbind}
+use Rattle.botcore.specs.declared.event.Event.TheVariants.{Connect, Line, Ask, Pump, Receive, Clock, Bind, Unbind, Compact, Restart}
 use Rattle.botworld.specs.declared.step.Step.{Step}
 use Rattle.botworld.specs.declared.step.Step.TheVariants.{At, Deliver}
 use Rattle.script.specs.Grammar.{saying_of as replay_saying_of}
@@ -24,6 +24,8 @@ shared_event bot (Ask change) = Told (Tell bot (Ask change))
 shared_event bot Pump = Told (Tell bot Pump)
 shared_event bot (Bind bind) = Told (Tell bot (Bind bind))
 shared_event bot (Unbind bind) = Told (Tell bot (Unbind bind))
+shared_event bot Compact = Told (Tell bot Compact)
+shared_event bot Restart = Told (Tell bot Restart)
 shared_event bot (Line line) = Wrong
 shared_event bot (Receive packet) = Wrong
 shared_event bot (Clock now) = Wrong

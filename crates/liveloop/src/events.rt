@@ -6,17 +6,18 @@ use bytetext::NoMemory;
 use ircline::LineReader;
 use loopback::Peer;
 use procstore::{ProcStore, Promise, Run};
-use sharelink::Outgoings;
+use linkcalls::Outgoings;
 use std::alloc::Global;
+use storage::Disk;
 
 /// Does one step of a bot. What its lines to the server and its notes are is not told here: lines go with the clock, and
 /// the clock with [`hear`].
 ///
 /// # Errors
 /// `NoMemory` where the step ended so.
-pub fn tell<P: Promise, B: Run>(
+pub fn tell<P: Promise, B: Run, D: Disk>(
     alloc: Global,
-    bot: &mut Bot,
+    bot: &mut Bot<D>,
     store: &ProcStore<P, B>,
     event: Event,
 ) -> Result<Outgoings, NoMemory> {
@@ -34,9 +35,9 @@ fn packets_of(report: Report) -> Result<Outgoings, NoMemory> {
 ///
 /// # Errors
 /// `NoMemory` where a growth was refused.
-pub fn hear<P: Promise, B: Run>(
+pub fn hear<P: Promise, B: Run, D: Disk>(
     alloc: Global,
-    bot: &mut Bot,
+    bot: &mut Bot<D>,
     store: &ProcStore<P, B>,
     lines: &mut LineReader,
     irc: &mut Peer,

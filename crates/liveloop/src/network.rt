@@ -5,11 +5,12 @@ use crate::moment::Moment;
 use crate::seat::Seat;
 use botcore::{Bot, Event};
 use bytetext::NoMemory;
+use disks::MemDisk;
 use ircline::LineReader;
 use loopback::{House, LinkHouse, Peer, Uplink, local};
 use mio::net::TcpStream;
 use procstore::{ProcStore, Promise, Run};
-use sharelink::Outgoings;
+use linkcalls::Outgoings;
 use std::alloc::Global;
 use std::io;
 use std::net::{Net, SocketAddr};
@@ -57,7 +58,7 @@ impl Network {
         &mut self,
         rt: &R,
         store: &ProcStore<P, B>,
-        bot: Bot,
+        bot: Bot<MemDisk>,
     ) -> Result<(), LiveError> {
         let irc = TcpStream::connect(rt, self.server)?;
         let uplink = if self.seats.is_empty() {

@@ -80,9 +80,12 @@ fn shared_event(bot: u16, event: Event) -> Saying
 {
     match event {
         Event::Connect => Saying::Told(Command::Connect(bot)),
-        Event::Ask(_) | Event::Pump | Event::Bind(_) | Event::Unbind(_) => {
-            Saying::Told(Command::Tell { bot, event })
-        }
+        Event::Ask(_)
+        | Event::Pump
+        | Event::Bind(_)
+        | Event::Unbind(_)
+        | Event::Compact
+        | Event::Restart => Saying::Told(Command::Tell { bot, event }),
         Event::Line(_) | Event::Receive(_) | Event::Clock(_) => Saying::Wrong,
     }
 }

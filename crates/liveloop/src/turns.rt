@@ -5,7 +5,7 @@ use crate::network::Network;
 use botcore::Event;
 use bytetext::{NoMemory, Seq};
 use procstore::{ProcStore, Promise, Run};
-use sharelink::Outgoings;
+use linkcalls::Outgoings;
 use sharewire::Packet;
 use std::alloc::Global;
 use std::net::Net;
