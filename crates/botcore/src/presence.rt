@@ -1,6 +1,6 @@
 // The channels that a bot is on, and how it leaves them all without memory.
 
-use bytetext::NoMemory;
+use bytetext::{NoMemory, TryCopy};
 use chanstate::ChanState;
 use ircline::Message;
 use std::alloc::Global;
