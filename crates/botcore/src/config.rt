@@ -8,8 +8,8 @@ use crate::fault::BotFault;
 use crate::limits::MAX_NICK;
 use bottimers::MAX_OFFSET;
 use bytetext::{NoMemory, Text, Texts, TryCopy};
+use linkcalls::MAX_LEAVES;
 use rfccase::is_channel_name;
-use sharelink::MAX_LEAVES;
 use std::alloc::Global;
 
 /// What a bot is told before it is made.

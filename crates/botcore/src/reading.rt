@@ -13,6 +13,7 @@ use bytetext::{MOMENTS_END, NoMemory, Seq, Texts, TryCopy};
 use procstore::{ProcStore, Promise, Run};
 use std::alloc::Global;
 use std::mem;
+use storage::Disk;
 
 // What the seconds of a reading bring, and the clock and the timers after them.
 #[derive(Drop)]
@@ -22,7 +23,7 @@ struct Ran {
     occasions: Vec<Occasion>,
 }
 
-impl Bot {
+impl<D: Disk> Bot<D> {
     ghost use Rattle.std.specs.Prelude.{◌≡◌, ◌≤◌, ◌<◌, [], false, Some, length, IfOk, IsOk, OnOk, OnErr};
     ghost use Rattle.bytetext.specs.declared.moment.TheConstants.{MOMENTS_END as end_of_moments};
     ghost use Rattle.botcore.specs.Rising.{IsReached};
