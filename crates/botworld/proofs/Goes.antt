@@ -2,6 +2,7 @@
 use Rattle.std.proofs.Common.{◌≡◌, inl, inr, ℕ, zero, suc, ◌≤◌, Bool, true, false, ◌&&◌, if◌then◌else◌, List, [], ◌++◌}
 use Rattle.std.proofs.Common.{length, slice_get, slice_set, Option, None, Some, Result, Ok, Err, refl, ap, sym, subst, ◌∙◌}
 use Rattle.std.proofs.lemmas.List.{length-set, append-nil}
+use Rattle.protocol.specs.Numbers.{item_at}
 use Rattle.protocol.specs.Packets.{Sent as LinkSent, from_wire}
 use Rattle.protocol.specs.History.{Grows}
 use Rattle.protocol.specs.Truth.{IsKeptAnswer, AllSent}
@@ -10,6 +11,7 @@ use Rattle.protocol.proofs.Growing.{Grows-refl}
 use Rattle.protocol.proofs.Truth.{AllSent-posted}
 use Rattle.linkcalls.specs.Calls.{outgoings_of}
 use Rattle.linknet.specs.Ends.{End as LinkEnd}
+use Rattle.linknet.specs.Nets.{IsMoment}
 use Rattle.procstore.specs.declared.action.Action.{Action}
 use Rattle.procstore.specs.declared.call.Call.{Call}
 use Rattle.procstore.specs.declared.reply.Code.{Code}
@@ -22,7 +24,6 @@ use Rattle.botworld.specs.declared.step.Step.{Step}
 use Rattle.botworld.specs.declared.step.Step.TheVariants.{At, Deliver}
 use Rattle.botworld.specs.declared.outcome.Outcome.{Outcome}
 use Rattle.botworld.specs.declared.outcome.Outcome.TheVariants.{Report as reported, NoSuchBot, NoSuchPacket}
-use Rattle.botworld.specs.Links.{AreSound}
 use Rattle.botworld.specs.Net.{Net, is_bot, is_packet, part_at, told_at, delivered, part_of, packet_at, posted, TakesPart, Comes, NetStep}
 use Rattle.botworld.specs.Network.{State, ends_of, sent_as, all_sent, IsPlacedAt, IsSound, NeverBack, Follows, IsFine, GrowsAsToldBy, AnswersAsKept, LawfulStep}
 use Rattle.botworld.proofs.Lists.{slice_get-set}
@@ -125,9 +126,9 @@ told_at-sent sent w bot event part e = by (is_bot w bot) refl (is_packet event) 
     by false there true sent e = let none : part_at w bot event ≡ Err NoSuchBot = rw there refl in let bad = sym none ∙ e in cc
 
 packet_at-sent : (packets : List Sent) (k : ℕ) (sent : Sent) → packet_at packets k ≡ Some sent
-    → (number : ℕ) × (slice_get (all_sent packets) number ≡ Some (sent_as sent))
+    → item_at (all_sent packets) k ≡ Some (sent_as sent)
 packet_at-sent packets zero sent e = cc
-packet_at-sent packets (suc number) sent e = (number, all_sent-get packets number sent e)
+packet_at-sent packets (suc number) sent e = all_sent-get packets number sent e
 
 part_of-sent : (w : Net) (step : Step) (part : Part) → part_of w step ≡ Ok part → WasSent (all_sent w.packets) part
 part_of-sent w (At bot event) part e = told_at-sent (all_sent w.packets) w bot event part e
@@ -137,7 +138,7 @@ part_of-sent w (Deliver k) part e = by (packet_at w.packets k) refl e
     by None at e = cc
     by (Some sent) at e =
         let found = packet_at-sent w.packets k sent at in
-        subst (WasSent (all_sent w.packets)) (part_at-is w sent.to (Receive sent.packet) part e) (found.0, sent.from, found.1)
+        subst (WasSent (all_sent w.packets)) (part_at-is w sent.to (Receive sent.packet) part e) (k, sent.from, found)
 
 -- ---- what it leaves
 
@@ -159,9 +160,9 @@ taken_goes code_of may s step o w sound part is t =
     let out : all_sent sent ≡ link_posted part.bot (outgoings_of t.report.packets) = all_sent-posted part.bot t.report.packets in
     let packets : all_sent s.net.packets ++ link_posted part.bot (outgoings_of t.report.packets) ≡ all_sent (s.net.packets ++ sent) =
     ap (λ (ps : List LinkSent). all_sent s.net.packets ++ ps) (sym out) ∙ sym (all_sent-append s.net.packets sent) in
-    let links : AreSound g.after (ends_of bots) (all_sent (s.net.packets ++ sent)) =
-    subst (λ (ps : List LinkSent). AreSound g.after (ends_of bots) ps) packets
-    (subst (λ (es : List LinkEnd). AreSound g.after es (all_sent s.net.packets ++ link_posted part.bot (outgoings_of t.report.packets)))
+    let links : IsMoment (ends_of bots) (all_sent (s.net.packets ++ sent)) g.after =
+    subst (λ (ps : List LinkSent). IsMoment (ends_of bots) ps g.after) packets
+    (subst (λ (es : List LinkEnd). IsMoment es (all_sent s.net.packets ++ link_posted part.bot (outgoings_of t.report.packets)) g.after)
     (sym (ends_of-set s.net.bots part.bot t.after)) g.sound) in
     let sound' : IsSound after = record {
       links = links;

@@ -1,5 +1,5 @@
 -- What a done step has done, beside what follows from it: a leaf's next change is applied, and an ask that is taken is accepted.
-use Rattle.std.proofs.Common.{◌≡◌, ℕ, zero, suc, ◌+◌, ◌≤◌, nat_lt, Bool, true, false, not, ◌||◌, ◌==◌, if◌then◌else◌, List, [], ◌∷◌, ◌++◌, drop}
+use Rattle.std.proofs.Common.{◌≡◌, inl, inr, ℕ, zero, suc, ◌+◌, ◌≤◌, nat_lt, Bool, true, false, not, ◌||◌, ◌==◌, if◌then◌else◌, List, [], ◌∷◌, ◌++◌, drop}
 use Rattle.std.proofs.Common.{length, slice_get, Option, None, Some, Result, Ok, Err, refl, ap, sym, subst, ◌∙◌, arith}
 use Rattle.std.proofs.lemmas.Bool.{lt-ltb}
 use Rattle.std.proofs.lemmas.Option.{slice_get_within}
@@ -33,6 +33,7 @@ use Rattle.linkcalls.specs.declared.error.LinkFault.{LinkFault}
 use Rattle.linkcalls.specs.Calls.{note_of}
 use Rattle.linkcalls.specs.Meets.{Answers}
 use Rattle.linknet.specs.Ends.{End as LinkEnd, AtHub, AtLeaf, end_asks, end_version}
+use Rattle.linknet.specs.Nets.{leaf_ends, ends_of as ends_in, MovesAsTold}
 use Rattle.botlink.specs.Links.{BotEnd, did, took, Calls}
 use Rattle.procstore.specs.declared.action.Action.{Action}
 use Rattle.procstore.specs.declared.call.Call.{Call}
@@ -53,7 +54,6 @@ use Rattle.botworld.specs.declared.sent.Sent.{Sent}
 use Rattle.botworld.specs.declared.step.Part.{Part}
 use Rattle.botworld.specs.declared.step.Step.{Step}
 use Rattle.botworld.specs.declared.outcome.Outcome.{Outcome}
-use Rattle.botworld.specs.Links.{leaf_ends, ends_in}
 use Rattle.botworld.specs.Net.{Net, is_bot, part_at, told_at, delivered, part_of, packet_at, TakesPart, Comes, NetStep, shown_version}
 use Rattle.botworld.specs.Network.{State, accepted_by, ends_of, IsSound, waiting_at, IsDone, HasNote, AppliesNext, AcceptsNext, GrowsByNote, GrowsAsToldBy}
 use Rattle.botworld.proofs.Lists.{slice_get-set-same, same_behind}
@@ -131,14 +131,14 @@ leaf_at (x ∷ leaves) (suc place) e at = leaf_at leaves place e at
 
 leaf_of : (s : State) → IsSound s → (place : ℕ) (b : Bot) → slice_get s.net.bots (suc place) ≡ Some b → (leaf : Leaf) × (b.link.end ≡ AtLeaf leaf)
 leaf_of s sound place b at =
-    let here : slice_get (ends_in sound.links.links) (suc place) ≡ Some b.link.end =
-    subst (λ (es : List LinkEnd). slice_get es (suc place) ≡ Some b.link.end) sound.links.ends (ends_of-get s.net.bots (suc place) b at) in
-    leaf_at sound.links.links.leaves place b.link.end here
+    let here : slice_get (ends_in sound.links.net) (suc place) ≡ Some b.link.end =
+    subst (λ (es : List LinkEnd). slice_get es (suc place) ≡ Some b.link.end) sound.links.ends_are (ends_of-get s.net.bots (suc place) b at) in
+    leaf_at sound.links.net.leaves place b.link.end here
 
-hub_of : (s : State) → (sound : IsSound s) → (b : Bot) → slice_get s.net.bots 0 ≡ Some b → b.link.end ≡ AtHub sound.links.links.hub
+hub_of : (s : State) → (sound : IsSound s) → (b : Bot) → slice_get s.net.bots 0 ≡ Some b → b.link.end ≡ AtHub sound.links.net.hub
 hub_of s sound b at =
-    let here : slice_get (ends_in sound.links.links) 0 ≡ Some b.link.end =
-    subst (λ (es : List LinkEnd). slice_get es 0 ≡ Some b.link.end) sound.links.ends (ends_of-get s.net.bots 0 b at) in
+    let here : slice_get (ends_in sound.links.net) 0 ≡ Some b.link.end =
+    subst (λ (es : List LinkEnd). slice_get es 0 ≡ Some b.link.end) sound.links.ends_are (ends_of-get s.net.bots 0 b at) in
     cc
 
 -- a change is no text
@@ -269,9 +269,15 @@ last_is old new before now last c was is floor kept grown =
     grown ∙ ap (λ (es : List AcceptedChange). before.accepted ++ es) both
 
 -- one more was accepted where the hub tells so
-grown_one : (told : Option Note) (number : ℕ) (then now : List AcceptedChange) → told ≡ Some (link_note (note.Accepted number))
-    → GrowsByNote 0 told then now → (last : AcceptedChange) × (now ≡ then ++ last ∷ [])
-grown_one told number then now e grows = (subst (λ (n : Option Note). GrowsByNote 0 n then now) e grows).0
+grown_one : (told : Option Note) (number : ℕ) (old new : List AcceptedChange) → told ≡ Some (link_note (note.Accepted number))
+    → GrowsByNote 0 told old new → (last : AcceptedChange) × (new ≡ old ++ last ∷ [])
+grown_one told number old new e grows =
+    let moves : MovesAsTold old new 0 (Ok (meaning.Accepted number)) = subst (λ (n : Option Note). GrowsByNote 0 n old new) e grows in
+    let more = moves.accepted number refl refl in
+    elim moves.stay_or_grow [
+      | inl same ↦ absurd (omega (arith, more.0, more.1, ap (λ (l : List AcceptedChange). length l) same))
+      | inr one ↦ (one.0, one.1)
+    ]
 
 -- the ask that a done pump takes, and the records take, is accepted
 pub accepts_next : (code_of : List ℕ → Call → Code) (may : List ℕ → Call → List Action → Type 0) (old : State) (step : Step) (o : Outcome) (new : State)
@@ -287,7 +293,7 @@ accepts_next code_of may old step o new sound sound' grown rule change rest is w
     served : (b : Bot) → slice_get old.net.bots 0 ≡ Some b → (t : TakesPart code_of may old.net (record { bot = 0; event = Pump }) o new.net)
         → t.was ≡ b → t.report.end ≡ Done → end_asks b.link.end ≡ change ∷ rest → Accepted
     served b here t same end waits =
-        let links = sound.links.links in
+        let links = sound.links.net in
         let hub = links.hub in
         let leaves = t.was.link.leaves in
         let at : t.was.link.end ≡ AtHub hub = ap (λ (b : Bot). b.link.end) same ∙ hub_of old sound b here in
@@ -309,14 +315,14 @@ accepts_next code_of may old step o new sound sound' grown rule change rest is w
         let by_note : GrowsAsToldBy old o new = grown in
         let told_so = subst (λ (x : Outcome). GrowsAsToldBy old x new) t.told by_note in
         let one = grown_one t.report.note (length (accepted_by old) + 1) (accepted_by old) (accepted_by new) note told_so in
-        let now : AtHub sound'.links.links.hub ≡ AtHub (hub_pumped leaves Works hub).after =
+        let now : AtHub sound'.links.net.hub ≡ AtHub (hub_pumped leaves Works hub).after =
         sym (hub_of new sound' t.after (after_at code_of may old.net _ o new.net t)) ∙ a.after ∙ left in
-        let hub' : sound'.links.links.hub ≡ (hub_pumped leaves Works hub).after = cc in
-        let kept : sound'.links.links.hub.kept ≡ hub_folded hub.kept (Accept (own change)) =
+        let hub' : sound'.links.net.hub ≡ (hub_pumped leaves Works hub).after = cc in
+        let kept : sound'.links.net.hub.kept ≡ hub_folded hub.kept (Accept (own change)) =
         ap (λ (h : Hub). h.kept) hub' ∙ pump_keeps leaves hub change rest (note_of a.answer.note) asks takes' says in
         (
           has,
-          last_is hub.kept sound'.links.links.hub.kept old.links.hub.kept new.links.hub.kept one.0 (own change) sound.links.stands.hub.kept
+          last_is hub.kept sound'.links.net.hub.kept old.links.hub.kept new.links.hub.kept one.0 (own change) sound.links.stands.hub.kept
           sound'.links.stands.hub.kept sound.links.sound.hub.kept.floor kept one.1,
         )
 

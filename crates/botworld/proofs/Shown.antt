@@ -14,11 +14,11 @@ use Rattle.protocol.proofs.Holding.{holds, same_records, versions_grow}
 use Rattle.protocol.proofs.Lists.{records_of-more}
 use Rattle.linkcalls.specs.declared.answer.Outgoing.{Outgoing}
 use Rattle.linkcalls.specs.Calls.{outgoing_of, outgoings_of}
-use Rattle.linknet.specs.Ends.{End as LinkEnd, AtHub, AtLeaf, end_version, end_records}
+use Rattle.linknet.specs.Ends.{End as LinkEnd, end_version, end_records}
+use Rattle.linknet.specs.Nets.{leaf_ends, ends_of as ends_in}
 use Rattle.botcore.specs.Bots.{Bot}
 use Rattle.botcore.specs.Links.{link_version, link_records}
 use Rattle.botworld.specs.declared.sent.Sent.{Sent}
-use Rattle.botworld.specs.Links.{leaf_ends, ends_in, AreSound}
 use Rattle.botworld.specs.Net.{Net, posted, shown_version, shown_records}
 use Rattle.botworld.specs.Network.{State, accepted_by, ends_of, sent_as, all_sent, IsSound, NeverBack, KeepsPromises}
 use Rattle.botworld.specs.Standing.{SameRecords}
@@ -88,21 +88,21 @@ records_in links (suc i) = leaf_records links.leaves i
 
 module _ (s : State) (sound : IsSound s) where
   links : LinkNet
-  links = sound.links.links
+  links = sound.links.net
 
   pub all_hold : Holds links s.links
   all_hold = holds links s.links sound.links.stands sound.links.sound
 
   pub keeps_promises : KeepsPromises s
-  keeps_promises = record { links = links; ends = sound.links.ends; packets = sound.links.packets; holds = all_hold }
+  keeps_promises = record { links = links; ends = sound.links.ends_are; packets = sound.links.packets_are; holds = all_hold }
 
   pub version_is : (i : ℕ) → shown_version s.net i ≡ link_shows_version links i
   version_is i =
-      version_of_end s.net.bots i ∙ ap (λ (es : List LinkEnd). option_map end_version (slice_get es i)) sound.links.ends ∙ version_in links i
+      version_of_end s.net.bots i ∙ ap (λ (es : List LinkEnd). option_map end_version (slice_get es i)) sound.links.ends_are ∙ version_in links i
 
   pub records_are : (i : ℕ) → shown_records s.net i ≡ link_shows_records links i
   records_are i =
-      records_of_end s.net.bots i ∙ ap (λ (es : List LinkEnd). option_map end_records (slice_get es i)) sound.links.ends ∙ records_in links i
+      records_of_end s.net.bots i ∙ ap (λ (es : List LinkEnd). option_map end_records (slice_get es i)) sound.links.ends_are ∙ records_in links i
 
   -- a bot that shows a version shows the records of that version
   pub shown_at : (i v : ℕ) → shown_version s.net i ≡ Some v
