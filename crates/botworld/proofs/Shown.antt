@@ -4,14 +4,14 @@ use Rattle.std.proofs.Common.{Option, None, Some, refl, ap, sym, subst, ◌∙�
 use Rattle.std.proofs.lemmas.Option.{slice_get_within}
 use Rattle.std.specs.Option.{option_map}
 use Rattle.userfile.specs.Records.{Records}
-use Rattle.protocol.specs.Packets.{Sent as LinkSent, from_wire}
+use Rattle.protocol.specs.Packets.{Packet, Sent as LinkSent, from_wire}
 use Rattle.protocol.specs.LeafRules.{Leaf}
-use Rattle.protocol.specs.History.{History, records_of, Grows}
+use Rattle.protocol.specs.History.{asked_of, records_of, Grows}
 use Rattle.protocol.specs.Truth.{IsTrue}
 use Rattle.protocol.specs.Network.{Net as LinkNet, posted as link_posted}
 use Rattle.protocol.specs.Claims.{Holds, shown_version as link_shows_version, shown_records as link_shows_records}
 use Rattle.protocol.proofs.Holding.{holds, same_records, versions_grow}
-use Rattle.protocol.proofs.Lists.{records_of-more}
+use Rattle.protocol.proofs.Truth.{AllSent-at}
 use Rattle.linkcalls.specs.declared.answer.Outgoing.{Outgoing}
 use Rattle.linkcalls.specs.Calls.{outgoing_of, outgoings_of}
 use Rattle.linknet.specs.Ends.{End as LinkEnd, end_version, end_records}
@@ -19,8 +19,8 @@ use Rattle.linknet.specs.Nets.{leaf_ends, ends_of as ends_in}
 use Rattle.botcore.specs.Bots.{Bot}
 use Rattle.botcore.specs.Links.{link_version, link_records}
 use Rattle.botworld.specs.declared.sent.Sent.{Sent}
-use Rattle.botworld.specs.Net.{Net, posted, shown_version, shown_records}
-use Rattle.botworld.specs.Network.{State, accepted_by, ends_of, sent_as, all_sent, IsSound, NeverBack, KeepsPromises}
+use Rattle.botworld.specs.Net.{Net, packet_at, posted, shown_version, shown_records}
+use Rattle.botworld.specs.Network.{State, accepted_by, ends_of, sent_as, all_sent, IsSound, IsTruePacket, NeverBack, KeepsPromises}
 use Rattle.botworld.specs.Standing.{SameRecords}
 
 -- ---- the ends of bots
@@ -110,6 +110,16 @@ module _ (s : State) (sound : IsSound s) where
   shown_at i v e =
       let shows : link_shows_version links i ≡ Some v = sym (version_is i) ∙ e in
       (all_hold.within i v shows, records_are i ∙ all_hold.records i ∙ ap (option_map (records_of (accepted_by s))) shows)
+
+  -- a packet that was sent is true
+  pub sent_is_true : (number : ℕ) (sent : Sent) → packet_at s.net.packets number ≡ Some sent → IsTruePacket s sent
+  sent_is_true zero sent e = cc
+  sent_is_true (suc place) sent e =
+      let says : Packet → Type 0 = IsTrue s.links.hub.kept (asked_of s.links.leaves) in
+      let here : slice_get s.links.packets place ≡ Some (sent_as sent) =
+      ap (λ (ps : List LinkSent). slice_get ps place) (sym sound.links.stands.packets ∙ sym sound.links.packets_are)
+      ∙ all_sent-get s.net.packets place sent e in
+      AllSent-at says s.links.packets (suc place) (sent_as sent) sound.links.sound.packets here
 
 -- ---- two moments
 
