@@ -1,5 +1,6 @@
 pub mod Lists
 pub mod Growing
+pub mod Good
 pub mod Shown
 pub mod BotEnds
 pub mod Acts
