@@ -46,8 +46,8 @@ told old to text = did old (Tell to text) Works
 -- ---- calls
 
 -- a call meets its row, and the bot stays who it is
-pub record Calls (old : BotEnd) (row : How → Row End) (result : Result Answer (Failure LinkFault)) (new : BotEnd) : Type 0 where
-  pub row : Meets row old.end old.failures result new.end new.failures
+pub record Calls (old : BotEnd) (rule : How → Row End) (result : Result Answer (Failure LinkFault)) (new : BotEnd) : Type 0 where
+  pub row : Meets rule old.end old.failures result new.end new.failures
   pub number : new.number ≡ old.number
   pub leaves : new.leaves ≡ old.leaves
 

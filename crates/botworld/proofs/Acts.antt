@@ -33,29 +33,13 @@ use Rattle.linkcalls.specs.declared.error.LinkFault.TheVariants.{TextsFull}
 use Rattle.linkcalls.specs.declared.TheConstants.{MAX_TEXTS}
 use Rattle.linkcalls.specs.Calls.{outgoing_of, outgoings_of}
 use Rattle.linknet.specs.Ends.{End as LinkEnd, AtHub, AtLeaf, of_hub, of_leaf, end_did}
+use Rattle.linknet.specs.Nets.{IsMoment, RowFollows}
 use Rattle.botlink.specs.Links.{BotEnd, did, asked, told}
 use Rattle.botcore.specs.Acting.{Acting, acted, acted_all, asked_if, timer_of, made_unless, killed_if, sent_if, put_unless}
 use Rattle.botcore.specs.Links.{fault_told, packet_told, outgoing_told, text_sent}
-use Rattle.botworld.specs.Links.{AreSound, GrowsAtHub, GrowsAs, GrowsAsTold}
-use Rattle.botworld.proofs.Ends.{EndGoes}
-use Rattle.botworld.proofs.BotEnds.{IsAmong, did_row, set-same, set-set, get-set, posted-append, outgoings_of-append}
+use Rattle.botworld.proofs.BotEnds.{IsQuiet, refused_is_quiet, queued_is_quiet, relayed_is_quiet, IsAmong, did_row, set-same, set-set, get-set, posted-append, outgoings_of-append}
 
 -- ---- rows that accept nothing
-
--- what is told so accepts no change
-abbrev IsQuiet : Result Meaning Meant → Type 0
-IsQuiet told = (place : ℕ) (old new : List AcceptedChange) → GrowsAsTold place told old new → new ≡ old
-
-queued_is_quiet : IsQuiet (Ok Queued)
-queued_is_quiet zero old new same = same
-queued_is_quiet (suc place) old new same = same
-
-relayed_is_quiet : IsQuiet (Ok Relayed)
-relayed_is_quiet zero old new same = same
-relayed_is_quiet (suc place) old new same = same
-
-refused_is_quiet : (fault : Meant) → IsQuiet (Err fault)
-refused_is_quiet fault place old new same = same
 
 -- an ask sends nothing
 record IsAskRow {S : Type 0} (row : Row S) : Type 0 where
@@ -143,7 +127,7 @@ outgoings_are (o ∷ os) =
 -- accepted
 pub record ActsGo (h : History) (all : List LinkEnd) (sent : List Sent) (place : ℕ) (old : BotEnd) (acting : Acting) : Type 0 where
   pub after : History
-  pub sound : AreSound after (slice_set all place acting.link.end) (sent ++ posted place (outgoings_of acting.sent))
+  pub sound : IsMoment (slice_set all place acting.link.end) (sent ++ posted place (outgoings_of acting.sent)) after
   pub grows : Grows h after
   pub count : after.count ≡ h.count
   pub answers : (hub : PastHub) → AllOutgoing (IsKeptAnswer hub) (outgoings_of acting.sent)
@@ -161,8 +145,8 @@ module _ (h : History) (all : List LinkEnd) (sent : List Sent) (place : ℕ) (ol
       ap (λ (os : List Outgoing). sent ++ posted place (outgoings_of os)) none ∙ append-nil sent in
       record {
         after = h;
-        sound = subst (λ (es : List LinkEnd). AreSound h es (sent ++ posted place (outgoings_of acting.sent))) (sym ends)
-            (subst (λ (ps : List Sent). AreSound h all ps) (sym packets) among.sound);
+        sound = subst (λ (es : List LinkEnd). IsMoment es (sent ++ posted place (outgoings_of acting.sent)) h) (sym ends)
+            (subst (λ (ps : List Sent). IsMoment all ps h) (sym packets) among.sound);
         grows = Grows-refl h;
         count = refl;
         answers = λ hub. subst (λ (os : List Outgoing). AllOutgoing (IsKeptAnswer hub) (outgoings_of os)) (sym none) tt;
@@ -186,8 +170,8 @@ module _ (h : History) (all : List LinkEnd) (sent : List Sent) (place : ℕ) (ol
       → ActsGo h all sent place old new
   same_go acting new link packets goes = record {
     after = goes.after;
-    sound = subst (λ (os : List Outgoing). AreSound goes.after (slice_set all place new.link.end) (sent ++ posted place (outgoings_of os))) (sym packets)
-        (subst (λ (b : BotEnd). AreSound goes.after (slice_set all place b.end) (sent ++ posted place (outgoings_of acting.sent))) (sym link) goes.sound);
+    sound = subst (λ (os : List Outgoing). IsMoment (slice_set all place new.link.end) (sent ++ posted place (outgoings_of os)) goes.after) (sym packets)
+        (subst (λ (b : BotEnd). IsMoment (slice_set all place b.end) (sent ++ posted place (outgoings_of acting.sent)) goes.after) (sym link) goes.sound);
     grows = goes.grows;
     count = goes.count;
     answers = λ hub. subst (λ (os : List Outgoing). AllOutgoing (IsKeptAnswer hub) (outgoings_of os)) (sym packets) (goes.answers hub);
@@ -198,7 +182,7 @@ module _ (h : History) (all : List LinkEnd) (sent : List Sent) (place : ℕ) (ol
 
   -- one more call of the end that accepts nothing, and these packets more
   one_goes : (acting new : Acting) → (goes : ActsGo h all sent place old acting) → (row : Row LinkEnd) (packets : List Outgoing)
-      → EndGoes goes.after (slice_set all place acting.link.end) (sent ++ posted place (outgoings_of acting.sent)) place row
+      → RowFollows goes.after (slice_set all place acting.link.end) (sent ++ posted place (outgoings_of acting.sent)) place row
       → IsQuiet row.told → ((hub : PastHub) → AllOutgoing (IsKeptAnswer hub) row.sends) → outgoings_of packets ≡ row.sends
       → new.link ≡ record acting.link { end = row.after } → new.sent ≡ acting.sent ++ packets
       → ActsGo h all sent place old new
@@ -213,14 +197,14 @@ module _ (h : History) (all : List LinkEnd) (sent : List Sent) (place : ℕ) (ol
       set-set all place acting.link.end row.after ∙ ap (λ (b : BotEnd). slice_set all place b.end) (sym link) in
       record {
         after = next.after;
-        sound = subst (λ (ps : List Sent). AreSound next.after (slice_set all place new.link.end) ps) all_out
-            (subst (λ (es : List LinkEnd). AreSound next.after es ((sent ++ posted place (outgoings_of acting.sent)) ++ posted place row.sends)) ends
-            next.sound);
+        sound = subst (λ (ps : List Sent). IsMoment (slice_set all place new.link.end) ps next.after) all_out
+            (subst (λ (es : List LinkEnd). IsMoment es ((sent ++ posted place (outgoings_of acting.sent)) ++ posted place row.sends) next.after) ends
+            next.moment);
         grows = Grows-trans h goes.after next.after goes.grows next.grows;
         count = next.count ∙ goes.count;
         answers = λ hub. subst (AllOutgoing (IsKeptAnswer hub)) (sym out)
             (AllOutgoing-append (IsKeptAnswer hub) (outgoings_of acting.sent) row.sends (goes.answers hub) (answers hub));
-        accepted = quiet place goes.after.hub.kept.accepted next.after.hub.kept.accepted next.accepted ∙ goes.accepted;
+        accepted = quiet place goes.after.hub.kept.accepted next.after.hub.kept.accepted next.moves ∙ goes.accepted;
         number = ap (λ (b : BotEnd). b.number) link ∙ goes.number;
         leaves = ap (λ (b : BotEnd). b.leaves) link ∙ goes.leaves;
       }

@@ -11,7 +11,7 @@ use Rattle.botjournal.specs.Ledger.{Failures}
 use Rattle.protocol.specs.Packets.{Packet, Outgoing as LinkOutgoing, Sent, AcceptedChange, from_wire}
 use Rattle.protocol.specs.Packets.Packet.{Hello, Change, Request, Accepted, Refused, BotText, Part}
 use Rattle.protocol.specs.Notes.{Note as Meaning, LinkFault as Meant}
-use Rattle.protocol.specs.Notes.Note.{Queued, Relayed}
+use Rattle.protocol.specs.Notes.Note.{Queued, Relayed, Accepted as AcceptedAs, Restarted as RestartedAt}
 use Rattle.protocol.specs.Notes.LinkFault.{Diverged as Apart}
 use Rattle.protocol.specs.Bots.{How, Works, Fails, Counts, Row, noted, refused, unless_down}
 use Rattle.protocol.specs.HubRules.{Hub, ask_taken, hub_asked, is_bad_text, text_told}
@@ -30,7 +30,9 @@ use Rattle.linkcalls.specs.declared.error.LinkFault.{LinkFault}
 use Rattle.linkcalls.specs.declared.error.LinkFault.TheVariants.{Down, BadChange, AsksFull, Diverged, NumbersSpent, JournalFault, BadBotText, TextsFull, DiskFault}
 use Rattle.linkcalls.specs.Calls.{note_of, outgoing_of, outgoings_of, IsFault}
 use Rattle.linkcalls.specs.Meets.{how_of, Answers, Refuses, Meets, Restarts}
-use Rattle.linknet.specs.Ends.{End as LinkEnd, AtHub, AtLeaf, of_hub, of_leaf, end_did, end_received}
+use Rattle.linknet.specs.Ends.{End as LinkEnd, AtHub, AtLeaf, end_did}
+use Rattle.linknet.specs.Nets.{IsMoment, MovesAsTold, RowFollows}
+use Rattle.linknet.proofs.Goes.{did_goes}
 use Rattle.botlink.specs.Links.{BotEnd, did, took, asked, told, Calls, CallsRestart, Asks}
 use Rattle.botcore.specs.declared.fault.Refusal.TheVariants.{Link as link_refusal}
 use Rattle.botcore.specs.declared.report.End.{End}
@@ -39,9 +41,7 @@ use Rattle.botcore.specs.declared.report.Note.{Note}
 use Rattle.botcore.specs.declared.report.Note.TheVariants.{Link as link_note}
 use Rattle.botcore.specs.declared.report.Report.{Report}
 use Rattle.botcore.specs.Reports.{answer_report}
-use Rattle.botworld.specs.Links.{AreSound, GrowsAtHub, GrowsAs, GrowsAsTold}
 use Rattle.botworld.specs.Network.{IsFineReport, GrowsByNote}
-use Rattle.botworld.proofs.Ends.{EndGoes, did_goes, took_goes}
 
 -- ---- lists
 
@@ -69,11 +69,34 @@ pub outgoings_of-append : (xs ys : List Outgoing) → outgoings_of (xs ++ ys) �
 outgoings_of-append [] ys = refl
 outgoings_of-append (x ∷ xs) ys = ap (λ os. outgoing_of x ∷ os) (outgoings_of-append xs ys)
 
+-- ---- what is told where nothing is accepted
+
+-- what is told so accepts no change
+abbrev pub IsQuiet : Result Meaning Meant → Type 0
+IsQuiet told = (place : ℕ) (old new : List AcceptedChange) → MovesAsTold old new place told → new ≡ old
+
+-- what is told tells of no version that was reached
+is_quiet : (told : Result Meaning Meant) → ((version : ℕ) → told ≡ Ok (AcceptedAs version) → ⊥)
+    → ((version : ℕ) → told ≡ Ok (RestartedAt version) → ⊥) → IsQuiet told
+is_quiet told none no_restart place old new moves = elim moves.stay_or_grow [
+  | inl same ↦ same
+  | inr more ↦ elim more.2.1 [ inl e ↦ absurd (none _ e) | inr e ↦ absurd (no_restart _ e) ]
+]
+
+pub refused_is_quiet : (fault : Meant) → IsQuiet (Err fault)
+refused_is_quiet fault = is_quiet (Err fault) (λ v e. cc) (λ v e. cc)
+
+pub queued_is_quiet : IsQuiet (Ok Queued)
+queued_is_quiet = is_quiet (Ok Queued) (λ v e. cc) (λ v e. cc)
+
+pub relayed_is_quiet : IsQuiet (Ok Relayed)
+relayed_is_quiet = is_quiet (Ok Relayed) (λ v e. cc) (λ v e. cc)
+
 -- ---- a bot among the others
 
 -- a bot's end at its place among all ends, which are sound
 pub record IsAmong (h : History) (all : List LinkEnd) (sent : List Sent) (place : ℕ) (b : BotEnd) : Type 0 where
-  pub sound : AreSound h all sent
+  pub sound : IsMoment all sent h
   pub at : slice_get all place ≡ Some b.end
   pub number : b.number ≡ place
   pub leaves : b.leaves ≡ h.count
@@ -83,7 +106,7 @@ pub record IsAmong (h : History) (all : List LinkEnd) (sent : List Sent) (place 
 pub record LinkGoes (h : History) (all : List LinkEnd) (sent : List Sent) (place : ℕ) (old : BotEnd) (end : End) (note : Option Note)
     (packets : List Outgoing) (new : BotEnd) : Type 0 where
   pub after : History
-  pub sound : AreSound after (slice_set all place new.end) (sent ++ posted place (outgoings_of packets))
+  pub sound : IsMoment (slice_set all place new.end) (sent ++ posted place (outgoings_of packets)) after
   pub grows : Grows h after
   pub count : after.count ≡ h.count
   pub answers : AllOutgoing (IsKeptAnswer after.hub.kept) (outgoings_of packets)
@@ -101,8 +124,8 @@ module _ (h : History) (all : List LinkEnd) (sent : List Sent) (place : ℕ) (ol
       let ends : slice_set all place new.end ≡ all = ap (slice_set all place) same ∙ set-same all place old.end among.at in
       record {
         after = h;
-        sound = subst (λ (es : List LinkEnd). AreSound h es (sent ++ [])) (sym ends)
-            (subst (λ (ps : List Sent). AreSound h all ps) (sym (append-nil sent)) among.sound);
+        sound = subst (λ (es : List LinkEnd). IsMoment es (sent ++ []) h) (sym ends)
+            (subst (λ (ps : List Sent). IsMoment all ps h) (sym (append-nil sent)) among.sound);
         grows = Grows-refl h;
         count = refl;
         answers = tt;
@@ -141,37 +164,38 @@ module _ (h : History) (all : List LinkEnd) (sent : List Sent) (place : ℕ) (ol
   fine_fault fault other = record { undiverged = λ e. other (let same : fault ≡ Diverged = cc in same); no_gap = λ e. cc }
 
   -- what is answered
-  answered : (row : Row LinkEnd) (answer : Answer) (new : BotEnd) → EndGoes h all sent place row → Answers row answer new.end
+  answered : (row : Row LinkEnd) (answer : Answer) (new : BotEnd) → RowFollows h all sent place row → Answers row answer new.end
       → new.number ≡ old.number → new.leaves ≡ old.leaves
       → LinkGoes h all sent place old Done (Some (link_note answer.note)) answer.packets new
   answered row answer new goes a number leaves = record {
     after = goes.after;
-    sound = subst (λ (os : List LinkOutgoing). AreSound goes.after (slice_set all place new.end) (sent ++ posted place os)) a.sends
-        (subst (λ (e : LinkEnd). AreSound goes.after (slice_set all place e) (sent ++ posted place row.sends)) (sym a.after) goes.sound);
+    sound = subst (λ (os : List LinkOutgoing). IsMoment (slice_set all place new.end) (sent ++ posted place os) goes.after) a.sends
+        (subst (λ (e : LinkEnd). IsMoment (slice_set all place e) (sent ++ posted place row.sends) goes.after) (sym a.after) goes.moment);
     grows = goes.grows;
     count = goes.count;
     answers = subst (AllOutgoing (IsKeptAnswer goes.after.hub.kept)) a.sends goes.answers;
     fine = fine_note answer.note (subst IsFineTold a.told goes.fine);
-    accepted = subst (λ (t : Result Meaning Meant). GrowsAsTold place t h.hub.kept.accepted goes.after.hub.kept.accepted) a.told goes.accepted;
+    accepted = subst (λ (t : Result Meaning Meant). MovesAsTold h.hub.kept.accepted goes.after.hub.kept.accepted place t) a.told goes.moves;
     number = number;
     leaves = leaves;
   }
 
   -- what is refused
-  refuses : (row : Row LinkEnd) (fault : LinkFault) (new : BotEnd) → EndGoes h all sent place row → Refuses row fault new.end
+  refuses : (row : Row LinkEnd) (fault : LinkFault) (new : BotEnd) → RowFollows h all sent place row → Refuses row fault new.end
       → new.number ≡ old.number → new.leaves ≡ old.leaves
       → LinkGoes h all sent place old (refused_end (link_refusal fault)) None [] new
   refuses row fault new goes r number leaves =
       let m = meant fault row.told r.told in
       record {
         after = goes.after;
-        sound = subst (λ (os : List LinkOutgoing). AreSound goes.after (slice_set all place new.end) (sent ++ posted place os)) r.sends
-            (subst (λ (e : LinkEnd). AreSound goes.after (slice_set all place e) (sent ++ posted place row.sends)) (sym r.after) goes.sound);
+        sound = subst (λ (os : List LinkOutgoing). IsMoment (slice_set all place new.end) (sent ++ posted place os) goes.after) r.sends
+            (subst (λ (e : LinkEnd). IsMoment (slice_set all place e) (sent ++ posted place row.sends) goes.after) (sym r.after) goes.moment);
         grows = goes.grows;
         count = goes.count;
         answers = tt;
         fine = fine_fault fault (m.undiverged goes.fine);
-        accepted = subst (λ (t : Result Meaning Meant). GrowsAsTold place t h.hub.kept.accepted goes.after.hub.kept.accepted) m.is goes.accepted;
+        accepted = refused_is_quiet m.meant place h.hub.kept.accepted goes.after.hub.kept.accepted
+            (subst (λ (t : Result Meaning Meant). MovesAsTold h.hub.kept.accepted goes.after.hub.kept.accepted place t) m.is goes.moves);
         number = number;
         leaves = leaves;
       }
@@ -186,14 +210,14 @@ module _ (h : History) (all : List LinkEnd) (sent : List Sent) (place : ℕ) (ol
 
   -- a call, whose rows go on whatever the device does
   pub calls_go : (row : How → Row LinkEnd) (result : Result Answer (Failure LinkFault)) (new : BotEnd)
-      → ((how : How) → EndGoes h all sent place (row how)) → Calls old row result new → Goes (answer_report result) new
+      → ((how : How) → RowFollows h all sent place (row how)) → Calls old row result new → Goes (answer_report result) new
   calls_go row (Ok answer) new goes c = answered (row Works) answer new (goes Works) c.row c.number c.leaves
   calls_go row (Err (refused_by fault)) new goes c = refuses (row (how_of fault)) fault new (goes (how_of fault)) c.row.0 c.number c.leaves
   calls_go row (Err no_memory) new goes c = no_memory_goes new c.row.1 c.number c.leaves
 
   -- an ask
   pub ask_goes : (change : UserChange) (result : Result Answer (Failure LinkFault)) (new : BotEnd)
-      → EndGoes h all sent place (asked old change) → Asks old change result new → Goes (answer_report result) new
+      → RowFollows h all sent place (asked old change) → Asks old change result new → Goes (answer_report result) new
   ask_goes change (Ok answer) new goes a =
       answered (asked old change) answer new goes a.0 (ap (λ (b : BotEnd). b.number) a.1) (ap (λ (b : BotEnd). b.leaves) a.1)
   ask_goes change (Err (refused_by fault)) new goes a =
@@ -212,7 +236,7 @@ module _ (h : History) (all : List LinkEnd) (sent : List Sent) (place : ℕ) (ol
   untold leaves number (AtHub hub) = (_, refl)
   untold leaves number (AtLeaf leaf) = (_, refl)
 
-  pub restart_goes : (result : Result Answer (Failure LinkFault)) (new : BotEnd) → ((how : How) → EndGoes h all sent place (did old Restart how))
+  pub restart_goes : (result : Result Answer (Failure LinkFault)) (new : BotEnd) → ((how : How) → RowFollows h all sent place (did old Restart how))
       → CallsRestart old result new → Goes (answer_report result) new
   restart_goes (Ok answer) new goes c = elim c.row [
     | inl a ↦ answered (did old Restart Works) answer new (goes Works) a c.number c.leaves
@@ -225,21 +249,22 @@ module _ (h : History) (all : List LinkEnd) (sent : List Sent) (place : ℕ) (ol
       let why = untold old.leaves old.number old.end in
       record {
         after = failed.after;
-        sound = subst (λ (os : List LinkOutgoing). AreSound failed.after (slice_set all place new.end) (sent ++ posted place os)) none
-            (subst (λ (e : LinkEnd). AreSound failed.after (slice_set all place e) (sent ++ posted place (did old Restart Fails).sends))
-            (sym c.row) failed.sound);
+        sound = subst (λ (os : List LinkOutgoing). IsMoment (slice_set all place new.end) (sent ++ posted place os) failed.after) none
+            (subst (λ (e : LinkEnd). IsMoment (slice_set all place e) (sent ++ posted place (did old Restart Fails).sends) failed.after)
+            (sym c.row) failed.moment);
         grows = failed.grows;
         count = failed.count;
         answers = tt;
         fine = record { undiverged = λ e. cc; no_gap = λ e. cc };
-        accepted = subst (λ (t : Result Meaning Meant). GrowsAsTold place t h.hub.kept.accepted failed.after.hub.kept.accepted) why.1 failed.accepted;
+        accepted = refused_is_quiet why.0 place h.hub.kept.accepted failed.after.hub.kept.accepted
+            (subst (λ (t : Result Meaning Meant). MovesAsTold h.hub.kept.accepted failed.after.hub.kept.accepted place t) why.1 failed.moves);
         number = c.number;
         leaves = c.leaves;
       }
 
   -- ---- the rows of this end
 
-  pub did_row : (event : Event) (how : How) → EndGoes h all sent place (did old event how)
+  pub did_row : (event : Event) (how : How) → RowFollows h all sent place (did old event how)
   did_row event how =
-      subst (λ n. EndGoes h all sent place (end_did old.leaves n how old.end event)) (sym among.number)
-      (did_goes h all sent among.sound place old.end among.at old.leaves among.leaves how event)
+      subst (λ n. RowFollows h all sent place (end_did old.leaves n how old.end event)) (sym among.number)
+      (did_goes all sent h among.sound old.leaves place old.end how event among.leaves among.at)

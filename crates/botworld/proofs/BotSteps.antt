@@ -1,5 +1,5 @@
 -- What a step of one bot leaves of its end of the link, whatever it is told.
-use Rattle.std.proofs.Common.{◌≡◌, ◌≢◌, ℕ, zero, suc, Bool, true, false, List, [], ◌∷◌, ◌++◌, slice_get, slice_set, Option, None, Some, Result, Ok, Err, refl, ap, sym, subst, ◌∙◌}
+use Rattle.std.proofs.Common.{◌≡◌, inl, ℕ, Bool, true, false, List, [], ◌∷◌, ◌++◌, slice_get, slice_set, Option, None, Some, Result, Ok, Err, refl, ap, sym, subst, ◌∙◌}
 use Rattle.bottimers.specs.declared.fault.ClockFault.{ClockFault}
 use Rattle.bottimers.specs.Seconds.{reading_fault}
 use Rattle.ircline.specs.declared.line.Line.TheVariants.{Message as a_message, Bad as a_bad_line}
@@ -11,12 +11,15 @@ use Rattle.bindtable.specs.declared.bind.Bind.{Bind as HeldBind}
 use Rattle.bindtable.specs.declared.fault.BindFault.{BindFault}
 use Rattle.bindtable.specs.Tables.{Asked, refusal}
 use Rattle.botjournal.specs.Ledger.{Failures}
+use Rattle.protocol.specs.Numbers.{item_at}
 use Rattle.protocol.specs.Packets.{Sent, AcceptedChange, from_wire}
 use Rattle.protocol.specs.Bots.{How, Works, Row}
 use Rattle.protocol.specs.History.{History}
 use Rattle.protocol.specs.Network.{posted}
 use Rattle.protocol.specs.Network.Event.{Ask as asks, Pump as pumps, Compact as compacts, Restart as restarts}
 use Rattle.linknet.specs.Ends.{End as LinkEnd, end_received}
+use Rattle.linknet.specs.Nets.{IsMoment, RowFollows}
+use Rattle.linknet.proofs.Goes.{received_goes}
 use Rattle.linkcalls.specs.declared.answer.Outgoing.{Outgoing}
 use Rattle.linkcalls.specs.Calls.{outgoings_of}
 use Rattle.botlink.specs.Links.{BotEnd, did, took, Calls, CallsRestart, Asks}
@@ -39,9 +42,7 @@ use Rattle.botcore.specs.Lines.{acting_of, acting_after, Finish, finish_text, fi
 use Rattle.botcore.specs.Reports.{plain, out_of_memory, answer_report}
 use Rattle.botcore.specs.Steps.{Due, connect_due, bind_due, unbind_due, bind_to_go, asked_of, Gives, GivesCall, TakesCalls, text_note, TakesPacket}
 use Rattle.botcore.specs.Steps.{is_stale, run_to, TakesMoment, TakesReading, TakesStep}
-use Rattle.botworld.specs.Links.{AreSound, GrowsAs}
 use Rattle.botworld.specs.Network.{IsFineReport, GrowsByNote, sent_as}
-use Rattle.botworld.proofs.Ends.{EndGoes, took_goes}
 use Rattle.botworld.proofs.BotEnds.{IsAmong, LinkGoes, Goes, stays, calls_go, ask_goes, restart_goes, did_row}
 use Rattle.botworld.proofs.Acts.{ActsGo, none_go, acts_go}
 
@@ -50,7 +51,7 @@ use Rattle.botworld.proofs.Acts.{ActsGo, none_go, acts_go}
 -- a packet that a bot is told was sent to it
 abbrev pub WasSentTo : List Sent → ℕ → Event → Type 0
 WasSentTo sent place (Receive packet) =
-    (number from : ℕ) × (slice_get sent number ≡ Some (record { from = from; to = place; packet = from_wire packet }))
+    (number from : ℕ) × (item_at sent number ≡ Some (record { from = from; to = place; packet = from_wire packet }))
 WasSentTo sent place other = Unit {0}
 
 module _ (code_of : List ℕ → Call → Code) (may : List ℕ → Call → List Action → Type 0) (names : List (List ℕ))
@@ -80,7 +81,7 @@ module _ (code_of : List ℕ → Call → Code) (may : List ℕ → Call → Lis
   gives_goes Grows due report new goes NoMemory g = same_goes _ _ report new g.1 g.2 short_goes
 
   -- a call of the link
-  call_goes : (row : How → Row LinkEnd) → ((how : How) → EndGoes h all sent place (row how))
+  call_goes : (row : How → Row LinkEnd) → ((how : How) → RowFollows h all sent place (row how))
       → {left : _} (report : Report) (new : Bot) → GivesCall (Calls old.link row) left report new → BotGoes report new
   call_goes row goes report new g =
       subst (λ (r : Report). BotGoes r new) (sym g.report) (calls_go h all sent place old.link among row g.answer new.link goes g.met)
@@ -98,7 +99,7 @@ module _ (code_of : List ℕ → Call → Code) (may : List ℕ → Call → Lis
 
   -- a note of a step that accepts nothing
   abbrev IsQuietNote : Option Note → Type 0
-  IsQuietNote note = (then now : List AcceptedChange) → now ≡ then → GrowsByNote place note then now
+  IsQuietNote note = (first now : List AcceptedChange) → now ≡ first → GrowsByNote place note first now
 
   -- calls, whose actions are done from a bot with this end of the link on: what goes out are texts
   calls_goes : (told : List Telling) (start before : Bot) (note : Option Note) (finish : List MadeCall → Finish) (report : Report) (new : Bot)
@@ -114,9 +115,9 @@ module _ (code_of : List ℕ → Call → Code) (may : List ℕ → Call → Lis
       let same : new.link ≡ acting.link = ap (λ (b : Bot). b.link) c.after ∙ finishes report.calls in
       record {
         after = goes.after;
-        sound = subst (λ (os : List Outgoing). AreSound goes.after (slice_set all place new.link.end) (sent ++ posted place (outgoings_of os)))
+        sound = subst (λ (os : List Outgoing). IsMoment (slice_set all place new.link.end) (sent ++ posted place (outgoings_of os)) goes.after)
             (sym c.packets)
-            (subst (λ (b : BotEnd). AreSound goes.after (slice_set all place b.end) (sent ++ posted place (outgoings_of acting.sent))) (sym same)
+            (subst (λ (b : BotEnd). IsMoment (slice_set all place b.end) (sent ++ posted place (outgoings_of acting.sent)) goes.after) (sym same)
             goes.sound);
         grows = goes.grows;
         count = goes.count;
@@ -138,17 +139,13 @@ module _ (code_of : List ℕ → Call → Code) (may : List ℕ → Call → Lis
       (subst (λ (os : List Outgoing). LinkGoes h all sent place old.link NoMemory None os new.link) (sym c.packets) short))
 
   no_note_is_quiet : IsQuietNote None
-  no_note_is_quiet then now same = same
+  no_note_is_quiet first now same = same
 
   text_is_quiet : (saying : Saying) → IsQuietNote (Some (text_note saying))
-  text_is_quiet saying then now same = by place
-    where
-      by : (p : ℕ) → GrowsByNote p (Some (text_note saying)) then now
-      by zero = same
-      by (suc p) = same
+  text_is_quiet saying first now same = record { stay_or_grow = inl same; accepted = λ n hub e. cc; restarted = λ v hub e. cc }
 
   -- a packet: a call of the link, or a text that calls procs
-  packet_goes : (packet : Packet) (report : Report) (new : Bot) → ((how : How) → EndGoes h all sent place (took old.link packet how))
+  packet_goes : (packet : Packet) (report : Report) (new : Bot) → ((how : How) → RowFollows h all sent place (took old.link packet how))
       → (saying : Option Saying) → TakesPacket saying code_of may names old packet report new → BotGoes report new
   packet_goes packet report new goes None t = call_goes (took old.link packet) goes report new t
   packet_goes packet report new goes (Some saying) t =
@@ -171,11 +168,11 @@ module _ (code_of : List ℕ → Call → Code) (may : List ℕ → Call → Lis
   reading_goes now report new None t = moment_goes now report new (is_stale old.clock now) t
 
   -- the packet of a delivery
-  packet_row : (packet : Packet) → WasSentTo sent place (Receive packet) → (how : How) → EndGoes h all sent place (took old.link packet how)
+  packet_row : (packet : Packet) → WasSentTo sent place (Receive packet) → (how : How) → RowFollows h all sent place (took old.link packet how)
   packet_row packet was how =
-      subst (λ n. EndGoes h all sent place (end_received old.link.leaves n how old.link.end (from_wire packet))) (sym among.number)
-      (took_goes h all sent among.sound place old.link.end among.at old.link.leaves among.leaves how was.0
-      (record { from = was.1; to = place; packet = from_wire packet }) was.2 refl)
+      subst (λ n. RowFollows h all sent place (end_received old.link.leaves n how old.link.end (from_wire packet))) (sym among.number)
+      (received_goes all sent h among.sound old.link.leaves was.0 (record { from = was.1; to = place; packet = from_wire packet }) old.link.end how
+      among.leaves was.2 among.at)
 
   pub bot_goes : (event : Event) (report : Report) (new : Bot) → WasSentTo sent place event → TakesStep code_of may names old event report new
       → BotGoes report new

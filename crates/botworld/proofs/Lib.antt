@@ -1,7 +1,9 @@
+pub mod Lists
 pub mod Growing
-pub mod History
-pub mod Truth
-pub mod Links
+pub mod Good
+pub mod Shown
+pub mod BotEnds
+pub mod Acts
 pub mod BotSteps
 pub mod Lawful
 pub mod Goes

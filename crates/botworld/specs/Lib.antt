@@ -1,5 +1,4 @@
 pub mod Codes
-pub mod Links
 pub mod Net
 pub mod Network
 pub mod Calling

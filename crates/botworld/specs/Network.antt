@@ -1,5 +1,5 @@
 -- Moments of the network, its steps, and what holds of each one.
-use Rattle.std.specs.Prelude.{◌≡◌, ◌≢◌, ℕ, zero, suc, ◌+◌, ◌<◌, ◌≤◌, List, [], ◌∷◌, ◌++◌, length, slice_get, Option, None, Some}
+use Rattle.std.specs.Prelude.{◌≡◌, ◌≢◌, ℕ, zero, suc, ◌+◌, ◌<◌, ◌≤◌, List, [], ◌∷◌, ◌++◌, length, slice_get, Option, None, Some, Ok}
 use Rattle.userfile.specs.Apply.{refusal}
 use Rattle.userfile.specs.declared.change.Change.{Change}
 use Rattle.sharewire.specs.declared.packet.Packet.TheVariants.{Change as change_packet}
@@ -12,6 +12,7 @@ use Rattle.linkcalls.specs.Calls.{note_of}
 use Rattle.linkcalls.specs.declared.note.Note.TheVariants.{Accepted, Gap}
 use Rattle.linkcalls.specs.declared.error.LinkFault.TheVariants.{Diverged}
 use Rattle.linknet.specs.Ends.{End as LinkEnd, end_asks}
+use Rattle.linknet.specs.Nets.{IsMoment, MovesAsTold, ends_of as ends_in}
 use Rattle.procstore.specs.declared.action.Action.{Action}
 use Rattle.procstore.specs.declared.call.Call.{Call}
 use Rattle.procstore.specs.declared.reply.Code.{Code}
@@ -27,7 +28,6 @@ use Rattle.botworld.specs.declared.step.Step.{Step}
 use Rattle.botworld.specs.declared.step.Step.TheVariants.{At, Deliver}
 use Rattle.botworld.specs.declared.outcome.Outcome.{Outcome}
 use Rattle.botworld.specs.declared.outcome.Outcome.TheVariants.{Report as reported, NoSuchBot, NoSuchPacket}
-use Rattle.botworld.specs.Links.{ends_in, AreSound, GrowsAs}
 use Rattle.botworld.specs.Net.{Net, NetStep, packet_at, shown_version}
 
 -- a moment of the network: what happened over its links until then, which no bot holds, and the net
@@ -96,7 +96,7 @@ pub record IsPlacedAt (leaves place : ℕ) (b : Bot) : Type 0 where
 
 -- the ends of the bots and the packets stand for what happened, in which all that the links promise holds
 pub record IsSound (s : State) : Type 0 where
-  pub links : AreSound s.links (ends_of s.net.bots) (all_sent s.net.packets)
+  pub links : IsMoment (ends_of s.net.bots) (all_sent s.net.packets) s.links
   pub placed : (place : ℕ) (b : Bot) → slice_get s.net.bots place ≡ Some b → IsPlacedAt s.links.count place b
 
 -- a packet that was sent is true of what happened: a change is the accepted one of its number, a part is one of the records at
@@ -179,7 +179,7 @@ IsFine NoSuchPacket = Unit {0}
 -- none where the hub tells that it was restarted, at the version that is then their count; and nowhere else
 abbrev pub GrowsByNote : ℕ → Option Note → List AcceptedChange → List AcceptedChange → Type 0
 GrowsByNote bot None old new = new ≡ old
-GrowsByNote bot (Some (link_note note)) old new = GrowsAs bot (note_of note) old new
+GrowsByNote bot (Some (link_note note)) old new = MovesAsTold old new bot (Ok (note_of note))
 GrowsByNote bot (Some (Bound number)) old new = new ≡ old
 GrowsByNote bot (Some (Unbound number)) old new = new ≡ old
 GrowsByNote bot (Some (Bad fault)) old new = new ≡ old

@@ -3,7 +3,7 @@ ghost use Rattle.std.specs.Prelude.{◌≡◌};
 ghost use Rattle.botworld.specs.Codes.{fault_code};
 
 use botcore::Bot;
-use procstore::{ProcStore, Promise, Run};
+use procstore::{Body, ProcStore, Promise, Run};
 use storage::Disk;
 use thiserror::Error;
 
@@ -28,10 +28,10 @@ impl WorldFault {
 
 /// Bots of which no world was made, with their store, as they were handed in.
 #[derive(Drop)]
-pub struct RefusedWorld<P: Promise, B: Run, D: Disk> {
+pub struct RefusedWorld<P: Promise, D: Disk, B: Run = Body> {
     /// Why no world was made.
     pub why: WorldFault,
-    /// The bots.
+    /// The bots, with their disks.
     pub bots: Vec<Bot<D>>,
     /// The store.
     pub store: ProcStore<P, B>,

@@ -1,7 +1,6 @@
 //! A whole botnet in memory: the hub, its leaves, the procs that their binds call, and every packet ever sent.
 //!
-//! A [`World`] makes any list of [`Step`]s: a bot is told an [`Event`](botcore::Event), which may be that it ends and
-//! begins again from its journal, or a packet is delivered. A
+//! A [`World`] makes any list of [`Step`]s: a bot is told an [`Event`](botcore::Event), or a packet is delivered. A
 //! packet may be delivered never, once or often, and in any order, which is all that a network can do. Each step has an
 //! [`Outcome`], and [`World::run`] promises of every list of steps that two bots at the same version hold the same
 //! records, those after the hub's first so many accepted changes; that no bot's version goes back; and that two bots
@@ -9,8 +8,8 @@
 //! different moments.
 //!
 //! ```text
-//! let hub = Bot::create(alloc, config(0), first, second)?;    // each with `leaves: 1` and two disks of its own
-//! let leaf = Bot::create(alloc, config(1), third, fourth)?;
+//! let hub = Bot::new(alloc, config(0))?;                 // each with `leaves: 1`
+//! let leaf = Bot::new(alloc, config(1))?;
 //! let mut world = World::new(alloc, vec![in alloc; hub, leaf]?, store)?;
 //! let ask = Step::At { bot: 0, event: Event::Ask(change) };
 //! let pump = Step::At { bot: 0, event: Event::Pump };

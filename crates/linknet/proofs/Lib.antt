@@ -1,0 +1,4 @@
+pub mod Lists
+pub mod Telling
+pub mod Goes
+pub mod Moments
