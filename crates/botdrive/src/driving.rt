@@ -59,7 +59,7 @@ pub struct DriveReport {
 /// let report = drive(alloc, &mut bot, &store, &mut lines, &mut reader, &mut writer, now);
 /// for packet in report.packets.into_vec() { .. }             // to the other bots
 /// ```
-pub fn drive<P: Promise, B: Run, D: Disk, R: Read, W: Write>(
+pub fn drive<P: Promise, D: Disk, B: Run, R: Read, W: Write>(
     alloc: Global,
     bot: &mut Bot<D>,
     store: &ProcStore<P, B>,
@@ -79,7 +79,7 @@ pub fn drive<P: Promise, B: Run, D: Disk, R: Read, W: Write>(
 
 /// Drives a bot over bytes that are all there, of which the first are taken: it ends `Done` only where none is left, or
 /// 1,000 or more were taken, and never `Read`. Otherwise as [`drive`], for the moment `now` too.
-pub fn drive_bytes<P: Promise, B: Run, D: Disk, W: Write>(
+pub fn drive_bytes<P: Promise, D: Disk, B: Run, W: Write>(
     alloc: Global,
     bot: &mut Bot<D>,
     store: &ProcStore<P, B>,
@@ -101,7 +101,7 @@ pub fn drive_bytes<P: Promise, B: Run, D: Disk, W: Write>(
 }
 
 // Drives a bot over any input.
-fn drive_over<P: Promise, B: Run, D: Disk, I: Input, W: Write>(
+fn drive_over<P: Promise, D: Disk, B: Run, I: Input, W: Write>(
     alloc: Global,
     bot: &mut Bot<D>,
     store: &ProcStore<P, B>,
@@ -124,7 +124,7 @@ fn drive_over<P: Promise, B: Run, D: Disk, I: Input, W: Write>(
 }
 
 // Drives a bot with an empty outbox.
-fn drive_with<P: Promise, B: Run, D: Disk, I: Input, W: Write>(
+fn drive_with<P: Promise, D: Disk, B: Run, I: Input, W: Write>(
     alloc: Global,
     bot: &mut Bot<D>,
     store: &ProcStore<P, B>,
@@ -150,7 +150,7 @@ fn drive_with<P: Promise, B: Run, D: Disk, I: Input, W: Write>(
 }
 
 // Takes in what has come, and reads the clock.
-fn take_in<P: Promise, B: Run, D: Disk, I: Input>(
+fn take_in<P: Promise, D: Disk, B: Run, I: Input>(
     alloc: Global,
     bot: &mut Bot<D>,
     store: &ProcStore<P, B>,

@@ -20,7 +20,7 @@ const MAX_READS: usize = 1000;
 const PIECE: usize = 4096;
 
 // Reads all that there is now, or 1,000 pieces of it, and makes a step of each line that they end.
-pub(crate) fn hear_all<P: Promise, B: Run, D: Disk, I: Input>(
+pub(crate) fn hear_all<P: Promise, D: Disk, B: Run, I: Input>(
     alloc: Global,
     bot: &mut Bot<D>,
     store: &ProcStore<P, B>,
@@ -46,7 +46,7 @@ pub(crate) fn hear_all<P: Promise, B: Run, D: Disk, I: Input>(
 }
 
 // Reads a piece, and makes a step of each line that it ends. Whether there may be more.
-fn hear_piece<P: Promise, B: Run, D: Disk, I: Input>(
+fn hear_piece<P: Promise, D: Disk, B: Run, I: Input>(
     alloc: Global,
     bot: &mut Bot<D>,
     store: &ProcStore<P, B>,
@@ -75,7 +75,7 @@ fn hear_piece<P: Promise, B: Run, D: Disk, I: Input>(
 }
 
 // Takes bytes in, and makes a step of each line that they end.
-fn hear_bytes<P: Promise, B: Run, D: Disk>(
+fn hear_bytes<P: Promise, D: Disk, B: Run>(
     alloc: Global,
     bot: &mut Bot<D>,
     store: &ProcStore<P, B>,

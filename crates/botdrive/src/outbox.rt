@@ -84,7 +84,7 @@ impl Outbox {
 }
 
 // Makes a step of a line. Out of memory the bot is as it was.
-fn step_line<P: Promise, B: Run, D: Disk>(
+fn step_line<P: Promise, D: Disk, B: Run>(
     alloc: Global,
     bot: &mut Bot<D>,
     store: &ProcStore<P, B>,
@@ -101,7 +101,7 @@ fn step_line<P: Promise, B: Run, D: Disk>(
 }
 
 // Makes a step of a reading of the clock. Out of memory the bot is as it was.
-pub(crate) fn step_clock<P: Promise, B: Run, D: Disk>(
+pub(crate) fn step_clock<P: Promise, D: Disk, B: Run>(
     alloc: Global,
     bot: &mut Bot<D>,
     store: &ProcStore<P, B>,
@@ -118,7 +118,7 @@ pub(crate) fn step_clock<P: Promise, B: Run, D: Disk>(
 }
 
 // Makes a step of each line, in order. Out of memory the first of them are made.
-pub(crate) fn step_lines<P: Promise, B: Run, D: Disk>(
+pub(crate) fn step_lines<P: Promise, D: Disk, B: Run>(
     alloc: Global,
     bot: &mut Bot<D>,
     store: &ProcStore<P, B>,

@@ -15,7 +15,7 @@ use storage::Disk;
 ///
 /// # Errors
 /// `NoMemory` where the step ended so.
-pub fn tell<P: Promise, B: Run, D: Disk>(
+pub fn tell<P: Promise, D: Disk, B: Run>(
     alloc: Global,
     bot: &mut Bot<D>,
     store: &ProcStore<P, B>,
@@ -35,7 +35,7 @@ fn packets_of(report: Report) -> Result<Outgoings, NoMemory> {
 ///
 /// # Errors
 /// `NoMemory` where a growth was refused.
-pub fn hear<P: Promise, B: Run, D: Disk>(
+pub fn hear<P: Promise, D: Disk, B: Run>(
     alloc: Global,
     bot: &mut Bot<D>,
     store: &ProcStore<P, B>,

@@ -55,7 +55,7 @@ pub fn lone_hub(
     alloc: Global,
     store: ProcStore<Plain, Counted>,
     exclusive: bool,
-) -> Option<World<Plain, Counted, MemDisk>> {
+) -> Option<World<Plain, MemDisk, Counted>> {
     match new_bots(alloc, 1, 0, exclusive) {
         Ok(bots) => World::new(alloc, bots, store).ok(),
         Err(NoMemory) => None,

@@ -18,7 +18,7 @@ pub fn new_world<P: Promise, B: Run>(
     alloc: Global,
     store: ProcStore<P, B>,
     leaves: u16,
-) -> Result<World<P, B, MemDisk>, NoMemory>
+) -> Result<World<P, MemDisk, B>, NoMemory>
     requires { leaves ≤ MAX_LEAVES }
     ensures { IfOk result (λ w. Stands P.code_of P.may w (beginning (first_state leaves store))) }
 {

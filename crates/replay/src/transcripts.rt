@@ -59,10 +59,10 @@ fn text_of<P: Promise, B: Run>(
 }
 
 // Does commands in order, and adds what each prints.
-fn put_commands<P: Promise, B: Run, D: Disk>(
+fn put_commands<P: Promise, D: Disk, B: Run>(
     alloc: Global,
     text: &mut Vec<u8>,
-    world: &mut World<P, B, D>,
+    world: &mut World<P, D, B>,
     commands: &[Command],
 ) -> Result<(), NoMemory>
     ensures { OnOk result ((past : Past) → Stands P.code_of P.may world.old past
@@ -75,10 +75,10 @@ fn put_commands<P: Promise, B: Run, D: Disk>(
 }
 
 // Does a command, and adds what it prints.
-fn put_command<P: Promise, B: Run, D: Disk>(
+fn put_command<P: Promise, D: Disk, B: Run>(
     alloc: Global,
     text: &mut Vec<u8>,
-    world: &mut World<P, B, D>,
+    world: &mut World<P, D, B>,
     command: &Command,
 ) -> Result<(), NoMemory>
     ensures { OnOk result ((past : Past) → Stands P.code_of P.may world.old past
@@ -91,10 +91,10 @@ fn put_command<P: Promise, B: Run, D: Disk>(
 }
 
 // Adds what a bot is at.
-fn put_show<P: Promise, B: Run, D: Disk>(
+fn put_show<P: Promise, D: Disk, B: Run>(
     alloc: Global,
     text: &mut Vec<u8>,
-    world: &World<P, B, D>,
+    world: &World<P, D, B>,
     bot: u16,
 ) -> Result<(), NoMemory>
     ensures { OnOk result ((past : Past) → Stands P.code_of P.may world.now past
@@ -104,10 +104,10 @@ fn put_show<P: Promise, B: Run, D: Disk>(
 }
 
 // Makes steps in order, and adds what comes of each.
-fn put_steps<P: Promise, B: Run, D: Disk>(
+fn put_steps<P: Promise, D: Disk, B: Run>(
     alloc: Global,
     text: &mut Vec<u8>,
-    world: &mut World<P, B, D>,
+    world: &mut World<P, D, B>,
     steps: &[Step],
 ) -> Result<(), NoMemory>
     ensures { OnOk result ((past : Past) → Stands P.code_of P.may world.old past
@@ -120,10 +120,10 @@ fn put_steps<P: Promise, B: Run, D: Disk>(
 }
 
 // Makes a step, and adds what comes of it.
-fn put_step<P: Promise, B: Run, D: Disk>(
+fn put_step<P: Promise, D: Disk, B: Run>(
     alloc: Global,
     text: &mut Vec<u8>,
-    world: &mut World<P, B, D>,
+    world: &mut World<P, D, B>,
     step: &Step,
 ) -> Result<(), NoMemory>
     ensures { OnOk result ((past : Past) → Stands P.code_of P.may world.old past
