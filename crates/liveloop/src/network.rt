@@ -5,11 +5,11 @@ use crate::moment::Moment;
 use crate::seat::Seat;
 use botcore::{Bot, Event};
 use bytetext::NoMemory;
-use disks::MemDisk;
 use ircline::LineReader;
 use loopback::{House, LinkHouse, Peer, Uplink, local};
 use mio::net::TcpStream;
 use procstore::{ProcStore, Promise, Run};
+use replay::SteadyDisk;
 use linkcalls::Outgoings;
 use std::alloc::Global;
 use std::io;
@@ -58,7 +58,7 @@ impl Network {
         &mut self,
         rt: &R,
         store: &ProcStore<P, B>,
-        bot: Bot<MemDisk>,
+        bot: Bot<SteadyDisk>,
     ) -> Result<(), LiveError> {
         let irc = TcpStream::connect(rt, self.server)?;
         let uplink = if self.seats.is_empty() {

@@ -1,17 +1,17 @@
 // A bot and its sockets.
 use botcore::Bot;
 use bytetext::NoMemory;
-use disks::MemDisk;
 use ircline::LineReader;
 use loopback::{Peer, Uplink};
 use mio::net::TcpStream;
+use replay::SteadyDisk;
 use sharewire::Packet;
 use std::alloc::Global;
 
 /// A bot, its connection to the server, and a leaf's to the hub.
 #[derive(Drop)]
 pub struct Seat {
-    pub bot: Bot<MemDisk>,
+    pub bot: Bot<SteadyDisk>,
     /// What its connection to the server has begun to say.
     pub lines: LineReader,
     pub irc: Peer,
@@ -21,7 +21,7 @@ pub struct Seat {
 
 impl Seat {
     /// A bot whose connections are being made. Takes no memory.
-    pub fn new(alloc: Global, bot: Bot<MemDisk>, irc: TcpStream, uplink: Option<Uplink>) -> Seat {
+    pub fn new(alloc: Global, bot: Bot<SteadyDisk>, irc: TcpStream, uplink: Option<Uplink>) -> Seat {
         Seat {
             bot,
             lines: LineReader::new(alloc),

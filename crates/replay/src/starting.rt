@@ -2,14 +2,15 @@
 ghost use Rattle.std.specs.Prelude.{◌≡◌, ◌+◌, ◌≤◌, IfOk};
 ghost use Rattle.linkcalls.specs.declared.TheConstants.{MAX_LEAVES};
 ghost use Rattle.botcore.specs.Bots.{new_bot};
+ghost use Rattle.botworld.specs.Network.{State};
 ghost use Rattle.botworld.specs.Standing.{Stands, beginning};
-ghost use Rattle.replay.specs.Starting.{bots_from, config_of, first_state};
+ghost use Rattle.replay.specs.Starting.{config_of, AreNew, IsFirst};
 
 use crate::print::put_number;
+use crate::steady_disk::SteadyDisk;
 use botcore::{Bot, Config};
 use botworld::World;
 use bytetext::{Failure, NoMemory, Text, Texts};
-use disks::MemDisk;
 use procstore::{ProcStore, Promise, Run};
 use std::alloc::Global;
 
@@ -18,9 +19,9 @@ pub fn new_world<P: Promise, B: Run>(
     alloc: Global,
     store: ProcStore<P, B>,
     leaves: u16,
-) -> Result<World<P, MemDisk, B>, NoMemory>
+) -> Result<World<P, SteadyDisk, B>, NoMemory>
     requires { leaves ≤ MAX_LEAVES }
-    ensures { IfOk result (λ w. Stands P.code_of P.may w (beginning (first_state leaves store))) }
+    ensures { IfOk result (λ w. (first : State) × IsFirst leaves store first × Stands P.code_of P.may w (beginning first)) }
 {
     match World::new(alloc, new_bots(alloc, leaves)?, store) {
         Ok(world) => Ok(world),
@@ -34,9 +35,9 @@ pub fn new_world<P: Promise, B: Run>(
 ///
 /// # Errors
 /// `NoMemory` where room is refused.
-pub fn new_bots(alloc: Global, leaves: u16) -> Result<Vec<Bot<MemDisk>>, NoMemory>
+pub fn new_bots(alloc: Global, leaves: u16) -> Result<Vec<Bot<SteadyDisk>>, NoMemory>
     requires { leaves ≤ MAX_LEAVES }
-    ensures { IfOk result (λ bots. bots.items ≡ bots_from leaves 0 (leaves + 1)) }
+    ensures { IfOk result (λ bots. AreNew leaves (leaves + 1) bots.items) }
 {
     let mut bots = Vec::with_capacity(alloc, leaves as usize + 1)?;
     for number in 0..leaves + 1 {
@@ -46,16 +47,16 @@ pub fn new_bots(alloc: Global, leaves: u16) -> Result<Vec<Bot<MemDisk>>, NoMemor
 }
 
 // A bot of this number.
-fn bot(alloc: Global, leaves: u16, number: u16) -> Result<Bot<MemDisk>, NoMemory>
+fn bot(alloc: Global, leaves: u16, number: u16) -> Result<Bot<SteadyDisk>, NoMemory>
     requires few { leaves ≤ MAX_LEAVES }
     requires numbered { number ≤ leaves }
-    ensures { IfOk result (λ bot. bot ≡ new_bot (config_of leaves number)) }
+    ensures { IfOk result (λ bot. bot ≡ new_bot (config_of leaves number) bot.link.failures) }
 {
     let config = config(alloc, leaves, number)?;
-    match Bot::create(alloc, config, MemDisk::new(alloc), MemDisk::new(alloc)) {
+    match Bot::create(alloc, config, SteadyDisk::new(alloc), SteadyDisk::new(alloc)) {
         Ok(bot) => Ok(bot),
         Err(returned) => match returned.error {
-            // Nick and channel are good, the number is one of the botnet, and no fault of a disk is planned.
+            // Nick and channel are good, the number is one of the botnet, and such a disk never fails.
             Failure::Refused(_) => unreachable!(),
             Failure::NoMemory => Err(NoMemory),
         },

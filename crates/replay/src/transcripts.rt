@@ -5,8 +5,7 @@ ghost use Rattle.script.specs.declared.TheConstants.{MAX_SCRIPT};
 ghost use Rattle.linkcalls.specs.declared.TheConstants.{MAX_LEAVES};
 ghost use Rattle.botworld.specs.Standing.{Past, Stands};
 ghost use Rattle.replay.specs.Deeds.{Shows, Makes, command_deeds, deeds_of};
-ghost use Rattle.replay.specs.Doing.{Does, IsDoneFrom};
-ghost use Rattle.replay.specs.Starting.{first_state};
+ghost use Rattle.replay.specs.Doing.{Does, IsDoneByNew};
 ghost use Rattle.replay.specs.Transcript.{IsTranscript, IsRefusedRightly, TellsFault};
 
 use crate::outcomes::put_outcome;
@@ -49,7 +48,7 @@ fn text_of<P: Promise, B: Run>(
     script: &Script,
 ) -> Result<Vec<u8>, NoMemory>
     requires { script.now.leaves ≤ MAX_LEAVES }
-    ensures { IfOk result (λ text. IsDoneFrom P.code_of P.may (first_state script.now.leaves store)
+    ensures { IfOk result (λ text. IsDoneByNew P.code_of P.may script.now.leaves store
         (deeds_of script.now.commands) text.items) }
 {
     let mut world = new_world(alloc, store, script.leaves)?;
