@@ -1,4 +1,8 @@
-// What a bot does in a turn: each call answers the packets that are to be sent.
+// What a bot does in a turn: each call answers the packets that are to be sent, whose records are of good shape.
+ghost use Rattle.std.specs.Prelude.{IfOk};
+ghost use Rattle.linkcalls.specs.Shapes.{AreGood};
+ghost use Rattle.botcore.specs.Steps.{IsGoodEvent};
+
 use crate::moment::Moment;
 use botcore::{Bot, End, Event, Report};
 use botdrive::{DriveEnd, drive_bytes};
@@ -20,11 +24,17 @@ pub fn tell<P: Promise, D: Disk, B: Run>(
     bot: &mut Bot<D>,
     store: &ProcStore<P, B>,
     event: Event,
-) -> Result<Outgoings, NoMemory> {
+) -> Result<Outgoings, NoMemory>
+    requires good { IsGoodEvent event }
+    ensures sends { IfOk result AreGood }
+{
     packets_of(bot.step(alloc, store, event))
 }
 
-fn packets_of(report: Report) -> Result<Outgoings, NoMemory> {
+fn packets_of(report: Report) -> Result<Outgoings, NoMemory>
+    requires good { AreGood report.packets }
+    ensures sends { IfOk result AreGood }
+{
     match report.end {
         End::Done | End::Refused(_) => Ok(report.packets),
         End::NoMemory => Err(NoMemory),
@@ -42,7 +52,9 @@ pub fn hear<P: Promise, D: Disk, B: Run>(
     lines: &mut LineReader,
     irc: &mut Peer,
     now: &Moment,
-) -> Result<Outgoings, NoMemory> {
+) -> Result<Outgoings, NoMemory>
+    ensures sends { IfOk result AreGood }
+{
     let heard = irc.take_heard(alloc);
     let mut bytes = heard.as_slice();
     let report = drive_bytes(

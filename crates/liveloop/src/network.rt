@@ -30,6 +30,8 @@ pub struct Network {
 }
 
 impl Network {
+    ghost use Rattle.linkcalls.specs.Shapes.{AreGood};
+
     /// The server and the hub's listener, and no bot yet.
     ///
     /// # Errors
@@ -189,7 +191,9 @@ impl Network {
         alloc: Global,
         place: usize,
         packets: &Outgoings,
-    ) -> Result<(), NoMemory> {
+    ) -> Result<(), NoMemory>
+        requires good { AreGood packets.now }
+    {
         for outgoing in packets.as_slice() {
             if place == 0 {
                 self.link.tell(alloc, outgoing.to, &outgoing.packet)?;

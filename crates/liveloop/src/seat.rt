@@ -20,6 +20,10 @@ pub struct Seat {
 }
 
 impl Seat {
+    ghost use Rattle.std.specs.Prelude.{IfOk};
+    ghost use Rattle.std.specs.List.{AllByRecursion};
+    ghost use Rattle.linkcalls.specs.Shapes.{HasGoodRecords};
+
     /// A bot whose connections are being made. Takes no memory.
     pub fn new(alloc: Global, bot: Bot<SteadyDisk>, irc: TcpStream, uplink: Option<Uplink>) -> Seat {
         Seat {
@@ -54,7 +58,9 @@ impl Seat {
     ///
     /// # Errors
     /// `NoMemory` where a growth was refused.
-    pub fn take_packets(&mut self, alloc: Global) -> Result<Vec<Packet>, NoMemory> {
+    pub fn take_packets(&mut self, alloc: Global) -> Result<Vec<Packet>, NoMemory>
+        ensures good { IfOk result (λ packets. AllByRecursion HasGoodRecords packets.items) }
+    {
         match &mut self.uplink {
             Some(uplink) => uplink.wire.take_packets(alloc),
             None => Ok(Vec::new(alloc)),
@@ -65,7 +71,9 @@ impl Seat {
     ///
     /// # Errors
     /// `NoMemory` where a growth was refused.
-    pub fn tell_hub(&mut self, alloc: Global, packet: &Packet) -> Result<(), NoMemory> {
+    pub fn tell_hub(&mut self, alloc: Global, packet: &Packet) -> Result<(), NoMemory>
+        requires good { HasGoodRecords packet.now }
+    {
         match &mut self.uplink {
             Some(uplink) => uplink.tell(alloc, packet),
             None => Ok(()),
