@@ -69,7 +69,7 @@ HasMoreAsks-then a b c one other =
 taken_waits : {S : Type 0} (old with_it : S) (waiting : ℕ) (fault : Option ChangeFault) (note : Meaning)
     → (ask_taken old with_it waiting fault).told ≡ Ok note → (ask_taken old with_it waiting fault).after ≡ with_it
 taken_waits old with_it waiting (Some fault) note is = cc
-taken_waits old with_it waiting None note = by (nat_lt waiting 64)
+taken_waits old with_it waiting None note is = by (nat_lt waiting 64) is
   where
     by : (room : Bool) → (if room then noted Queued with_it else refused AsksFull old).told ≡ Ok note
         → (if room then noted Queued with_it else refused AsksFull old).after ≡ with_it

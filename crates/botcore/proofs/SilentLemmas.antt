@@ -1,5 +1,5 @@
 -- Which packets bring a text to a bot, and that such a packet leaves its end of the link as it was.
-use Rattle.std.proofs.Common.{◌≡◌, ◌∙◌, ℕ, zero, suc, ◌==◌, nat_le, nat_lt, not, ◌||◌, Bool, true, false, if◌then◌else◌, List, [], ◌++◌, Option, Some, None, refl, ap, sym}
+use Rattle.std.proofs.Common.{◌≡◌, ◌∙◌, ℕ, zero, suc, ◌+◌, ◌==◌, nat_le, nat_lt, not, ◌||◌, Bool, true, false, if◌then◌else◌, List, [], ◌++◌, Option, Some, None, refl, ap, sym}
 use Rattle.userfile.specs.Apply.{refusal}
 use Rattle.userfile.specs.Records.{Records}
 use Rattle.userfile.specs.Together.{records_fault}
@@ -16,7 +16,7 @@ use Rattle.protocol.specs.Notes.Note.{Accepted, Installed, Old, Stray, Text}
 use Rattle.protocol.specs.Notes.LinkFault.{NumbersSpent, Down}
 use Rattle.protocol.specs.Bots.{How, Works, Row, noted, refused, journals}
 use Rattle.protocol.specs.Snapshots.{PartSet, records_from, joined, set_for, with_part, is_behind}
-use Rattle.protocol.specs.HubRules.{Hub, Accept, hub_folded, version_of, last_request, is_no_leaf, accepts, next_request, repeats, request_placed, request_of, hello_served, text_passed, hub_received, hub_received_up}
+use Rattle.protocol.specs.HubRules.{Hub, Accept, hub_folded, version_of, last_request, is_no_leaf, accepts, replied, next_request, repeats, request_placed, request_of, hello_served, text_passed, hub_received, hub_received_up}
 use Rattle.protocol.specs.LeafRules.{Leaf, Install, leaf_folded, change_placed, next_applied, reply_taken, reply_received, installed, diverged, set_taken, part_taken, leaf_received, leaf_received_up}
 use Rattle.linknet.specs.Ends.{End, AtHub, AtLeaf, end_received}
 use Rattle.botcore.specs.Happenings.{Saying, saying_of}
@@ -56,7 +56,9 @@ module _ (leaves : ℕ) (old : Hub) where
 
   next_silent : (leaf request : ℕ) (change : UserChange) (fault : Option ChangeFault) → IsSilent (next_request leaves Works old leaf request change fault)
   next_silent leaf request change (Some fault) = refl
-  next_silent leaf request change None = accepts_silent _ _ _
+  next_silent leaf request change None =
+      accepts_silent (record { origin = leaf; request = request; change = change })
+      (replied leaves Works old leaf request (Taken (version_of old.kept + 1))) old.loose
 
   repeats_silent : (leaf request : ℕ) (last : Option Reply) → IsSilent (repeats leaves Works old leaf request last)
   repeats_silent leaf request None = refl
@@ -139,7 +141,7 @@ module _ (leaves number : ℕ) (old : Leaf) where
       installed_silent set.version (records_from items) (records_fault (records_from items).users (records_from items).bans)
 
   part_silent : (part : ℕ) (set : PartSet) → IsSilent (part_taken leaves number Works old part set)
-  part_silent part set = set_silent part set (joined set.count set.parts)
+  part_silent part set = set_silent part set (joined set.parts)
 
   leaf_text : (packet : Packet) (saying : Saying) → saying_of (leaf_received leaves number Works old packet).told ≡ Some saying
       → IsOfText (λ how. leaf_received leaves number how old packet) old

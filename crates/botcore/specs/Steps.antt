@@ -108,10 +108,10 @@ GivesUnbind old gone report new = Gives report.end ⊥ old (unbind_due old gone 
 
 -- The link was called: its end of it met the rule, the answer is reported, and the bot is left with that end.
 pub record GivesCall (Met : Result Answer (Failure LinkFault) → BotEnd → Type 0)
-    (left : Result Answer (Failure LinkFault) → BotEnd → Bot) (report : Report) (new : Bot) : Type 0 where
+    (left : Result Answer (Failure LinkFault) → BotEnd → Bot) (told : Report) (new : Bot) : Type 0 where
   pub answer : Result Answer (Failure LinkFault)
   pub met : Met answer new.link
-  pub report : report ≡ answer_report answer
+  pub report : told ≡ answer_report answer
   pub after : new ≡ left answer new.link
 
 -- nothing but the end of the link is another then

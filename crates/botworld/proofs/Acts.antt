@@ -75,7 +75,7 @@ ask_row leaves number (AtLeaf leaf) change = leaf_ask_row leaf _ (ask_row_taken 
 -- a text sends nothing but texts, and leaves the end as it was
 record IsTextRow {S : Type 0} (old : S) (row : Row S) : Type 0 where
   quiet : IsQuiet row.told
-  sends : (P : Packet → Type 0) → ((from to : ℕ) (text : List ℕ) → P (BotText from to text)) → AllOutgoing P row.sends
+  sends : (hub : PastHub) → AllOutgoing (IsKeptAnswer hub) row.sends
   after : row.after ≡ old
 
 text_row_told : {S : Type 0} (old : S) (leaves number next to : ℕ) (text : List ℕ) → IsTextRow old (text_told old leaves number next to text)
@@ -84,21 +84,21 @@ text_row_told {S} old leaves number next to text = by (is_bad_text leaves number
     by : (b : Bool) → IsTextRow old (let row : Row S =
         if b then refused BadBotText old
         else record { told = Ok Relayed; sends = record { to = next; packet = BotText number to text } ∷ []; after = old } in row)
-    by true = record { quiet = refused_is_quiet BadBotText; sends = λ P texts. tt; after = refl }
-    by false = record { quiet = relayed_is_quiet; sends = λ P texts. (texts number to text, tt); after = refl }
+    by true = record { quiet = refused_is_quiet BadBotText; sends = λ hub. tt; after = refl }
+    by false = record { quiet = relayed_is_quiet; sends = λ hub. (tt, tt); after = refl }
 
 hub_text_row : (hub : Hub) (row : Row Hub) → IsTextRow hub row → IsTextRow (AtHub hub) (of_hub (unless_down hub row))
 hub_text_row hub row is = by hub.down
   where
     by : (down : Bool) → IsTextRow (AtHub hub) (of_hub (if down then refused Down hub else row))
-    by true = record { quiet = refused_is_quiet Down; sends = λ P texts. tt; after = refl }
+    by true = record { quiet = refused_is_quiet Down; sends = λ hub. tt; after = refl }
     by false = record { quiet = is.quiet; sends = is.sends; after = ap (λ (h : Hub). AtHub h) is.after }
 
 leaf_text_row : (leaf : Leaf) (row : Row Leaf) → IsTextRow leaf row → IsTextRow (AtLeaf leaf) (of_leaf (unless_down leaf row))
 leaf_text_row leaf row is = by leaf.down
   where
     by : (down : Bool) → IsTextRow (AtLeaf leaf) (of_leaf (if down then refused Down leaf else row))
-    by true = record { quiet = refused_is_quiet Down; sends = λ P texts. tt; after = refl }
+    by true = record { quiet = refused_is_quiet Down; sends = λ hub. tt; after = refl }
     by false = record { quiet = is.quiet; sends = is.sends; after = ap (λ (l : Leaf). AtLeaf l) is.after }
 
 text_row : (leaves number : ℕ) (e : LinkEnd) (to : ℕ) (text : List ℕ) → IsTextRow e (end_did leaves number Works e (Tell to text))
@@ -238,7 +238,7 @@ module _ (h : History) (all : List LinkEnd) (sent : List Sent) (place : ℕ) (ol
       by false = goes
       by true = one_goes acting (record acting { sent = acting.sent ++ map outgoing_told row.sends }) goes row (map outgoing_told row.sends)
           (did_row goes.after _ _ place acting.link (amid acting goes) (Tell to text) Works) is.quiet
-          (λ hub. is.sends (IsKeptAnswer hub) (λ from to text. tt)) (outgoings_are row.sends)
+          is.sends (outgoings_are row.sends)
           (ap (λ (e : LinkEnd). record acting.link { end = e }) (sym is.after)) refl
 
   timer_goes : (acting : Acting) (timer : Timer) (fault : Option ClockFault) → ActsGo h all sent place old acting

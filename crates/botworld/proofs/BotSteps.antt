@@ -15,6 +15,7 @@ use Rattle.protocol.specs.Numbers.{item_at}
 use Rattle.protocol.specs.Packets.{Sent, AcceptedChange, from_wire}
 use Rattle.protocol.specs.Bots.{How, Works, Row}
 use Rattle.protocol.specs.History.{History}
+use Rattle.protocol.specs.Truth.{IsKeptAnswer, AllOutgoing}
 use Rattle.protocol.specs.Network.{posted}
 use Rattle.protocol.specs.Network.Event.{Ask as asks, Pump as pumps, Compact as compacts, Restart as restarts}
 use Rattle.linknet.specs.Ends.{End as LinkEnd, end_received}
@@ -121,7 +122,7 @@ module _ (code_of : List ℕ → Call → Code) (may : List ℕ → Call → Lis
             goes.sound);
         grows = goes.grows;
         count = goes.count;
-        answers = subst (λ (os : List Outgoing). _) (sym c.packets) (goes.answers goes.after.hub.kept);
+        answers = subst (λ (os : List Outgoing). AllOutgoing (IsKeptAnswer goes.after.hub.kept) (outgoings_of os)) (sym c.packets) (goes.answers goes.after.hub.kept);
         fine = subst (λ (x : End). IsFineReport x report.note) (sym e) (subst (IsFineReport Done) (sym c.note) fine);
         accepted = subst (λ (n : Option Note). GrowsByNote place n h.hub.kept.accepted goes.after.hub.kept.accepted) (sym c.note)
             (quiet h.hub.kept.accepted goes.after.hub.kept.accepted goes.accepted);

@@ -54,5 +54,5 @@ told_good w bot event ok = by (is_packet event) refl (is_bot w bot) refl
         let none : told_at w bot event ≡ Err NoSuchPacket = rw (there, packet) refl in
         let bad = subst (λ (r : Result Part Outcome). IsOk r) none ok in cc
     by true packet false there =
-        let none : told_at w bot event ≡ Err NoSuchBot = rw (there, there) refl in
+        let none : told_at w bot event ≡ Err NoSuchBot = rw there refl in
         let bad = subst (λ (r : Result Part Outcome). IsOk r) none ok in cc

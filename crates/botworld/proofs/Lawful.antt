@@ -15,8 +15,6 @@ use Rattle.protocol.specs.Numbers.{last_number, Place, Below, Same, Next, Above,
 use Rattle.protocol.specs.Packets.{AcceptedChange, Outgoing as LinkOutgoing, own, to_each, change_packet as packet_of_change}
 use Rattle.protocol.specs.Packets.Packet.{Change as link_change}
 use Rattle.protocol.specs.Notes.{Note as Meaning, LinkFault as Meant}
-use Rattle.protocol.specs.Notes.Note as meaning
-use Rattle.protocol.specs.Notes.LinkFault as meant
 use Rattle.protocol.specs.Bots.{How, Works, Row, noted, refused, unless_down, journals}
 use Rattle.protocol.specs.HubRules.{Hub, HubState, Accept, version_of, hub_folded, accepts, hub_pumped_up, ask_served, hub_pumped}
 use Rattle.protocol.specs.LeafRules.{Leaf, Apply, leaf_folded, next_applied, change_placed, leaf_received_up, leaf_received}
@@ -158,7 +156,7 @@ change_is_silent leaves i leaf n o r c = by leaf.down
     placed Next = taken (refusal leaf.kept.records c)
     placed Above = refl
 
-    by : (down : Bool) → Silent (if down then refused meant.Down leaf else leaf_received_up leaves i Works leaf (link_change n o r c))
+    by : (down : Bool) → Silent (if down then refused Meant.Down leaf else leaf_received_up leaves i Works leaf (link_change n o r c))
     by true = refl
     by false = placed (place_of n leaf.kept.version)
 
@@ -208,7 +206,7 @@ applies_next code_of may old step o new sound rule packet leaf v origin request 
 -- ---- a pump of the hub
 
 -- the note of an accepted change
-accepted_note : (n : LinkNote) (number : ℕ) → note_of n ≡ meaning.Accepted number → n ≡ note.Accepted number
+accepted_note : (n : LinkNote) (number : ℕ) → note_of n ≡ Meaning.Accepted number → n ≡ note.Accepted number
 accepted_note note.Queued number e = cc
 accepted_note note.Idle number e = cc
 accepted_note (note.Sent request) number e = cc
@@ -237,12 +235,12 @@ pump_keeps leaves w c rest told waits takes = by w.down
     Says row = row.told ≡ Ok told → row.after.kept ≡ hub_folded w.kept (Accept (own c))
 
     room : (b : Bool) (sends : List LinkOutgoing) → Says (
-        if b then journals hub_folded Works w (Accept (own c)) (meaning.Accepted (version_of w.kept + 1)) sends rest
-        else refused meant.NumbersSpent w)
+        if b then journals hub_folded Works w (Accept (own c)) (Meaning.Accepted (version_of w.kept + 1)) sends rest
+        else refused Meant.NumbersSpent w)
     room true sends h = refl
     room false sends h = cc
 
-    by : (down : Bool) → Says (if down then refused meant.Down w else hub_pumped_up leaves Works w w.loose)
+    by : (down : Bool) → Says (if down then refused Meant.Down w else hub_pumped_up leaves Works w w.loose)
     by true h = cc
     by false h =
         let row : hub_pumped_up leaves Works w w.loose ≡ ask_served leaves Works w c rest None = rw (waits, takes) refl in
@@ -272,7 +270,7 @@ last_is old new before now last c was is floor kept grown =
 grown_one : (told : Option Note) (number : ℕ) (old new : List AcceptedChange) → told ≡ Some (link_note (note.Accepted number))
     → GrowsByNote 0 told old new → (last : AcceptedChange) × (new ≡ old ++ last ∷ [])
 grown_one told number old new e grows =
-    let moves : MovesAsTold old new 0 (Ok (meaning.Accepted number)) = subst (λ (n : Option Note). GrowsByNote 0 n old new) e grows in
+    let moves : MovesAsTold old new 0 (Ok (Meaning.Accepted number)) = subst (λ (n : Option Note). GrowsByNote 0 n old new) e grows in
     let more = moves.accepted number refl refl in
     elim moves.stay_or_grow [
       | inl same ↦ absurd (omega (arith, more.0, more.1, ap (λ (l : List AcceptedChange). length l) same))
@@ -287,7 +285,7 @@ accepts_next code_of may old step o new sound sound' grown rule change rest is w
     subst (λ (e : Step). Comes code_of may old.net (part_of old.net e) o new.net) is rule in
     by (slice_get old.net.bots 0) refl waits rule'
   where
-    abbrev Accepted : Type 0
+    Accepted : Type 0
     Accepted = HasNote o (link_note (note.Accepted (length (accepted_by old) + 1))) × (accepted_by new ≡ accepted_by old ++ own change ∷ [])
 
     served : (b : Bot) → slice_get old.net.bots 0 ≡ Some b → (t : TakesPart code_of may old.net (record { bot = 0; event = Pump }) o new.net)
@@ -306,8 +304,8 @@ accepts_next code_of may old step o new sound sound' grown rule change rest is w
         let told : (did t.was.link pumps Works).told ≡ (hub_pumped leaves Works hub).told = rw at refl in
         let left : (did t.was.link pumps Works).after ≡ AtHub (hub_pumped leaves Works hub).after = rw at refl in
         let says : (hub_pumped leaves Works hub).told ≡ Ok (note_of a.answer.note) = sym told ∙ a.told in
-        let number : note_of a.answer.note ≡ meaning.Accepted (length (accepted_by old) + 1) =
-        pump_accepts leaves Works hub change rest (note_of a.answer.note) asks takes' says ∙ ap (λ n. meaning.Accepted (n + 1)) version in
+        let number : note_of a.answer.note ≡ Meaning.Accepted (length (accepted_by old) + 1) =
+        pump_accepts leaves Works hub change rest (note_of a.answer.note) asks takes' says ∙ ap (λ n. Meaning.Accepted (n + 1)) version in
         let note : t.report.note ≡ Some (link_note (note.Accepted (length (accepted_by old) + 1))) =
         a.note ∙ ap (λ (n : LinkNote). Some (link_note n)) (accepted_note a.answer.note (length (accepted_by old) + 1) number) in
         let has : HasNote o (link_note (note.Accepted (length (accepted_by old) + 1))) =

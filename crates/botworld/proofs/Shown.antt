@@ -87,7 +87,7 @@ records_in links zero = refl
 records_in links (suc i) = leaf_records links.leaves i
 
 module _ (s : State) (sound : IsSound s) where
-  links : LinkNet
+  abbrev pub links : LinkNet
   links = sound.links.net
 
   pub all_hold : Holds links s.links

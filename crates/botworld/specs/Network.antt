@@ -90,9 +90,9 @@ pub record IsStart (s : State) : Type 0 where
 -- ---- what holds at each moment
 
 -- a bot's end is that of its place, in a net of so many leaves
-pub record IsPlacedAt (leaves place : ℕ) (b : Bot) : Type 0 where
+pub record IsPlacedAt (count place : ℕ) (b : Bot) : Type 0 where
   pub number : b.link.number ≡ place
-  pub leaves : b.link.leaves ≡ leaves
+  pub leaves : b.link.leaves ≡ count
 
 -- the ends of the bots and the packets stand for what happened, in which all that the links promise holds
 pub record IsSound (s : State) : Type 0 where
