@@ -53,9 +53,11 @@ with_oldest-with_asks (AtLeaf leaf) more =
 
 -- no ask more
 pub HasMoreAsks_refl : (link : BotEnd) → HasMoreAsks link link
-HasMoreAsks_refl link =
-    ([], sym (ap (λ (end : End). record link { end = end })
-    (ap (with_asks link.end) (append-nil (end_asks link.end)) ∙ with_asks-same link.end)))
+HasMoreAsks_refl link = (
+  [],
+  sym (ap (λ (end : End). record link { end = end })
+      (ap (with_asks link.end) (append-nil (end_asks link.end)) ∙ with_asks-same link.end)),
+)
 
 -- asks after asks
 link_with_asks-append : (link : BotEnd) (xs ys : List Change) → link_with_asks (link_with_asks link xs) ys ≡ link_with_asks link (xs ++ ys)

@@ -41,7 +41,14 @@ impl<D: Disk> Bot<D> {
             Cue::Join => {
                 let from = source(message.prefix.as_bytes());
                 let now = self.clock.last().unwrap_or(0);
-                on_join(alloc, from, params, self.channels.current(), self.userfile(), now)
+                on_join(
+                    alloc,
+                    from,
+                    params,
+                    self.channels.current(),
+                    self.userfile(),
+                    now,
+                )
             }
             Cue::RplWelcome => join_all(alloc, params, self.config.channels.as_slice()),
             Cue::ErrNicknameInUse => other_nick(alloc, welcomed, params),
