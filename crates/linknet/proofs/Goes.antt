@@ -1,14 +1,14 @@
 -- What a call of one bot leaves is a moment that history grew into.
-use Rattle.std.proofs.Common.{◌≡◌, ◌⊎◌, inl, inr, ◌+◌, ◌≤◌, ℕ, zero, suc, List, [], ◌∷◌, ◌++◌, length, length-append, append-nil, slice_get, slice_set, Option, None, Some, Result, Ok, refl, ap, sym, subst, ◌∙◌, arith}
+use Rattle.std.proofs.Common.{◌≡◌, ◌⊎◌, inl, inr, ◌+◌, ℕ, zero, suc, List, [], ◌∷◌, ◌++◌, length, length-append, append-nil, slice_get, Some, Result, Ok, refl, ap, sym, subst, ◌∙◌, arith}
 use Rattle.protocol.specs.Numbers.{item_at}
-use Rattle.protocol.specs.Packets.{Packet, Sent, AcceptedChange}
+use Rattle.protocol.specs.Packets.{Sent, AcceptedChange}
 use Rattle.protocol.specs.Notes.{Note, LinkFault}
 use Rattle.protocol.specs.Notes.Note.{Accepted, Restarted}
 use Rattle.protocol.specs.Bots.{How, Row}
 use Rattle.protocol.specs.HubRules.{Hub, version_of, hub_received}
 use Rattle.protocol.specs.LeafRules.{Leaf, leaf_received}
-use Rattle.protocol.specs.Network.{Net, Event, At, Deliver, Outcome, Report, Makes, posted, hub_stepped, leaf_stepped, leaf_met, at_bot, delivered, hub_event, leaf_event}
-use Rattle.protocol.specs.History.{History, PastHub, asked_of, Extends, Grows}
+use Rattle.protocol.specs.Network.{Net, Event, At, Deliver, Report, Makes, hub_stepped, leaf_stepped, leaf_met, at_bot, delivered, hub_event, leaf_event}
+use Rattle.protocol.specs.History.{History, asked_of, Extends, Grows}
 use Rattle.protocol.specs.Soundness.{IsSound}
 use Rattle.protocol.specs.Standing.{Stands}
 use Rattle.protocol.specs.Claims.{MovesAsTold as NetMoves, TellsOf}
@@ -16,8 +16,8 @@ use Rattle.protocol.proofs.HubGoes.{version_stands}
 use Rattle.protocol.proofs.Steps.{Follows as NetFollows, follows}
 use Rattle.protocol.proofs.Moves.{moves_as_told}
 use Rattle.linknet.specs.Ends.{End, AtHub, AtLeaf, of_hub, of_leaf, end_did, end_received}
-use Rattle.linknet.specs.Nets.{leaf_ends, ends_of, IsMoment, TellsReached, MovesAsTold, Follows, RowFollows}
-use Rattle.linknet.proofs.Lists.{leaf_ends-set, IsLeafAt, leaf_at}
+use Rattle.linknet.specs.Nets.{ends_of, IsMoment, TellsReached, MovesAsTold, RowFollows}
+use Rattle.linknet.proofs.Lists.{leaf_ends-set, leaf_at}
 use Rattle.linknet.proofs.Telling.{IsSo, Tells, event_tells, received_tells}
 
 -- ---- the accepted changes

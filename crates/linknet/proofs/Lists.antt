@@ -1,7 +1,7 @@
 -- The leaves of a net among its ends.
-use Rattle.std.proofs.Common.{◌≡◌, ◌+◌, ◌≤◌, ℕ, zero, suc, List, [], ◌∷◌, ◌++◌, length, slice_get, slice_set, Option, None, Some, refl, ap, sym, ◌∙◌, arith}
+use Rattle.std.proofs.Common.{◌≡◌, ℕ, zero, suc, List, [], ◌∷◌, length, slice_get, slice_set, Some, refl, ap, sym}
 use Rattle.protocol.specs.LeafRules.{Leaf}
-use Rattle.linknet.specs.Ends.{End, AtHub, AtLeaf}
+use Rattle.linknet.specs.Ends.{End, AtLeaf}
 use Rattle.linknet.specs.Nets.{leaf_ends}
 
 pub leaf_ends-length : (leaves : List Leaf) → length (leaf_ends leaves) ≡ length leaves

@@ -1,22 +1,19 @@
 -- What each moment shows, and what two moments have in common.
-use Rattle.std.proofs.Common.{◌≡◌, ◌+◌, ◌≤◌, ℕ, zero, suc, List, [], ◌∷◌, length, slice_get, Option, None, Some, refl, ap, sym, subst, ◌∙◌, arith}
-use Rattle.std.specs.List.{AllByRecursion}
-use Rattle.usercodec.specs.Records.{HasShape}
+use Rattle.std.proofs.Common.{◌≡◌, ◌+◌, ◌≤◌, ℕ, zero, suc, List, [], ◌∷◌, length, slice_get, Some, refl, ap, sym, subst, ◌∙◌, arith}
 use Rattle.protocol.specs.Numbers.{item_at}
 use Rattle.protocol.specs.Packets.{Packet, Sent}
 use Rattle.protocol.specs.Packets.Packet.{Hello, Change, Request, Accepted, Refused, BotText, Part}
-use Rattle.protocol.specs.LeafRules.{Leaf}
 use Rattle.protocol.specs.Network.{Net, new_hub, new_leaf, new_leaves, new_net}
 use Rattle.protocol.specs.History.{History, start, records_of, Grows}
 use Rattle.protocol.specs.Soundness.{IsSound}
 use Rattle.protocol.specs.Standing.{Stands}
-use Rattle.protocol.specs.Claims.{WasSent, Holds}
+use Rattle.protocol.specs.Claims.{WasSent}
 use Rattle.protocol.proofs.Lists.{records_of-more, Extends-length}
 use Rattle.protocol.proofs.Holding.{holds}
 use Rattle.protocol.proofs.Runs.{start_stands, start_sound}
 use Rattle.linknet.specs.Ends.{End, AtHub, AtLeaf, new_end, end_version, end_records}
 use Rattle.linknet.specs.Nets.{leaf_ends, ends_of, IsMoment, IsShaped, Shows, Keeps}
-use Rattle.linknet.proofs.Lists.{leaf_ends-length, IsLeafAt, leaf_at}
+use Rattle.linknet.proofs.Lists.{leaf_ends-length, leaf_at}
 use Rattle.linknet.proofs.Goes.{counts}
 
 -- ---- at a moment
@@ -76,13 +73,25 @@ version_grows : (net : Net) (h : History) → Stands net h → IsSound h → (ne
 version_grows net h st sound net' h' st' sound' grows zero a b at at' =
     let was : AtHub net.hub ≡ a = cc in
     let now : AtHub net'.hub ≡ b = cc in
-    omega (arith, ap end_version was, ap end_version now, counts net h st sound, counts net' h' st' sound',
-      Extends-length h.hub.kept.accepted h'.hub.kept.accepted grows.hub.accepted)
+    omega (
+      arith,
+      ap end_version was,
+      ap end_version now,
+      counts net h st sound,
+      counts net' h' st' sound',
+      Extends-length h.hub.kept.accepted h'.hub.kept.accepted grows.hub.accepted,
+    )
 version_grows net h st sound net' h' st' sound' grows (suc place) a b at at' =
     let was = leaf_at net.leaves place a at in
     let now = leaf_at net'.leaves place b at' in
-    omega (arith, ap end_version was.is, ap end_version now.is, (st.leaves place was.leaf was.at).kept.version,
-      (st'.leaves place now.leaf now.at).kept.version, (grows.leaves (suc place)).version)
+    omega (
+      arith,
+      ap end_version was.is,
+      ap end_version now.is,
+      (st.leaves place was.leaf was.at).kept.version,
+      (st'.leaves place now.leaf now.at).kept.version,
+      (grows.leaves (suc place)).version,
+    )
 
 pub keeps : (ends : List End) (packets : List Sent) (h : History) → IsMoment ends packets h
     → (ends' : List End) (packets' : List Sent) (h' : History) → IsMoment ends' packets' h' → Grows h h' → Keeps ends ends'
@@ -100,11 +109,7 @@ keeps ends packets h m ends' packets' h' m' grows = record {
 
 -- ---- the start
 
--- the ends of bots that were never used, the hub's first
-pub new_ends : ℕ → List End
-new_ends count = ends_of (new_net count)
-
-pub starts : (count : ℕ) → IsMoment (ends_of (new_net count)) [] (start count)
+starts : (count : ℕ) → IsMoment (ends_of (new_net count)) [] (start count)
 starts count = record {
   net = new_net count;
   ends_are = refl;
@@ -114,19 +119,19 @@ starts count = record {
 }
 
 -- lists of ends that are new at each place
-new_leaf_ends : (count from : ℕ) (ends : List End) → length ends ≡ count
+new_leaf_ends : (count : ℕ) (ends : List End) → length ends ≡ count
     → ((place : ℕ) (end : End) → slice_get ends place ≡ Some end → end ≡ AtLeaf new_leaf) → ends ≡ leaf_ends (new_leaves count)
-new_leaf_ends zero from [] many are = refl
-new_leaf_ends zero from (end ∷ ends) many are = cc
-new_leaf_ends (suc count) from [] many are = cc
-new_leaf_ends (suc count) from (end ∷ ends) many are =
-    let rest = new_leaf_ends count (from + 1) ends (omega (arith, many)) (λ place e at. are (suc place) e at) in
+new_leaf_ends zero [] many are = refl
+new_leaf_ends zero (end ∷ ends) many are = cc
+new_leaf_ends (suc count) [] many are = cc
+new_leaf_ends (suc count) (end ∷ ends) many are =
+    let rest = new_leaf_ends count ends (omega (arith, many)) (λ place e at. are (suc place) e at) in
     ap (λ e. e ∷ ends) (are zero end refl) ∙ ap (λ es. AtLeaf new_leaf ∷ es) rest
 
 pub begins : (count : ℕ) (ends : List End) → length ends ≡ count + 1
     → ((place : ℕ) (end : End) → slice_get ends place ≡ Some end → end ≡ new_end place count) → IsMoment ends [] (start count)
 begins count [] many are = absurd (omega (arith, many))
 begins count (end ∷ ends) many are =
-    let rest = new_leaf_ends count 0 ends (omega (arith, many)) (λ place e at. are (suc place) e at) in
+    let rest = new_leaf_ends count ends (omega (arith, many)) (λ place e at. are (suc place) e at) in
     subst (λ es. IsMoment es [] (start count))
     (sym (ap (λ e. e ∷ ends) (are zero end refl) ∙ ap (λ es. AtHub (new_hub count) ∷ es) rest)) (starts count)

@@ -1,5 +1,5 @@
 -- What the hub tells of its version is so.
-use Rattle.std.proofs.Common.{◌≡◌, ℕ, zero, suc, ◌+◌, ◌==◌, nat_lt, Bool, true, false, ◌||◌, if◌then◌else◌, List, [], ◌∷◌, ◌++◌, length, length-append, Option, None, Some, Result, Ok, Err, refl, sym, subst, arith}
+use Rattle.std.proofs.Common.{◌≡◌, ℕ, zero, suc, ◌+◌, ◌==◌, nat_lt, Bool, true, false, ◌||◌, if◌then◌else◌, List, [], ◌∷◌, ◌++◌, length, length-append, Option, None, Some, Result, Ok, Err, refl, arith}
 use Rattle.userfile.specs.Apply.{bad_shape, refusal}
 use Rattle.userfile.specs.declared.change.Change.{Change as UserChange}
 use Rattle.userfile.specs.declared.error.ChangeFault.{ChangeFault}
@@ -11,8 +11,8 @@ use Rattle.protocol.specs.Packets.Packet.{Hello, Change, Request, Accepted as ac
 use Rattle.protocol.specs.Notes.{Note, LinkFault}
 use Rattle.protocol.specs.Notes.Note.{Queued, Idle, Sent, Accepted, Refused, Served, Old, Repeat, Gap, Early, Applied, Kept, Installed, Compacted, Relayed, Text, Stray, Restarted}
 use Rattle.protocol.specs.Notes.LinkFault.{AsksFull, Down, NumbersSpent, BadBotText}
-use Rattle.protocol.specs.Bots.{How, Works, Fails, Counts, Row, noted, refused, unless_down, journals, counted, reopened}
-use Rattle.protocol.specs.HubRules.{HubRecord, Accept, Settle, Rebase, Hub, version_of, last_request, hub_folded, is_no_leaf, ask_taken, hub_asked, is_bad_text, text_told, accepts, ask_served, hub_pumped_up, hub_pumped, replied, next_request, repeats, request_placed, request_of, hello_served, text_passed, hub_received_up, hub_received, hub_compacted, hub_restarted}
+use Rattle.protocol.specs.Bots.{How, Works, Fails, Counts, Row, noted, refused, unless_down, journals}
+use Rattle.protocol.specs.HubRules.{Accept, Settle, Rebase, Hub, version_of, last_request, hub_folded, is_no_leaf, ask_taken, hub_asked, is_bad_text, text_told, accepts, ask_served, hub_pumped_up, hub_pumped, replied, next_request, repeats, request_placed, request_of, hello_served, text_passed, hub_received_up, hub_received, hub_compacted, hub_restarted}
 use Rattle.protocol.specs.Network.{Event, Ask, Pump, Tell, Compact, Restart, hub_event}
 
 -- what is told between two versions is so

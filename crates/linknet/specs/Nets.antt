@@ -7,15 +7,15 @@ use Rattle.protocol.specs.Packets.{Packet, Sent, AcceptedChange}
 use Rattle.protocol.specs.Packets.Packet.{Hello, Change, Request, Accepted as accepted_packet, Refused, BotText, Part}
 use Rattle.protocol.specs.Notes.{Note, LinkFault}
 use Rattle.protocol.specs.Notes.Note.{Accepted, Restarted}
-use Rattle.protocol.specs.Bots.{How, Row}
+use Rattle.protocol.specs.Bots.{Row}
 use Rattle.protocol.specs.LeafRules.{Leaf}
-use Rattle.protocol.specs.Network.{Net, Event, posted}
+use Rattle.protocol.specs.Network.{Net, posted}
 use Rattle.protocol.specs.History.{History, records_of, Grows}
 use Rattle.protocol.specs.Truth.{IsKeptAnswer, AllOutgoing}
 use Rattle.protocol.specs.Soundness.{IsSound}
 use Rattle.protocol.specs.Standing.{Stands}
 use Rattle.protocol.specs.Claims.{IsFine}
-use Rattle.linknet.specs.Ends.{End, AtHub, AtLeaf, end_version, end_records, end_did, end_received, with_oldest}
+use Rattle.linknet.specs.Ends.{End, AtHub, AtLeaf, end_version, end_records}
 
 -- ---- a net as a list of ends
 
