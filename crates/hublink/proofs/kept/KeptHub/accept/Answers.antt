@@ -16,10 +16,13 @@ invariant_of-self g c =
     let inside = c.self.inside in
     let entry = c.args.entry in
     holds-written inside.leaves inside.state c.accept_next.new.self inside.down (option_map record_of inside.doubt) inside.ledger c.accept_next.new.ledger
-    (Accept entry) (Adding (Accepted entry.origin entry.request entry.change)) c.self.invariant (ap (λ (h : KeptHub). h.down) c.self.view_is ∙ c.requires.up)
-    (ap (λ (h : KeptHub). refusal h.kept.records entry.change) c.self.view_is ∙ c.requires.taken,
-    (ap (λ (h : KeptHub). nat_lt (version_of h.kept) last_number) c.self.view_is ∙ c.requires.numbered,
-    ap (λ (h : KeptHub). is_next h.kept.replies entry.origin entry.request) c.self.view_is ∙ c.requires.next)) refl c.in-Ok.ensures.row c.in-Ok.ensures.accepts
+    (Accept entry) (Adding (Accepted entry.origin entry.request entry.change)) c.self.invariant (ap (λ (h : KeptHub). h.down) c.self.view_is ∙ c.requires.up) (
+      ap (λ (h : KeptHub). refusal h.kept.records entry.change) c.self.view_is ∙ c.requires.taken,
+      (
+        ap (λ (h : KeptHub). nat_lt (version_of h.kept) last_number) c.self.view_is ∙ c.requires.numbered,
+        ap (λ (h : KeptHub). is_next h.kept.replies entry.origin entry.request) c.self.view_is ∙ c.requires.next,
+      ),
+    ) refl c.in-Ok.ensures.row c.in-Ok.ensures.accepts
 
 pub invariant_of-self-in-Err-Refused : goal.invariant_of-self-in-Err-Refused
 invariant_of-self-in-Err-Refused g c =
@@ -28,7 +31,10 @@ invariant_of-self-in-Err-Refused g c =
     let fails = subst (λ e. Appends inside.ledger (Accepted entry.origin entry.request entry.change) (Err e) c.accept_next.new.ledger) c.in-Err-Refused.field-0-is c.in-Err-Refused.ensures.row in
     rw c.of.ensures
     (holds-failed inside.leaves inside.state c.accept_next.new.self inside.down (option_map record_of inside.doubt) inside.ledger c.accept_next.new.ledger
-    (Accept entry) (Adding (Accepted entry.origin entry.request entry.change)) c.self.invariant (ap (λ (h : KeptHub). h.down) c.self.view_is ∙ c.requires.up)
-    (ap (λ (h : KeptHub). refusal h.kept.records entry.change) c.self.view_is ∙ c.requires.taken,
-    (ap (λ (h : KeptHub). nat_lt (version_of h.kept) last_number) c.self.view_is ∙ c.requires.numbered,
-    ap (λ (h : KeptHub). is_next h.kept.replies entry.origin entry.request) c.self.view_is ∙ c.requires.next)) refl fails c.in-Err-Refused.ensures.stays)
+    (Accept entry) (Adding (Accepted entry.origin entry.request entry.change)) c.self.invariant (ap (λ (h : KeptHub). h.down) c.self.view_is ∙ c.requires.up) (
+      ap (λ (h : KeptHub). refusal h.kept.records entry.change) c.self.view_is ∙ c.requires.taken,
+      (
+        ap (λ (h : KeptHub). nat_lt (version_of h.kept) last_number) c.self.view_is ∙ c.requires.numbered,
+        ap (λ (h : KeptHub). is_next h.kept.replies entry.origin entry.request) c.self.view_is ∙ c.requires.next,
+      ),
+    ) refl fails c.in-Err-Refused.ensures.stays)
