@@ -1,5 +1,5 @@
 -- How a call stands to its row.
-use Rattle.std.proofs.Common.{◌≡◌, ◌+◌, ◌-◌, ◌<◌, ◌≤◌, ◌==◌, ℕ, zero, suc, Bool, true, false, nat_lt, List, [], ◌∷◌, if◌then◌else◌, Option, None, Some, Result, Ok, Err, refl, sym, ap, subst, ◌∙◌, arith, absurd, eq-eqb}
+use Rattle.std.proofs.Common.{◌≡◌, ◌+◌, ◌-◌, ◌<◌, ◌≤◌, ◌==◌, ℕ, zero, suc, Bool, true, false, nat_lt, List, [], ◌∷◌, if◌then◌else◌, Option, None, Some, Result, Ok, Err, refl, sym, ap, subst, ◌∙◌, arith, eq-eqb}
 use Rattle.std.proofs.lemmas.Bool.{ne_eqb}
 use Rattle.std.proofs.lemmas.Bool.Decides.{nat_tests}
 use Rattle.bytetext.specs.declared.failure.Failure.{Failure}
@@ -99,11 +99,11 @@ module _ (old new : KeptHub) (before after : List Change) (row : How → Row Hub
           record {
             told = ap (λ (r : Row Hub). r.told) (is Fails);
             sends = ap (λ (r : Row Hub). r.sends) (is Fails);
-            after = ap (λ (k : KeptHub). (end_of k before).bot) fails.1.0 ∙ ap (λ (r : Row Hub). r.after) (sym (is Fails));
+            after = ap (λ (k : KeptHub). (end_of k before).bot) fails.1 ∙ ap (λ (r : Row Hub). r.after) (sym (is Fails));
           },
-          fails.1.1,
+          fails.2,
         );
-        leaves = ap (λ (k : KeptHub). k.leaves) fails.1.0;
+        leaves = ap (λ (k : KeptHub). k.leaves) fails.1;
       })
 
 -- ---- accepting

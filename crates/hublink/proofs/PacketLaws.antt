@@ -1,5 +1,5 @@
 -- How what is made of a packet stands to its row.
-use Rattle.std.proofs.Common.{◌≡◌, ◌+◌, ◌<◌, ◌≤◌, ◌==◌, ◌||◌, ℕ, zero, suc, Bool, true, false, nat_lt, List, [], ◌∷◌, length, if◌then◌else◌, Option, None, Some, Result, Ok, Err, refl, sym, ap, subst, ◌∙◌, arith, absurd, eq-eqb}
+use Rattle.std.proofs.Common.{◌≡◌, ◌+◌, ◌<◌, ◌≤◌, ◌==◌, ◌||◌, ℕ, zero, suc, Bool, true, false, nat_lt, List, [], ◌∷◌, length, if◌then◌else◌, Option, None, Some, Result, Ok, Err, refl, sym, ap, subst, ◌∙◌, arith, eq-eqb}
 use Rattle.std.proofs.lemmas.Bool.{ne_eqb}
 use Rattle.bytetext.specs.declared.failure.Failure.{Failure}
 use Rattle.bytetext.specs.declared.failure.Failure.TheVariants.{Refused, NoMemory}
@@ -12,8 +12,8 @@ use Rattle.protocol.specs.Notes.Note.{Served, Repeat, Stray, Text, Relayed, Old,
 use Rattle.protocol.specs.Packets.{Packet, Outgoing as Sent, answer_packet}
 use Rattle.protocol.specs.Packets.Packet.{Hello, Request, BotText}
 use Rattle.protocol.specs.Numbers.{Place, Below, Same, Next, Above, item_at, place_of}
-use Rattle.protocol.specs.Bots.{How, Works, Row, journals}
-use Rattle.protocol.specs.HubRules.{Hub, HubRecord, Settle, version_of, last_request, hub_folded, is_no_leaf, hello_served, text_passed, request_placed, next_request, repeats, replied, hub_received_up}
+use Rattle.protocol.specs.Bots.{How, Works, Row, noted}
+use Rattle.protocol.specs.HubRules.{Hub, HubRecord, Settle, version_of, last_request, hub_folded, is_no_leaf, hello_served, text_passed, request_of, request_placed, next_request, repeats, hub_received_up}
 use Rattle.linkcalls.specs.declared.answer.Answer.{Answer}
 use Rattle.linkcalls.specs.declared.answer.Outgoing.{Outgoing}
 use Rattle.linkcalls.specs.declared.error.LinkFault.{LinkFault}
@@ -55,7 +55,8 @@ module _ (old : HubEnd) (leaf version : ℕ) where
 
   pub hello-lacking : is_stray ≡ false → 0 < length sends → Meets old hello_row (Err NoMemory) old
   hello-lacking found some =
-      meets-lacking old hello_row (Ok (Served (length sends))) (ap (λ (r : Row Hub). r.told) (row-served found)) some
+      meets-lacking old hello_row (Ok (Served (length sends))) (ap (λ (r : Row Hub). r.told) (row-served found))
+      (subst (λ (l : List Sent). 0 < length l) (sym (ap (λ (r : Row Hub). r.sends) (row-served found))) some)
 
 -- ---- texts
 
@@ -121,7 +122,10 @@ module _ (old : HubEnd) (leaf request : ℕ) (change : Change) where
       → item_at old.bot.kept.replies leaf ≡ Some last
       → Meets old (λ how. request_placed old.leaves how old.bot leaf request change last (place_of request (last_request last))) result new
       → Meets old request_row result new
-  request-at last new result above found meets = rw (other-than-zero above, found) meets
+  request-at last new result above found meets =
+      subst (λ (b : Bool). Meets old (λ how. if b then noted Stray old.bot
+      else request_of old.leaves how old.bot leaf request change (item_at old.bot.kept.replies leaf)) result new) (sym (other-than-zero above))
+      (subst (λ (o : Option (Option Reply)). Meets old (λ how. request_of old.leaves how old.bot leaf request change o) result new) (sym found) meets)
 
 module _ (old : HubEnd) (leaf request : ℕ) (change : Change) (last : Option Reply) where
   abbrev placed_row : How → Row Hub

@@ -56,6 +56,56 @@ fn version_after_fault(alloc: Global, call: u64, tear: Tear) -> Option<u32> {
     }
 }
 
+// Whether these are the reply to leaf 1 and the change to both leaves.
+fn are_accepted(packets: &[Outgoing]) -> bool {
+    matches!(packets, [reply, first, second]
+        if reply.to == 1
+            && matches!(&reply.packet, Packet::Accepted { leaf: 1, request: 1, number: 1 })
+            && first.to == 1
+            && second.to == 2
+            && matches!(&second.packet, Packet::Change { number: 1, origin: 1, request: 1, .. }))
+}
+
+// Whether this is the one part of one record, for leaf 2.
+fn is_the_part(outgoing: &Outgoing) -> bool {
+    outgoing.to == 2
+        && matches!(&outgoing.packet, Packet::Part { version: 1, part: 1, count: 1, records } if records.len() == 1)
+}
+
+// Whether a request is accepted once, its reply is sent again, and a leaf far behind is sent the records.
+fn answers_its_leaves(alloc: Global) -> Option<bool> {
+    let mut hub = HubLink::create(alloc, MemDisk::new(alloc), MemDisk::new(alloc), 2).ok()?;
+    let request = Packet::Request {
+        leaf: 1,
+        request: 1,
+        change: Change::AddUser {
+            handle: Text::from_slice(alloc, b"alice").ok()?,
+        },
+    };
+    let once = hub.receive(alloc, &request).ok()?;
+    let again = hub.receive(alloc, &request).ok()?;
+    let compacted = hub.compact(alloc).ok()?;
+    let hello = Packet::Hello {
+        leaf: 2,
+        version: 0,
+    };
+    let served = hub.receive(alloc, &hello).ok()?;
+    Some(
+        matches!(once.note, Note::Accepted(1))
+            && are_accepted(once.packets.as_slice())
+            && matches!(again.note, Note::Repeat)
+            && matches!(again.packets.as_slice(), [reply] if reply.to == 1)
+            && matches!(compacted.note, Note::Compacted)
+            && matches!(served.note, Note::Served(1))
+            && matches!(served.packets.as_slice(), [part] if is_the_part(part)),
+    )
+}
+
+#[test]
+fn a_request_is_accepted_once_and_a_leaf_far_behind_gets_records(rt: HostRuntime) {
+    assert!(rt; answers_its_leaves(rt.alloc()) == Some(true));
+}
+
 #[test]
 fn a_hub_numbers_a_change_and_keeps_it(rt: HostRuntime) {
     assert!(rt; numbers_the_first(rt.alloc()) == Some(true));
