@@ -1,23 +1,24 @@
 -- How a call stands to its row.
-use Rattle.std.proofs.Common.{◌≡◌, ◌+◌, ◌-◌, ◌<◌, ◌≤◌, ◌==◌, ℕ, zero, suc, Bool, true, false, nat_lt, List, [], ◌∷◌, if◌then◌else◌, Option, None, Some, Result, Ok, Err, refl, sym, ap, subst, ◌∙◌, arith, absurd, eq-eqb}
+use Rattle.std.proofs.Common.{◌≡◌, ◌+◌, ◌-◌, ◌<◌, ◌≤◌, ◌==◌, ℕ, zero, suc, Bool, true, false, nat_lt, List, [], ◌∷◌, if◌then◌else◌, Option, None, Some, Result, Ok, Err, refl, sym, ap, subst, ◌∙◌, arith, eq-eqb}
 use Rattle.std.proofs.lemmas.Bool.{ne_eqb}
 use Rattle.std.proofs.lemmas.Bool.Decides.{nat_tests}
 use Rattle.bytetext.specs.declared.failure.Failure.{Failure}
 use Rattle.bytetext.specs.declared.failure.Failure.TheVariants.{Refused, NoMemory}
 use Rattle.userfile.specs.declared.change.Change.{Change}
 use Rattle.protocol.specs.Notes.{Note, LinkFault as Fault}
-use Rattle.protocol.specs.Notes.LinkFault.{Down as IsDown}
-use Rattle.protocol.specs.Packets.{Outgoing as Sent}
+use Rattle.protocol.specs.Notes.Note.{Accepted}
+use Rattle.protocol.specs.Notes.LinkFault.{Down as IsDown, NumbersSpent as NoNumber}
+use Rattle.protocol.specs.Packets.{Outgoing as Sent, AcceptedChange}
 use Rattle.protocol.specs.Bots.{How, Works, Fails, Row, refused, journals, unless_down}
-use Rattle.protocol.specs.HubRules.{Hub, HubRecord, hub_folded}
-use Rattle.protocol.specs.Numbers.{Place, Below, Same, Next, Above, place_of}
+use Rattle.protocol.specs.HubRules.{Hub, HubRecord, Accept, version_of, hub_folded, accepts}
+use Rattle.protocol.specs.Numbers.{last_number, Place, Below, Same, Next, Above, place_of}
 use Rattle.linkcalls.specs.declared.answer.Answer.{Answer}
 use Rattle.linkcalls.specs.declared.error.LinkFault.{LinkFault}
-use Rattle.linkcalls.specs.declared.error.LinkFault.TheVariants.{Down, JournalFault}
+use Rattle.linkcalls.specs.declared.error.LinkFault.TheVariants.{Down, JournalFault, NumbersSpent}
 use Rattle.linkcalls.specs.Calls.{IsFault, note_of, outgoings_of}
 use Rattle.linkcalls.specs.Meets.{Refuses, TakesMemory, HasFailed, how_of}
 use Rattle.hublink.specs.Kept.{KeptHub, Journals}
-use Rattle.hublink.specs.Link.{HubEnd, end_of, Meets}
+use Rattle.hublink.specs.Link.{HubEnd, end_of, Meets, Accepts, told_before, told_accepted}
 
 -- ---- calls that journal nothing
 
@@ -39,7 +40,7 @@ pub meets-refused : (old : HubEnd) (row : How → Row Hub) (fault : LinkFault) (
     → row Works ≡ refused said old.bot → IsFault fault (Err said) → Meets old row (Err (Refused fault)) old
 meets-refused old row fault said works is tells = record { row_of = (refuses, failed); leaves = refl }
   where
-    refuses : _
+    refuses : Refuses (row (how_of fault)) fault old.bot
     refuses = subst (λ (h : How). Refuses (row h) fault old.bot) (sym works) (record {
       told = subst (λ (t : Result Note Fault). IsFault fault t) (sym (ap (λ (r : Row Hub). r.told) is)) tells;
       sends = ap (λ (r : Row Hub). r.sends) is;
@@ -98,12 +99,48 @@ module _ (old new : KeptHub) (before after : List Change) (row : How → Row Hub
           record {
             told = ap (λ (r : Row Hub). r.told) (is Fails);
             sends = ap (λ (r : Row Hub). r.sends) (is Fails);
-            after = ap (λ (k : KeptHub). (end_of k before).bot) fails.1.0 ∙ ap (λ (r : Row Hub). r.after) (sym (is Fails));
+            after = ap (λ (k : KeptHub). (end_of k before).bot) fails.1 ∙ ap (λ (r : Row Hub). r.after) (sym (is Fails));
           },
-          fails.1.1,
+          fails.2,
         );
-        leaves = ap (λ (k : KeptHub). k.leaves) fails.1.0;
+        leaves = ap (λ (k : KeptHub). k.leaves) fails.1;
       })
+
+-- ---- accepting
+
+module _ (old : KeptHub) (entry : AcceptedChange) where
+  -- the row of an accepted change
+  abbrev row_of : List Change → List Change → How → Row Hub
+  row_of before after how =
+      accepts old.leaves how (end_of old before).bot entry (told_before entry.origin entry.request (version_of old.kept + 1)) after
+
+  row-is : (before after : List Change) → nat_lt (version_of old.kept) last_number ≡ true → (how : How) → row_of before after how
+      ≡ journals hub_folded how (end_of old before).bot (Accept entry) (Accepted (version_of old.kept + 1))
+      (told_accepted old.leaves (version_of old.kept + 1) entry) after
+  row-is before after left how = rw left refl
+
+  pub accepts-spent : nat_lt (version_of old.kept) last_number ≡ false → Accepts old entry (Err (Refused NumbersSpent)) old
+  accepts-spent none before after =
+      meets-refused (end_of old before) (row_of before after) NumbersSpent NoNumber refl (rw none refl) refl
+
+  pub accepts-lacking : nat_lt (version_of old.kept) last_number ≡ true → Accepts old entry (Err NoMemory) old
+  accepts-lacking left before after =
+      meets-lacking (end_of old before) (row_of before after) (Ok (Accepted (version_of old.kept + 1)))
+      (ap (λ (r : Row Hub). r.told) (row-is before after left Works)) tt
+
+  pub accepts-kept : nat_lt (version_of old.kept) last_number ≡ true → (new : KeptHub) (answer : Answer)
+      → new ≡ record old { kept = hub_folded old.kept (Accept entry); failures = new.failures }
+      → note_of answer.note ≡ Accepted (version_of old.kept + 1)
+      → outgoings_of answer.packets ≡ told_accepted old.leaves (version_of old.kept + 1) entry → Accepts old entry (Ok answer) new
+  accepts-kept left new answer kept notes sent before after =
+      meets-kept old new before after (row_of before after) (Accept entry) (Accepted (version_of old.kept + 1))
+      (told_accepted old.leaves (version_of old.kept + 1) entry) (row-is before after left) answer kept notes sent
+
+  pub accepts-unkept : nat_lt (version_of old.kept) last_number ≡ true → (new : KeptHub) (error : Failure LinkFault)
+      → Journals (Accept entry) old (Err error) new → Accepts old entry (Err error) new
+  accepts-unkept left new error unkept before after =
+      meets-unkept old new before after (row_of before after) (Accept entry) (Accepted (version_of old.kept + 1))
+      (told_accepted old.leaves (version_of old.kept + 1) entry) (row-is before after left) error tt unkept
 
 -- ---- where a number stands
 

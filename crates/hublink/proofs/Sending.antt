@@ -123,7 +123,7 @@ plain-before zero request number = (tt, omega arith)
 plain-before (suc place) request number = ((tt, tt), omega arith)
 
 length-append : (xs ys : List Sent) → length (xs ++ ys) ≡ length xs + length ys
-length-append [] ys = refl
+length-append [] ys = omega arith
 length-append (x ∷ xs) ys = omega (arith, length-append xs ys)
 
 pub plain-accepted : (leaves number : ℕ) (entry : AcceptedChange) → ArePlain (told_accepted leaves number entry)

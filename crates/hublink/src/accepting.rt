@@ -33,15 +33,15 @@ pub(crate) fn accept<D: Disk>(
     ensures accepts { Accepts kept.old (record { origin = origin; request = request; change = change.now }) result kept.new }
     ensures packets { GoOut (MAX_LEAVES + 1) result }
 {
-    let version = kept.state().version();
-    if version == u32::MAX {
+    if !kept.has_version() {
         return Err(Failure::Refused(LinkFault::NumbersSpent));
     }
+    let number = kept.state().version() + 1;
     let entry = AcceptedChange::new(origin, request, change.copy(alloc)?);
-    let packets = accepted_packets(alloc, kept.leaves(), version + 1, &entry)?;
+    let packets = accepted_packets(alloc, kept.leaves(), number, &entry)?;
     match kept.accept(alloc, entry) {
         Ok(()) => Ok(Answer {
-            note: Note::Accepted(version + 1),
+            note: Note::Accepted(number),
             packets: Seq::new(packets),
         }),
         Err(error) => Err(error),

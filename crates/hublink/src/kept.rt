@@ -140,6 +140,20 @@ impl<D: Disk> KeptHub<D> {
         &self.state
     }
 
+    // Whether there is a version after this one.
+    pub(crate) fn has_version(&self) -> bool
+        ensures { result ≡ nat_lt (version_of self.now.kept) last_number }
+    {
+        self.state.version() < u32::MAX
+    }
+
+    // Whether there is a generation after this one.
+    pub(crate) fn has_generation(&self) -> bool
+        ensures { result ≡ nat_lt self.now.kept.generation last_number }
+    {
+        self.state.generation() < u32::MAX
+    }
+
     // Whether nothing is taken but a restart.
     pub(crate) fn is_down(&self) -> bool
         ensures { result ≡ self.now.down }

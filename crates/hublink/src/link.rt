@@ -218,7 +218,7 @@ impl<D: Disk> HubLink<D> {
         if self.kept.is_down() {
             return Err(Failure::Refused(LinkFault::Down));
         }
-        if self.kept.state().generation() == u32::MAX {
+        if !self.kept.has_generation() {
             return Err(Failure::Refused(LinkFault::NumbersSpent));
         }
         match self.kept.compact(alloc) {

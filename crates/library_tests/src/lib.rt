@@ -11,6 +11,8 @@ mod flags;
 #[cfg(test)]
 mod folding;
 #[cfg(test)]
+mod hubs;
+#[cfg(test)]
 mod lines;
 #[cfg(test)]
 mod masks;
