@@ -1,5 +1,5 @@
 -- What a journal means once a record was written to it, or may have been.
-use Rattle.std.proofs.Common.{◌≡◌, ◌≢◌, ◌⊎◌, ◌<◌, ◌≤◌, ◌-◌, ◌^◌, ◌+◌, ℕ, Bool, true, false, List, [], Option, None, Some, Result, Ok, Err, refl, sym, ap, subst, ◌∙◌, inl, inr, arith}
+use Rattle.std.proofs.Common.{◌≡◌, ◌≢◌, ◌⊎◌, ◌<◌, ◌≤◌, ◌-◌, ◌^◌, ◌+◌, ℕ, Bool, true, false, List, [], Option, None, Some, Result, Ok, Err, refl, sym, ap, subst, ◌∙◌, inl, inr, arith, nat_lt, ltb-true}
 use Rattle.bytetext.specs.declared.failure.Failure.{Failure}
 use Rattle.bytetext.specs.declared.failure.Failure.TheVariants.{Refused, NoMemory}
 use Rattle.storage.specs.declared.disk.DiskFault.{DiskFault}
@@ -8,6 +8,7 @@ use Rattle.botjournal.specs.Bases.{IsGoodOut}
 use Rattle.botjournal.specs.Contents.{Contents}
 use Rattle.botjournal.specs.declared.entry.Entry.{Entry}
 use Rattle.botjournal.specs.Ledger.{Ledger, Account, Failures, Failed, Pending, Adding, Rebasing, Writes, FailsAt, Appends, written, settled, counted as contents_counted}
+use Rattle.protocol.specs.Numbers.{last_number}
 use Rattle.protocol.specs.Bots.{counted}
 use Rattle.protocol.specs.LeafRules.{LeafState, LeafRecord, Apply, Out, Done, Install, Compact, leaf_folded}
 use Rattle.protocol.specs.Journals.{leaf_meaning, leaf_written, LeafMay}
@@ -64,6 +65,13 @@ pub journal-up : (number : ℕ) (kept : LeafState) (down : Bool) (doubt : Option
     → down ≡ false → account.down ≡ false
 journal-up number kept true doubt account holds up = absurd (cc)
 journal-up number kept false doubt account holds up = holds.stands.up
+
+-- such a journal has generations left where its state has
+pub never-spent : (number : ℕ) (kept : LeafState) (down : Bool) (doubt : Option LeafRecord) (account : Account) → Holds number kept down doubt account
+    → down ≡ false → nat_lt kept.generation last_number ≡ true → account.contents.generation ≡ 2 ^ 32 - 1 → ⊥
+never-spent number kept true doubt account holds up left spent = absurd (cc)
+never-spent number kept false doubt account holds up left spent =
+    omega (arith, ltb-true kept.generation last_number left, holds.stands.means.generation, spent)
 
 pub holds-written : (number : ℕ) (kept next : LeafState) (down : Bool) (doubt : Option LeafRecord) (old new : Ledger) (entry : LeafRecord) (pending : Pending)
     → Holds number kept down doubt old.account → down ≡ false → AreSound kept.records → LeafMay kept entry

@@ -1,4 +1,7 @@
 mod KeptLaws
 mod LinkLaws
+mod RowLaws
 mod RestartLaws
 mod OpenLaws
+mod PartLaws
+mod TogetherLaws

@@ -77,8 +77,8 @@ impl KeptParts {
         ensures whole { joined (slice_set self.now.parts (part - 1) (Some records.now)) ≡ option_map left result }
         ensures good { IfSome result (λ walk. AllByRecursion IsGoodRecord (left walk)) }
     {
-        let (front, after) = self.parts.split_at(usize::from(part) - 1);
-        let back = &after[1..];
+        let (front, _) = self.parts.split_at(usize::from(part) - 1);
+        let (_, back) = self.parts.split_at(usize::from(part));
         if are_there(front) && are_there(back) {
             Some(Walk {
                 here: &[],

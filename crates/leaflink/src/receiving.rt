@@ -14,7 +14,8 @@ use usercodec::Record;
 use userfile::Change;
 
 impl<D: Disk> LeafLink<D> {
-    ghost use Rattle.std.specs.Prelude.{◌≡◌, ◌<◌, ◌≤◌, [], IfOk, false};
+    ghost use Rattle.std.specs.Prelude.{◌≡◌, ◌<◌, ◌≤◌, ◌||◌, nat_le, [], IfOk, false};
+    ghost use Rattle.protocol.specs.Snapshots.{is_behind};
     ghost use Rattle.std.specs.List.{AllByRecursion};
     ghost use Rattle.usercodec.specs.Records.{IsGoodRecord};
     ghost use Rattle.linkcalls.specs.Shapes.{HasGoodRecords};
@@ -93,6 +94,7 @@ impl<D: Disk> LeafLink<D> {
             return Ok(Answer::only(alloc, Note::Early));
         }
         if self.kept.state().userfile().refusal_of(change).is_some() {
+            self.parts = None;
             return Err(Failure::Refused(LinkFault::Diverged));
         }
         match self.kept.apply(alloc, change) {
@@ -113,10 +115,13 @@ impl<D: Disk> LeafLink<D> {
         ensures row { MeetsRow (reply_placed_at self.old leaf request reply) self.old result self.new }
         ensures few { IfOk result (λ answer. answer.packets ≡ []) }
     {
-        if leaf != self.kept.number() || request == 0 {
+        if is_no_reply(leaf, request, self.kept.number()) {
             return Ok(Answer::only(alloc, Note::Stray));
         }
-        if self.kept.state().out().is_none() || request != self.kept.state().last_request() {
+        if self.kept.state().out().is_none() {
+            return Ok(Answer::only(alloc, Note::Old));
+        }
+        if request != self.kept.state().last_request() {
             return Ok(Answer::only(alloc, Note::Old));
         }
         match self.kept.end_request(alloc) {
@@ -142,10 +147,17 @@ impl<D: Disk> LeafLink<D> {
         if is_no_part(part, count) {
             return Ok(Answer::only(alloc, Note::Stray));
         }
-        if version <= self.kept.state().version() || is_behind(version, &self.parts) {
+        if self.is_old_part(version) {
             return Ok(Answer::only(alloc, Note::Old));
         }
         self.take_part(alloc, version, part, count, records)
+    }
+
+    // Whether the leaf is at that version or above, or keeps parts of a later one.
+    fn is_old_part(&self, version: u32) -> bool
+        ensures { result ≡ (nat_le version self.now.bot.kept.version || is_behind version self.now.bot.loose.parts) }
+    {
+        version <= self.kept.state().version() || is_behind(version, &self.parts)
     }
 
     // Takes a part that is new: where it is the last one that was missing, all records are put in place.
@@ -195,7 +207,7 @@ impl<D: Disk> LeafLink<D> {
         ensures row { MeetsRow (text_placed_at self.now from to text.now) self.now result self.now }
         ensures few { IfOk result (λ answer. answer.packets ≡ []) }
     {
-        if from > self.leaves || to != self.kept.number() {
+        if is_no_text(from, to, self.kept.number(), self.leaves) {
             return Ok(Answer::only(alloc, Note::Stray));
         }
         let text = text.copy(alloc)?;
@@ -218,4 +230,18 @@ fn is_no_part(part: u8, count: u8) -> bool
     ensures { result ≡ ((part == 0) || nat_lt count part) }
 {
     part == 0 || count < part
+}
+
+// Whether a reply is to none of this leaf's requests.
+fn is_no_reply(leaf: u16, request: u32, number: u16) -> bool
+    ensures { result ≡ (not (leaf == number) || (request == 0)) }
+{
+    leaf != number || request == 0
+}
+
+// Whether a text is not for this leaf, or from none of the net.
+fn is_no_text(from: u16, to: u16, number: u16, leaves: u16) -> bool
+    ensures { result ≡ (nat_lt leaves from || not (to == number)) }
+{
+    from > leaves || to != number
 }

@@ -29,7 +29,7 @@ impl<'a> Walk<'a> {
     // Whether the records are those of one userfile. It takes time by the square of their number, which is limited first.
     pub(crate) fn stand_together(self) -> bool
         requires good { AllByRecursion IsGoodRecord (left self) }
-        ensures { result ≡ stand_together (records_from (left self)) }
+        ensures { result ≡ stand_together (records_from (left self.entry)) }
     {
         self.are_few() && !self.repeats()
     }
@@ -38,7 +38,7 @@ impl<'a> Walk<'a> {
     pub(crate) fn userfile(self, alloc: Global) -> Result<Userfile, NoMemory>
         requires good { AllByRecursion IsGoodRecord (left self) }
         requires together { stand_together (records_from (left self)) ≡ true }
-        ensures { IfOk result (λ userfile. userfile ≡ records_from (left self)) }
+        ensures { IfOk result (λ userfile. userfile ≡ records_from (left self.entry)) }
     {
         let items = self.copies(alloc)?;
         match userfile_of(alloc, items.as_slice()) {
@@ -49,7 +49,7 @@ impl<'a> Walk<'a> {
 
     // A copy of each record, in order.
     fn copies(self, alloc: Global) -> Result<Vec<Record>, NoMemory>
-        ensures { IfOk result (λ items. items.items ≡ left self) }
+        ensures { IfOk result (λ items. items.items ≡ left self.entry) }
     {
         let mut items = Vec::new(alloc);
         let mut rest = self;
@@ -62,7 +62,7 @@ impl<'a> Walk<'a> {
 
     // Whether there are no more users and bans than a userfile holds.
     fn are_few(self) -> bool
-        ensures { result ≡ (nat_le (length (users_in (left self))) MAX_USERS && nat_le (length (bans_in (left self))) MAX_BANS) }
+        ensures { result ≡ (nat_le (length (users_in (left self.entry))) MAX_USERS && nat_le (length (bans_in (left self.entry))) MAX_BANS) }
     {
         let mut users = 0;
         let mut bans = 0;
@@ -89,7 +89,7 @@ impl<'a> Walk<'a> {
 
     // Whether two records clash.
     fn repeats(self) -> bool
-        ensures { result ≡ repeats clash (left self) }
+        ensures { result ≡ repeats clash (left self.entry) }
     {
         let mut rest = self;
         while let Some((record, after)) = rest.next() {
@@ -103,7 +103,7 @@ impl<'a> Walk<'a> {
 
     // Whether one of them clashes with this record.
     fn has_clash(self, record: &Record) -> bool
-        ensures { result ≡ list_any (clash record.now) (left self) }
+        ensures { result ≡ list_any (clash record.now) (left self.entry) }
     {
         let mut rest = self;
         while let Some((other, after)) = rest.next() {
@@ -117,7 +117,7 @@ impl<'a> Walk<'a> {
 
     // The next record, and the walk on from it.
     fn next(self) -> Option<(&'a Record, Walk<'a>)>
-        ensures { Steps (left self) result }
+        ensures { Steps (left self.entry) result }
     {
         let open = self.opened();
         match open.here {
@@ -128,7 +128,7 @@ impl<'a> Walk<'a> {
 
     // The same walk, with a record here where one is left.
     fn opened(self) -> Walk<'a>
-        ensures same { left result ≡ left self }
+        ensures same { left result ≡ left self.entry }
         ensures open { result.here.now ≡ [] → left result ≡ [] }
     {
         let mut open = self;
