@@ -33,15 +33,15 @@ good-oldest (suc count) (first ∷ changes) good = (good.0, good-oldest count ch
 
 -- ---- a row that is chosen by a test
 
-pub meets-then : (test : Bool) (yes no : How → Row Leaf) (old new : LeafEnd) (result : Result Answer (Failure LinkFault)) → test ≡ true
-    → MeetsRow yes old result new → MeetsRow (λ how. if test then yes how else no how) old result new
-meets-then test yes no old new result is meets =
-    subst (λ (b : Bool). MeetsRow (λ how. if b then yes how else no how) old result new) (sym is) meets
+pub meets-then : (test : Bool) (one other : How → Row Leaf) (old new : LeafEnd) (result : Result Answer (Failure LinkFault)) → test ≡ true
+    → MeetsRow one old result new → MeetsRow (λ how. if test then one how else other how) old result new
+meets-then test one other old new result is meets =
+    subst (λ (b : Bool). MeetsRow (λ how. if b then one how else other how) old result new) (sym is) meets
 
-pub meets-else : (test : Bool) (yes no : How → Row Leaf) (old new : LeafEnd) (result : Result Answer (Failure LinkFault)) → test ≡ false
-    → MeetsRow no old result new → MeetsRow (λ how. if test then yes how else no how) old result new
-meets-else test yes no old new result is meets =
-    subst (λ (b : Bool). MeetsRow (λ how. if b then yes how else no how) old result new) (sym is) meets
+pub meets-else : (test : Bool) (one other : How → Row Leaf) (old new : LeafEnd) (result : Result Answer (Failure LinkFault)) → test ≡ false
+    → MeetsRow other old result new → MeetsRow (λ how. if test then one how else other how) old result new
+meets-else test one other old new result is meets =
+    subst (λ (b : Bool). MeetsRow (λ how. if b then one how else other how) old result new) (sym is) meets
 
 -- a leaf that is up meets the row of one that is
 pub meets-up : (row : How → Row Leaf) (old new : LeafEnd) (result : Result Answer (Failure LinkFault)) → old.bot.down ≡ false
