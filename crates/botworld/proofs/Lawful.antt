@@ -306,13 +306,13 @@ accepts_next code_of may old step o new sound sound' grown rule change rest is w
         let says : (hub_pumped leaves Works hub).told ≡ Ok (note_of a.answer.note) = sym told ∙ a.told in
         let number : note_of a.answer.note ≡ Meaning.Accepted (length (accepted_by old) + 1) =
         pump_accepts leaves Works hub change rest (note_of a.answer.note) asks takes' says ∙ ap (λ n. Meaning.Accepted (n + 1)) version in
-        let note : t.report.note ≡ Some (link_note (note.Accepted (length (accepted_by old) + 1))) =
+        let tells : t.report.note ≡ Some (link_note (note.Accepted (length (accepted_by old) + 1))) =
         a.note ∙ ap (λ (n : LinkNote). Some (link_note n)) (accepted_note a.answer.note (length (accepted_by old) + 1) number) in
         let has : HasNote o (link_note (note.Accepted (length (accepted_by old) + 1))) =
-        subst (λ (x : Outcome). HasNote x (link_note (note.Accepted (length (accepted_by old) + 1)))) (sym t.told) note in
+        subst (λ (x : Outcome). HasNote x (link_note (note.Accepted (length (accepted_by old) + 1)))) (sym t.told) tells in
         let by_note : GrowsAsToldBy old o new = grown in
         let told_so = subst (λ (x : Outcome). GrowsAsToldBy old x new) t.told by_note in
-        let one = grown_one t.report.note (length (accepted_by old) + 1) (accepted_by old) (accepted_by new) note told_so in
+        let one = grown_one t.report.note (length (accepted_by old) + 1) (accepted_by old) (accepted_by new) tells told_so in
         let now : AtHub sound'.links.net.hub ≡ AtHub (hub_pumped leaves Works hub).after =
         sym (hub_of new sound' t.after (after_at code_of may old.net _ o new.net t)) ∙ a.after ∙ left in
         let hub' : sound'.links.net.hub ≡ (hub_pumped leaves Works hub).after = cc in
