@@ -1,4 +1,5 @@
 // The bots that are timed.
+ghost use Rattle.botcore.specs.Steps.{IsGoodEvent};
 
 use crate::quiet::Store;
 use crate::stop::Stop;
@@ -79,7 +80,14 @@ fn mask(alloc: Global, number: u32) -> Result<Text, NoMemory> {
 }
 
 // Tells the bot what can be done.
-fn tell(alloc: Global, bot: &mut Bot<MemDisk>, store: &Store, event: Event) -> Result<(), Stop> {
+fn tell(
+    alloc: Global,
+    bot: &mut Bot<MemDisk>,
+    store: &Store,
+    event: Event,
+) -> Result<(), Stop>
+    requires good { IsGoodEvent event }
+{
     match bot.step(alloc, store, event).end {
         End::Done => Ok(()),
         End::Refused(_) => Err(Stop::Refused),

@@ -1,4 +1,7 @@
 // What one bot may be told before it is made, and what its steps call.
+ghost use Rattle.std.specs.Prelude.{IfOk};
+ghost use Rattle.botcore.specs.Steps.{IsGoodEvent};
+
 use crate::procs::{Built, Ours, store_of};
 use crate::sink::Sink;
 use crate::stop::{BAD_WORDS, CaseError};
@@ -102,7 +105,9 @@ fn take(
     Ok(())
 }
 
-fn event_of(alloc: Global, step: &[u8]) -> Result<Event, CaseError> {
+fn event_of(alloc: Global, step: &[u8]) -> Result<Event, CaseError>
+    ensures good { IfOk result IsGoodEvent }
+{
     let (name, rest) = cut(step, b' ');
     match name {
         b"bind" => Ok(Event::Bind(new_bind(alloc, rest)?)),
