@@ -6,6 +6,7 @@ use bytetext::{NoMemory, Text, TryCopy};
 use disks::{MemDisk, Tear};
 use linkcalls::{Answer, LinkError, LinkFault, Note, Packet};
 use std::alloc::Global;
+use storage::Disk;
 use userfile::Change;
 
 fn add_alice(alloc: Global) -> Result<Change, NoMemory> {
@@ -110,9 +111,11 @@ fn fault_of(answer: Result<Answer, LinkError>) -> Option<LinkFault> {
 fn stopped_hub(alloc: Global, tear: Tear) -> Option<BotLink<MemDisk>> {
     let hub = new_link(alloc, 0)?;
     let disks = hub.into_disks();
-    let mut first = disks.first;
+    let (mut first, mut second) = (disks.first, disks.second);
+    first.reopen();
+    second.reopen();
     first.plan(3, tear);
-    BotLink::open(alloc, first, disks.second, 0, 1).ok()
+    BotLink::open(alloc, first, second, 0, 1).ok()
 }
 
 // Whether such a hub tells no more than that it is down, until a restart finds this version.
