@@ -10,8 +10,8 @@ ghost use Rattle.botdrive.specs.Outboxes.{course_of};
 use botcore::{Bot, End, Report};
 use bytetext::{NoMemory, Texts};
 use ircline::Line;
-use procstore::{ProcStore, Promise, Run};
 use linkcalls::{MAX_TEXTS, Outgoing, Outgoings};
+use procstore::{ProcStore, Promise, Run};
 use std::alloc::Global;
 use storage::Disk;
 

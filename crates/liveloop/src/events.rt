@@ -8,9 +8,9 @@ use botcore::{Bot, End, Event, Report};
 use botdrive::{DriveEnd, drive_bytes};
 use bytetext::NoMemory;
 use ircline::LineReader;
+use linkcalls::Outgoings;
 use loopback::Peer;
 use procstore::{ProcStore, Promise, Run};
-use linkcalls::Outgoings;
 use std::alloc::Global;
 use storage::Disk;
 

@@ -6,11 +6,11 @@ use crate::seat::Seat;
 use botcore::{Bot, Event};
 use bytetext::NoMemory;
 use ircline::LineReader;
+use linkcalls::Outgoings;
 use loopback::{House, LinkHouse, Peer, Uplink, local};
 use mio::net::TcpStream;
 use procstore::{ProcStore, Promise, Run};
 use replay::SteadyDisk;
-use linkcalls::Outgoings;
 use std::alloc::Global;
 use std::io;
 use std::net::{Net, SocketAddr};
@@ -186,12 +186,7 @@ impl Network {
     ///
     /// # Errors
     /// `NoMemory` where a growth was refused.
-    pub fn pass(
-        &mut self,
-        alloc: Global,
-        place: usize,
-        packets: &Outgoings,
-    ) -> Result<(), NoMemory>
+    pub fn pass(&mut self, alloc: Global, place: usize, packets: &Outgoings) -> Result<(), NoMemory>
         requires good { AreGood packets.now }
     {
         for outgoing in packets.as_slice() {

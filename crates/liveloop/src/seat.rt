@@ -25,7 +25,12 @@ impl Seat {
     ghost use Rattle.linkcalls.specs.Shapes.{HasGoodRecords};
 
     /// A bot whose connections are being made. Takes no memory.
-    pub fn new(alloc: Global, bot: Bot<SteadyDisk>, irc: TcpStream, uplink: Option<Uplink>) -> Seat {
+    pub fn new(
+        alloc: Global,
+        bot: Bot<SteadyDisk>,
+        irc: TcpStream,
+        uplink: Option<Uplink>,
+    ) -> Seat {
         Seat {
             bot,
             lines: LineReader::new(alloc),

@@ -64,8 +64,10 @@ fn a_leaf_applies(alloc: Global) -> bool {
     let (Some(mut leaf), Ok(packet)) = (new_link(alloc, 1), first_change(alloc)) else {
         return false;
     };
-    matches!(note_of(alloc, leaf.receive(alloc, &packet)), Some(Note::Applied(1)))
-        && matches!(note_of(alloc, leaf.compact(alloc)), Some(Note::Compacted))
+    matches!(
+        note_of(alloc, leaf.receive(alloc, &packet)),
+        Some(Note::Applied(1))
+    ) && matches!(note_of(alloc, leaf.compact(alloc)), Some(Note::Compacted))
         && leaf.version() == 1
         && !leaf.is_down()
 }

@@ -6,8 +6,8 @@ use botcore::{Event, NewBind, Note};
 use botworld::{Outcome, Step, Transcript, World};
 use bytetext::{NoMemory, Text};
 use ircline::read_line;
-use procstore::{Action, Actions, BotWish, Call, Code, Proc, ProcStore, Reply, Run};
 use linkcalls::Note as LinkNote;
+use procstore::{Action, Actions, BotWish, Call, Code, Proc, ProcStore, Reply, Run};
 use std::alloc::Global;
 
 // A body that sends eight texts to leaf 1.

@@ -53,7 +53,12 @@ fn bot(alloc: Global, leaves: u16, number: u16) -> Result<Bot<SteadyDisk>, NoMem
     ensures { IfOk result (λ bot. bot ≡ new_bot (config_of leaves number) bot.link.failures) }
 {
     let config = config(alloc, leaves, number)?;
-    match Bot::create(alloc, config, SteadyDisk::new(alloc), SteadyDisk::new(alloc)) {
+    match Bot::create(
+        alloc,
+        config,
+        SteadyDisk::new(alloc),
+        SteadyDisk::new(alloc),
+    ) {
         Ok(bot) => Ok(bot),
         Err(returned) => match returned.error {
             // Nick and channel are good, the number is one of the botnet, and such a disk never fails.

@@ -80,12 +80,7 @@ fn mask(alloc: Global, number: u32) -> Result<Text, NoMemory> {
 }
 
 // Tells the bot what can be done.
-fn tell(
-    alloc: Global,
-    bot: &mut Bot<MemDisk>,
-    store: &Store,
-    event: Event,
-) -> Result<(), Stop>
+fn tell(alloc: Global, bot: &mut Bot<MemDisk>, store: &Store, event: Event) -> Result<(), Stop>
     requires good { IsGoodEvent event }
 {
     match bot.step(alloc, store, event).end {

@@ -50,7 +50,12 @@ impl Connection {
     }
 
     /// Lets a bot come to the channel `#egg`, where it is op.
-    pub fn open(&mut self, alloc: Global, bot: &mut Bot<MemDisk>, store: &Store) -> Result<(), Stop> {
+    pub fn open(
+        &mut self,
+        alloc: Global,
+        bot: &mut Bot<MemDisk>,
+        store: &Store,
+    ) -> Result<(), Stop> {
         self.drive(alloc, bot, store, WELCOME, ARRIVAL)
     }
 
