@@ -9,7 +9,7 @@ use Rattle.botcore.proofs.RunningLemmas.{rise_run, passed_run, last_after_readin
 use Rattle.botcore.proofs.bot.Bot.run.Goals as goal
 
 pub run_seconds-requires-clause-rise : goal.run_seconds-requires-clause-rise
-run_seconds-requires-clause-rise c =
+run_seconds-requires-clause-rise g c =
     let now = c.args.now in
     let inside = c.self.inside in
     let seconds = c.as_slice.ensures.value ∙ c.in-Ok.ensures.seconds ∙ ap (λ (k : Option ℕ). seconds_run k now) c.in_ok-clock.ensures.equal in
@@ -18,7 +18,7 @@ run_seconds-requires-clause-rise c =
     (subst (Rise inside.timers.last) (sym seconds) (rise_run inside.clock inside.timers.last now c.self.invariant.0 c.requires.moment fresh))
 
 pub returns-clause-reading : goal.returns-clause-reading
-returns-clause-reading c =
+returns-clause-reading g c =
     let now = c.args.now in
     let inside = c.self.inside in
     let seconds = c.as_slice.ensures.value ∙ c.in-Ok.ensures.seconds ∙ ap (λ (k : Option ℕ). seconds_run k now) c.in_ok-clock.ensures.equal in

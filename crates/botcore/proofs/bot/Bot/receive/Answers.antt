@@ -1,0 +1,52 @@
+use Rattle.std.proofs.Common.{refl, subst}
+use Rattle.protocol.specs.Bots.{Works}
+use Rattle.botlink.specs.Links.{took}
+use Rattle.botcore.specs.Bots.{Bot}
+use Rattle.botcore.specs.Happenings.{saying_of}
+use Rattle.botcore.specs.Steps.{TakesPacket}
+use Rattle.botcore.proofs.PacketLemmas.{answered, failed}
+use Rattle.botcore.proofs.bot.Bot.receive.Goals as goal
+
+pub returns-in-Ok-clause-takes : goal.returns-in-Ok-clause-takes
+returns-in-Ok-clause-takes g c =
+    let old : Bot
+    = record {
+      config = c.self.inside.config;
+      link = c.self.inside.link;
+      binds = c.self.inside.binds;
+      channels = c.self.inside.channels.current;
+      clock = c.self.inside.clock;
+      timers = c.self.inside.timers;
+      queues = c.self.inside.queues;
+      welcomed = c.self.inside.welcomed;
+    } in
+    subst
+    (λ (b : Bot).
+    TakesPacket (saying_of (took b.link c.args.packet.now Works).told) g.P.Promise.code_of g.P.Promise.may c.args.store.now
+    b c.args.packet.now
+    c.take_answer.result c.take_answer.new.self) c.self.view_is
+    (answered g.P.Promise.code_of g.P.Promise.may c.args.store.now old c.receive.new.self
+    c.take_answer.new.self c.args.packet.now c.in-Ok.answer c.take_answer.result c.in-Ok.ensures.row
+    c.take_answer.ensures.text c.take_answer.ensures.report c.take_answer.ensures.same)
+
+pub returns-in-Err-clause-takes : goal.returns-in-Err-clause-takes
+returns-in-Err-clause-takes g c =
+    let old : Bot
+    = record {
+      config = c.self.inside.config;
+      link = c.self.inside.link;
+      binds = c.self.inside.binds;
+      channels = c.self.inside.channels.current;
+      clock = c.self.inside.clock;
+      timers = c.self.inside.timers;
+      queues = c.self.inside.queues;
+      welcomed = c.self.inside.welcomed;
+    } in
+    let new : Bot = record old { link = c.receive.new.self } in
+    subst
+    (λ (b : Bot).
+    TakesPacket (saying_of (took b.link c.args.packet.now Works).told) g.P.Promise.code_of g.P.Promise.may c.args.store.now
+    b c.args.packet.now
+    c.of_answer.result new) c.self.view_is
+    (failed g.P.Promise.code_of g.P.Promise.may c.args.store.now old new c.receive.new.self c.args.packet.now c.in-Err.why c.of_answer.result
+    c.in-Err.ensures.row refl c.of_answer.ensures)
