@@ -1,12 +1,12 @@
 -- What a journal means to a hub has a place for each leaf's reply, and each reply at its leaf's; and so its base has a spelling.
-use Rattle.std.proofs.Common.{◌≡◌, ◌<◌, ◌≤◌, ◌^◌, ℕ, zero, suc, ◌+◌, ◌==◌, nat_le, nat_lt, Bool, true, false, ◌&&◌, if◌then◌else◌, List, [], ◌∷◌, length, slice_get, Option, None, Some, is_none, refl, ap, sym, subst, ◌∙◌, arith, eq-eqb}
-use Rattle.std.proofs.lemmas.Bool.{and_parts, ne_eqb, eqb-true}
+use Rattle.std.proofs.Common.{◌≡◌, ◌<◌, ◌≤◌, ◌^◌, ℕ, zero, suc, ◌+◌, ◌==◌, nat_le, nat_lt, Bool, true, false, if◌then◌else◌, List, [], ◌∷◌, length, slice_get, Option, None, Some, is_none, refl, ap, sym, subst, ◌∙◌, arith}
+use Rattle.std.proofs.lemmas.Bool.{and_parts, eqb-true}
 use Rattle.std.proofs.lemmas.Bool.Decides.{nat_tests}
 use Rattle.std.specs.List.{AllByRecursion}
 use Rattle.std.specs.Option.{option_map, is_some}
 use Rattle.userfile.specs.Records.{Records, no_records}
 use Rattle.userfile.specs.Apply.{refusal}
-use Rattle.userfile.specs.Together.{AreSound, records_fault}
+use Rattle.userfile.specs.Together.{AreSound}
 use Rattle.userfile.specs.declared.error.ChangeFault.{ChangeFault}
 use Rattle.usercodec.specs.declared.records.Record.{Record}
 use Rattle.usercodec.specs.Records.{IsGoodRecord}
@@ -19,7 +19,7 @@ use Rattle.botjournal.specs.Contents.{Contents}
 use Rattle.protocol.specs.Numbers.{last_number, item_at}
 use Rattle.protocol.specs.Snapshots.{records_from}
 use Rattle.protocol.specs.Packets.{AcceptedChange}
-use Rattle.protocol.specs.HubRules.{HubState, HubRecord, Accept, Settle, version_of, last_request, hub_folded}
+use Rattle.protocol.specs.HubRules.{HubState, HubRecord, version_of, hub_folded}
 use Rattle.protocol.specs.Journals.{read_next, reads, record_if, stand_together, reply_among, replies_of, replies_in, hub_of, is_hub_base, is_next, is_next_of, hub_record, hub_meaning, HubMay, IsHubState}
 use Rattle.protocol.proofs.Journals.{hub_state_kept}
 use Rattle.linkstate.specs.States.{ArePlaced}

@@ -317,9 +317,26 @@ impl LeafState {
         ensures base { IfOk result (λ base. base ≡ leaf_base number self.now) }
         ensures good { IfOk result (λ base. 0 < number → IsGoodOut self.now.out → IsGoodBase base) }
     {
-        let records = items_of(alloc, &self.userfile)?;
+        self.base_with(alloc, number, self.version, &self.userfile)
+    }
+
+    /// The same with the records of another version in the place of this state's.
+    ///
+    /// # Errors
+    /// `NoMemory` where room for copies is refused.
+    pub fn base_with(
+        &self,
+        alloc: Global,
+        number: u16,
+        version: u32,
+        userfile: &Userfile,
+    ) -> Result<Base, NoMemory>
+        ensures base { IfOk result (λ base. base ≡ leaf_base number (record self.now { version = version; records = userfile.now })) }
+        ensures good { IfOk result (λ base. 0 < number → IsGoodOut self.now.out → IsGoodBase base) }
+    {
+        let records = items_of(alloc, userfile)?;
         let out = copy_of(alloc, &self.out)?;
-        Ok(base_of(alloc, number, self.version, records, self.last, out))
+        Ok(base_of(alloc, number, version, records, self.last, out))
     }
 }
 

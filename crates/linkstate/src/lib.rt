@@ -31,3 +31,4 @@ pub use crate::fault::{StateError, StateFault};
 pub use crate::fields::know_change;
 pub use crate::hub::HubState;
 pub use crate::leaf::LeafState;
+pub use crate::records::userfile_of;

@@ -13,8 +13,11 @@ use std::alloc::Global;
 use usercodec::Record;
 use userfile::{Ban, User, Userfile};
 
-// The userfile of these records, where they stand together.
-pub(crate) fn userfile_of(alloc: Global, items: &[Record]) -> Result<Userfile, StateError>
+/// The userfile of these records, where they stand together.
+///
+/// # Errors
+/// `NotAJournal` where no userfile holds all of them, or `NoMemory`.
+pub fn userfile_of(alloc: Global, items: &[Record]) -> Result<Userfile, StateError>
     requires good { AllByRecursion IsGoodRecord items.now }
     ensures { Reads (sound_records items.now) result }
 {

@@ -199,9 +199,9 @@ module _ (g : PastHub) (asked : ℕ → List UserChange) (hub : HubHolds asked g
 
   parts : l.down ≡ false → (j : ℕ) (set : PartSet) → IsTrueSet g.accepted set → l.kept.version ≤ set.version
       → LeafGoes g i l (part_taken leaves i how w j set)
-  parts up j set t above = by (joined set.count set.parts) refl
+  parts up j set t above = by (joined set.parts) refl
     where
-      by : (o : Option (List Record)) → joined set.count set.parts ≡ o → LeafGoes g i l (set_taken leaves i how w j set o)
+      by : (o : Option (List Record)) → joined set.parts ≡ o → LeafGoes g i l (set_taken leaves i how w j set o)
       by None e =
           leaf_loosens (Ok (Kept j)) (record w.loose { parts = Some set }) tt
           (λ set' f. subst (IsTrueSet g.accepted) (let same : set ≡ set' = cc in same) t)

@@ -126,6 +126,18 @@ slice_set-other (z ∷ xs) zero (suc j) x other = refl
 slice_set-other (z ∷ xs) (suc i) zero x other = refl
 slice_set-other (z ∷ xs) (suc i) (suc j) x other = slice_set-other xs i j x (λ e. other (ap suc e))
 
+-- a list with one item set anew
+pub slice_set-elim : {X : Type 0} (P : ℕ → X → Type 0) (xs : List X) (i : ℕ) (x : X) → P i x
+    → ((j : ℕ) (z : X) → slice_get xs j ≡ Some z → P j z) → (j : ℕ) (z : X) → slice_get (slice_set xs i x) j ≡ Some z → P j z
+slice_set-elim P xs i x here there j z e = by (j == i) refl
+  where
+    by : (b : Bool) → (j == i) ≡ b → P j z
+    by true f =
+        let same : j ≡ i = eqb-true j i f in
+        let is : x ≡ z = slice_set-same xs i x z (subst (λ k. slice_get (slice_set xs i x) k ≡ Some z) same e) in
+        subst (λ k. P k z) (sym same) (subst (λ v. P i v) is here)
+    by false f = there j z (sym (slice_set-other xs i j x (λ same. eqb-false j i f same)) ∙ e)
+
 slice_set-had : {X : Type 0} (xs : List X) (i : ℕ) (x y : X) → slice_get (slice_set xs i x) i ≡ Some y
     → (u : X) × (slice_get xs i ≡ Some u)
 slice_set-had [] i x y e = cc

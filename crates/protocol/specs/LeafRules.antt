@@ -135,7 +135,7 @@ module _ (leaves number : ℕ) (how : How) (old : Leaf) where
       installed set.version (records_from items) (records_fault (records_from items).users (records_from items).bans)
 
   abbrev pub part_taken : ℕ → PartSet → Row Leaf
-  part_taken part set = set_taken part set (joined set.count set.parts)
+  part_taken part set = set_taken part set (joined set.parts)
 
   abbrev pub leaf_received_up : Packet → Row Leaf
   leaf_received_up (Change n origin request change) = change_placed change (place_of n old.kept.version)

@@ -1,11 +1,10 @@
 -- The records at a version cut into parts of eight, and parts put together again.
-use Rattle.std.specs.Prelude.{ℕ, zero, suc, ◌+◌, ◌-◌, ◌*◌, ◌/◌, ◌==◌, nat_lt, Bool, false, ◌&&◌, List, [], ◌∷◌, ◌++◌, length, take, drop, if◌then◌else◌, Option, None, Some}
+use Rattle.std.specs.Prelude.{ℕ, zero, suc, ◌+◌, ◌-◌, ◌*◌, ◌/◌, ◌==◌, nat_lt, Bool, false, ◌&&◌, List, [], ◌∷◌, ◌++◌, length, take, drop, slice_set, if◌then◌else◌, Option, None, Some}
 use Rattle.userfile.specs.Records.{Records}
 use Rattle.userfile.specs.declared.user.User.{User}
 use Rattle.userfile.specs.declared.ban.Ban.{Ban}
 use Rattle.usercodec.specs.declared.records.Record.{Record}
 use Rattle.usercodec.specs.declared.records.Record.TheVariants as records
-use Rattle.protocol.specs.Numbers.{set_at}
 
 -- ---- records one by one
 
@@ -46,37 +45,42 @@ part_of held number = take 8 (drop (8 * (number - 1)) (items_of held))
 
 -- ---- putting together
 
--- the parts that a leaf keeps of one version
+-- the parts that a leaf keeps of one version: a place for each, in order
 pub record PartSet : Type 0 where
   pub version : ℕ
-  pub count : ℕ
-  pub parts : ℕ → Option (List Record)
+  pub parts : List (Option (List Record))
 
--- one part behind others
+-- one part before others
 abbrev pub joined_next : Option (List Record) → Option (List Record) → Option (List Record)
-joined_next None part = None
-joined_next (Some front) None = None
-joined_next (Some front) (Some part) = Some (front ++ part)
+joined_next None rest = None
+joined_next (Some part) None = None
+joined_next (Some part) (Some rest) = Some (part ++ rest)
 
--- so many parts from the first on, one behind the other, where all are there
-abbrev pub joined : ℕ → (ℕ → Option (List Record)) → Option (List Record)
-joined zero parts = Some []
-joined (suc count) parts = joined_next (joined count parts) (parts (suc count))
+-- the parts one behind the other, where all are there
+abbrev pub joined : List (Option (List Record)) → Option (List Record)
+joined [] = Some []
+joined (part ∷ parts) = joined_next part (joined parts)
+
+-- so many places, with no part in them
+abbrev pub no_places : ℕ → List (Option (List Record))
+no_places zero = []
+no_places (suc count) = None ∷ no_places count
 
 -- no part of this version and count
 abbrev pub no_parts : ℕ → ℕ → PartSet
-no_parts version count = record { version = version; count = count; parts = λ number. None }
+no_parts version count = record { version = version; parts = no_places count }
 
 -- the set that a part goes into: the kept one where it is of that version and count, else an empty one
 abbrev pub set_for : Option PartSet → ℕ → ℕ → PartSet
 set_for None version count = no_parts version count
-set_for (Some set) version count = if (set.version == version) && (set.count == count) then set else no_parts version count
+set_for (Some kept) version count =
+    if (kept.version == version) && (length kept.parts == count) then kept else no_parts version count
 
--- the set with this part in place of one of its number
+-- the set with this part in place of one of its number, from 1
 abbrev pub with_part : PartSet → ℕ → List Record → PartSet
-with_part set number items = record set { parts = set_at set.parts number (Some items) }
+with_part kept number items = record kept { parts = slice_set kept.parts (number - 1) (Some items) }
 
 -- the kept set is of a later version
 abbrev pub is_behind : ℕ → Option PartSet → Bool
 is_behind version None = false
-is_behind version (Some set) = nat_lt version set.version
+is_behind version (Some kept) = nat_lt version kept.version

@@ -68,8 +68,9 @@ LeafFits hub number leaf Compact = Unit {0}
 -- each part of a set is one of the records at its version
 pub record IsTrueSet (accepted : List AcceptedChange) (set : PartSet) : Type 0 where
   pub reached : set.version ≤ length accepted
-  pub many : set.count ≡ part_count (records_of accepted set.version)
-  pub these : (number : ℕ) (items : List Record) → set.parts number ≡ Some items → items ≡ part_of (records_of accepted set.version) number
+  pub many : length set.parts ≡ part_count (records_of accepted set.version)
+  pub these : (number : ℕ) (items : List Record) → item_at set.parts number ≡ Some (Some items)
+      → items ≡ part_of (records_of accepted set.version) number
 
 abbrev pub KeepsTrueParts : PastHub → LeafLoose → Type 0
 KeepsTrueParts hub loose = (set : PartSet) → loose.parts ≡ Some set → IsTrueSet hub.accepted set
