@@ -1,5 +1,6 @@
 -- Packets one after another, and the shapes of those that a hub sends.
 use Rattle.std.proofs.Common.{◌≡◌, ◌<◌, ◌≤◌, ◌+◌, ◌-◌, ◌*◌, ℕ, zero, suc, List, [], ◌∷◌, ◌++◌, length, take, drop, get_or, refl, sym, ap, subst, ◌∙◌, append_assoc, arith, add-one}
+use Rattle.std.proofs.lemmas.List.{append-nil}
 use Rattle.std.proofs.Math.Seq.{drop-cons}
 use Rattle.std.specs.List.{AllByRecursion}
 use Rattle.usercodec.specs.declared.records.Record.{Record}
@@ -25,12 +26,22 @@ pub outgoings-length : (xs : List Outgoing) → length (outgoings_of xs) ≡ len
 outgoings-length [] = refl
 outgoings-length (x ∷ xs) = ap suc (outgoings-length xs)
 
+drop-all : {X : Type 0} (xs : List X) (n : ℕ) → length xs ≤ n → drop n xs ≡ []
+drop-all [] zero over = refl
+drop-all [] (suc n) over = refl
+drop-all (x ∷ xs) zero over = absurd (omega (arith, over))
+drop-all (x ∷ xs) (suc n) over = drop-all xs n (omega (arith, over))
+
 -- one more, of those that are left
 pub sent-more : (old new : List Outgoing) (out : Outgoing) (sent : Sent) (rest all : List Sent) → new ≡ old ++ out ∷ [] → outgoing_of out ≡ sent
     → outgoings_of old ++ (sent ∷ rest) ≡ all → outgoings_of new ++ rest ≡ all
 sent-more old new out sent rest all pushed is so_far =
     ap (λ l. outgoings_of l ++ rest) pushed ∙ ap (λ l. l ++ rest) (outgoings-append old (out ∷ []))
     ∙ append_assoc (outgoings_of old) (outgoing_of out ∷ []) rest ∙ ap (λ s. outgoings_of old ++ (s ∷ rest)) is ∙ so_far
+
+-- none are left
+none-left : (front rest all : List Sent) → rest ≡ [] → front ++ rest ≡ all → front ≡ all
+none-left front rest all none is = sym (append-nil front) ∙ ap (λ l. front ++ l) (sym none) ∙ is
 
 -- ---- one packet to each
 
@@ -45,6 +56,16 @@ pub each-more : (packet : Packet) (old new : List Outgoing) (out : Outgoing) (pl
 each-more packet old new out place leaves all within pushed is so_far =
     sent-more old new out _ (to_each (place + 1 + 1) (leaves - (place + 1)) packet) all pushed is
     (ap (λ l. outgoings_of old ++ l) (sym (each-next (place + 1) (leaves - place) (leaves - (place + 1)) packet (omega (arith, within)))) ∙ so_far)
+
+pub each-start : (packet : Packet) (front : List Sent) (leaves : ℕ)
+    → front ++ to_each (0 + 1) (leaves - 0) packet ≡ front ++ to_each 1 leaves packet
+each-start packet front leaves = ap (λ n. front ++ to_each 1 n packet) (let same : leaves - 0 ≡ leaves = omega arith in same)
+
+pub each-end : (packet : Packet) (front all : List Sent) (place leaves : ℕ) → leaves ≤ place
+    → front ++ to_each (place + 1) (leaves - place) packet ≡ all → front ≡ all
+each-end packet front all place leaves over is =
+    none-left front (to_each (place + 1) (leaves - place) packet) all
+    (ap (λ n. to_each (place + 1) n packet) (let none : leaves - place ≡ 0 = omega (arith, over) in none)) is
 
 each-length : (first count : ℕ) (packet : Packet) → length (to_each first count packet) ≡ count
 each-length first zero packet = refl
@@ -63,6 +84,11 @@ numbered-more leaf number entries index entry old new out all within at pushed i
   where
     first : drop index entries ≡ entry ∷ drop (index + 1) entries
     first = rw (add-one) (drop-cons entries index entry within ∙ ap (λ e. e ∷ drop (suc index) entries) (sym at))
+
+pub numbered-end : (leaf number : ℕ) (entries : List AcceptedChange) (index : ℕ) (front all : List Sent) → length entries ≤ index
+    → front ++ numbered_from leaf number (drop index entries) ≡ all → front ≡ all
+numbered-end leaf number entries index front all over is =
+    none-left front (numbered_from leaf number (drop index entries)) all (ap (λ l. numbered_from leaf number l) (drop-all entries index over)) is
 
 -- ---- records in parts
 
@@ -86,6 +112,15 @@ pub parts-more : (hub : HubState) (leaf place count : ℕ) (old new : List Outgo
 parts-more hub leaf place count old new out all within pushed is so_far =
     sent-more old new out _ (parts_from hub leaf (place + 1 + 1) (count - (place + 1))) all pushed is
     (ap (λ l. outgoings_of old ++ l) (sym (parts-next hub leaf (place + 1) (count - place) (count - (place + 1)) (omega (arith, within)))) ∙ so_far)
+
+pub parts-start : (hub : HubState) (leaf count : ℕ) → parts_from hub leaf (0 + 1) (count - 0) ≡ parts_from hub leaf 1 count
+parts-start hub leaf count = ap (λ n. parts_from hub leaf 1 n) (let same : count - 0 ≡ count = omega arith in same)
+
+pub parts-end : (hub : HubState) (leaf place count : ℕ) (front all : List Sent) → count ≤ place
+    → front ++ parts_from hub leaf (place + 1) (count - place) ≡ all → front ≡ all
+parts-end hub leaf place count front all over is =
+    none-left front (parts_from hub leaf (place + 1) (count - place)) all
+    (ap (λ n. parts_from hub leaf (place + 1) n) (let none : count - place ≡ 0 = omega (arith, over) in none)) is
 
 pub parts-length : (hub : HubState) (leaf first count : ℕ) → length (parts_from hub leaf first count) ≡ count
 parts-length hub leaf first zero = refl

@@ -1,5 +1,5 @@
 // What a hub accepts.
-ghost use Rattle.std.specs.Prelude.{◌≡◌, ◌+◌, false, None};
+ghost use Rattle.std.specs.Prelude.{◌≡◌, ◌+◌, true, false, None};
 ghost use Rattle.userfile.specs.Apply.{refusal};
 ghost use Rattle.protocol.specs.Journals.{is_next};
 ghost use Rattle.linkcalls.specs.declared.TheConstants.{MAX_LEAVES};

@@ -29,7 +29,7 @@ invariant_of-self-in-Err-Refused g c =
     let inside = c.self.inside in
     let entry = c.args.entry in
     let fails = subst (λ e. Appends inside.ledger (Accepted entry.origin entry.request entry.change) (Err e) c.accept_next.new.ledger) c.in-Err-Refused.field-0-is c.in-Err-Refused.ensures.row in
-    rw c.of.ensures
+    rw c.of-seen.ensures
     (holds-failed inside.leaves inside.state c.accept_next.new.self inside.down (option_map record_of inside.doubt) inside.ledger c.accept_next.new.ledger
     (Accept entry) (Adding (Accepted entry.origin entry.request entry.change)) c.self.invariant (ap (λ (h : KeptHub). h.down) c.self.view_is ∙ c.requires.up) (
       ap (λ (h : KeptHub). refusal h.kept.records entry.change) c.self.view_is ∙ c.requires.taken,
