@@ -192,7 +192,7 @@ taken_goes code_of may s step o w sound part is t =
           sent,
           refl,
           subst (AllSent (IsKeptAnswer g.after.hub.kept)) (sym out)
-          (AllSent-posted (IsKeptAnswer g.after.hub.kept) [] part.bot (outgoings_of t.report.packets) tt g.answers),
+              (AllSent-posted (IsKeptAnswer g.after.hub.kept) [] part.bot (outgoings_of t.report.packets) tt g.answers),
         );
         grows = grown;
         applies_next = applies_next code_of may s step o after sound rule;

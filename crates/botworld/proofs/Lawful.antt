@@ -177,7 +177,7 @@ next_version code_of may names was leaf v origin request change report new is at
     subst (λ (said : Option Saying). TakesPacket said code_of may names was p report new) silent t in
     let a = was_answered was (took was.link p) report new done gives in
     let says : (leaf_received was.link.leaves was.link.number Works leaf (link_change (leaf.kept.version + 1) origin request change)).told
-        ≡ Ok (note_of a.answer.note) =
+    ≡ Ok (note_of a.answer.note) =
     ap (λ n. (leaf_received was.link.leaves was.link.number Works leaf (link_change (n + 1) origin request change)).told) at ∙ sym told ∙ a.told in
     let next = (next_is_applied was.link.leaves was.link.number Works leaf origin request change (note_of a.answer.note) says).1 in
     let version : row.after.kept.version ≡ v + 1 =
@@ -317,11 +317,10 @@ accepts_next code_of may old step o new sound sound' grown rule change rest is w
         sym (hub_of new sound' t.after (after_at code_of may old.net _ o new.net t)) ∙ a.after ∙ left in
         let hub' : sound'.links.net.hub ≡ (hub_pumped leaves Works hub).after = cc in
         let kept : sound'.links.net.hub.kept ≡ hub_folded hub.kept (Accept (own change)) =
-        ap (λ (h : Hub). h.kept) hub' ∙ pump_keeps leaves hub change rest (note_of a.answer.note) asks takes' says in
-        (
+        ap (λ (h : Hub). h.kept) hub' ∙ pump_keeps leaves hub change rest (note_of a.answer.note) asks takes' says in (
           has,
           last_is hub.kept sound'.links.net.hub.kept old.links.hub.kept new.links.hub.kept one.0 (own change) sound.links.stands.hub.kept
-          sound'.links.stands.hub.kept sound.links.sound.hub.kept.floor kept one.1,
+              sound'.links.stands.hub.kept sound.links.sound.hub.kept.floor kept one.1,
         )
 
     by : (r : Option Bot) → slice_get old.net.bots 0 ≡ r → waiting_at r ≡ change ∷ rest → Comes code_of may old.net (told_at old.net 0 Pump) o new.net

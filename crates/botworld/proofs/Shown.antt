@@ -142,7 +142,7 @@ module _ (s t : State) (before : IsSound s) (after : IsSound t) (grows : Grows s
         link_version now.0.link,
         shows,
         versions_grow (links s before) s.links before.links.stands before.links.sound (links t after) t.links after.links.stands after.links.sound
-        grows i u (link_version now.0.link) (sym (version_is s before i) ∙ e) (sym (version_is t after i) ∙ shows),
+            grows i u (link_version now.0.link) (sym (version_is s before i) ∙ e) (sym (version_is t after i) ∙ shows),
       )
 
   pub same_shown : SameRecords s.net t.net
