@@ -1,13 +1,13 @@
 -- What a journal means once a record was written to it, or may have been.
-use Rattle.std.proofs.Common.{◌≡◌, ◌⊎◌, ◌≤◌, ◌+◌, ℕ, Bool, true, false, Option, None, Some, is_some, refl, sym, ap, subst, ◌∙◌, inl, inr}
+use Rattle.std.proofs.Common.{◌≡◌, ◌+◌, ℕ, Bool, true, false, Option, None, Some, is_some, refl, ap, inl, inr}
 use Rattle.std.proofs.lemmas.Bool.{eqb-true}
 use Rattle.botjournal.specs.declared.reply.Reply.{Reply}
 use Rattle.botjournal.specs.Contents.{Contents}
 use Rattle.botjournal.specs.Ledger.{Ledger, Account, Pending, Writes, FailsAt, written}
 use Rattle.protocol.specs.HubRules.{HubState, HubRecord, Accept, Settle, Rebase, last_request, next_number, hub_folded}
-use Rattle.protocol.specs.Journals.{hub_meaning, hub_written, is_next_of, HubMay, IsHubState}
+use Rattle.protocol.specs.Journals.{hub_written, is_next_of, HubMay, IsHubState}
 use Rattle.protocol.proofs.Journals.{hub_reads_back, hub_state_kept}
-use Rattle.hublink.specs.Kept.{Means, MeansEither, IsUp, IsDown, Stands, Holds}
+use Rattle.hublink.specs.Kept.{Means, IsDown, Stands, Holds}
 
 -- the next request of a leaf is that of a leaf that has a place, and has the next number
 pub next-some : (last : Option (Option Reply)) (request : ℕ) → is_next_of last request ≡ true → is_some last ≡ true

@@ -1,5 +1,5 @@
 -- How a call stands to its row.
-use Rattle.std.proofs.Common.{◌≡◌, ◌+◌, ◌-◌, ◌<◌, ◌≤◌, ◌==◌, ℕ, zero, suc, Bool, true, false, nat_lt, List, [], ◌∷◌, if◌then◌else◌, Option, None, Some, Result, Ok, Err, refl, sym, ap, subst, ◌∙◌, arith, eq-eqb}
+use Rattle.std.proofs.Common.{◌≡◌, ◌+◌, ◌<◌, ◌==◌, ℕ, Bool, true, false, nat_lt, List, if◌then◌else◌, Result, Ok, Err, refl, sym, ap, subst, ◌∙◌, arith, eq-eqb}
 use Rattle.std.proofs.lemmas.Bool.{ne_eqb}
 use Rattle.std.proofs.lemmas.Bool.Decides.{nat_tests}
 use Rattle.bytetext.specs.declared.failure.Failure.{Failure}
@@ -11,10 +11,10 @@ use Rattle.protocol.specs.Notes.LinkFault.{Down as IsDown, NumbersSpent as NoNum
 use Rattle.protocol.specs.Packets.{Outgoing as Sent, AcceptedChange}
 use Rattle.protocol.specs.Bots.{How, Works, Fails, Row, refused, journals, unless_down}
 use Rattle.protocol.specs.HubRules.{Hub, HubRecord, Accept, version_of, hub_folded, accepts}
-use Rattle.protocol.specs.Numbers.{last_number, Place, Below, Same, Next, Above, place_of}
+use Rattle.protocol.specs.Numbers.{last_number, Below, Same, Next, Above, place_of}
 use Rattle.linkcalls.specs.declared.answer.Answer.{Answer}
 use Rattle.linkcalls.specs.declared.error.LinkFault.{LinkFault}
-use Rattle.linkcalls.specs.declared.error.LinkFault.TheVariants.{Down, JournalFault, NumbersSpent}
+use Rattle.linkcalls.specs.declared.error.LinkFault.TheVariants.{Down, NumbersSpent}
 use Rattle.linkcalls.specs.Calls.{IsFault, note_of, outgoings_of}
 use Rattle.linkcalls.specs.Meets.{Refuses, TakesMemory, HasFailed, how_of}
 use Rattle.hublink.specs.Kept.{KeptHub, Journals}

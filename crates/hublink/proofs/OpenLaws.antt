@@ -1,6 +1,6 @@
 -- A hub that is made, found or handed back.
-use Rattle.std.proofs.Common.{◌≡◌, ◌⊎◌, ◌≤◌, ◌==◌, ℕ, Bool, false, List, Option, None, Some, refl, sym, ap, subst, ◌∙◌, inl, inr}
-use Rattle.storage.specs.State.{State, IsSettled}
+use Rattle.std.proofs.Common.{◌≡◌, ◌⊎◌, ◌≤◌, ℕ, Bool, false, List, Option, None, Some, refl, sym, ap, subst, ◌∙◌, inl, inr}
+use Rattle.storage.specs.State.{State}
 use Rattle.bytejournal.specs.Opening.{Untouched}
 use Rattle.botjournal.specs.declared.base.Base.{Base}
 use Rattle.botjournal.specs.declared.found.Found.{Found}
@@ -11,7 +11,7 @@ use Rattle.protocol.specs.HubRules.{HubState, HubRecord}
 use Rattle.protocol.specs.Journals.{hub_of, hub_meaning, IsHubState}
 use Rattle.linkstate.specs.States.{empty_base}
 use Rattle.linkcalls.specs.declared.TheConstants.{MAX_LEAVES}
-use Rattle.hublink.specs.Kept.{Means, Stands, Holds}
+use Rattle.hublink.specs.Kept.{Stands, Holds}
 use Rattle.hublink.specs.Opening.{AreOf, contents_in}
 use Rattle.hublink.proofs.RestartLaws.{either-of, found-is}
 

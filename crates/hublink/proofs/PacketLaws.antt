@@ -1,27 +1,26 @@
 -- How what is made of a packet stands to its row.
-use Rattle.std.proofs.Common.{◌≡◌, ◌+◌, ◌<◌, ◌≤◌, ◌==◌, ◌||◌, ℕ, zero, suc, Bool, true, false, nat_lt, List, [], ◌∷◌, length, if◌then◌else◌, Option, None, Some, Result, Ok, Err, refl, sym, ap, subst, ◌∙◌, arith, eq-eqb}
+use Rattle.std.proofs.Common.{◌≡◌, ◌+◌, ◌<◌, ◌==◌, ◌||◌, ℕ, zero, suc, Bool, true, false, nat_lt, List, [], ◌∷◌, length, drop, get_or, if◌then◌else◌, Option, None, Some, Result, Ok, Err, refl, sym, ap, subst, ◌∙◌, arith}
 use Rattle.std.proofs.lemmas.Bool.{ne_eqb}
 use Rattle.bytetext.specs.declared.failure.Failure.{Failure}
-use Rattle.bytetext.specs.declared.failure.Failure.TheVariants.{Refused, NoMemory}
+use Rattle.bytetext.specs.declared.failure.Failure.TheVariants.{NoMemory}
+use Rattle.userfile.specs.Apply.{refusal}
 use Rattle.userfile.specs.declared.change.Change.{Change}
 use Rattle.userfile.specs.declared.error.ChangeFault.{ChangeFault}
 use Rattle.botjournal.specs.declared.reply.Reply.{Reply}
-use Rattle.botjournal.specs.declared.reply.Answer.TheVariants.{Refused as refused_request}
-use Rattle.protocol.specs.Notes.{Note}
+use Rattle.botjournal.specs.declared.reply.Answer.TheVariants.{Taken, Refused as refused_request}
 use Rattle.protocol.specs.Notes.Note.{Served, Repeat, Stray, Text, Relayed, Old, Gap, Refused as RefusedFor}
-use Rattle.protocol.specs.Packets.{Packet, Outgoing as Sent, answer_packet}
+use Rattle.protocol.specs.Packets.{Outgoing as Sent, AcceptedChange, own, answer_packet}
 use Rattle.protocol.specs.Packets.Packet.{Hello, Request, BotText}
-use Rattle.protocol.specs.Numbers.{Place, Below, Same, Next, Above, item_at, place_of}
+use Rattle.protocol.specs.Numbers.{Place, item_at, place_of}
 use Rattle.protocol.specs.Bots.{How, Works, Row, noted}
-use Rattle.protocol.specs.HubRules.{Hub, HubRecord, Settle, version_of, last_request, hub_folded, is_no_leaf, hello_served, text_passed, request_of, request_placed, next_request, repeats, hub_received_up}
+use Rattle.protocol.specs.HubRules.{Hub, Settle, version_of, last_request, hub_folded, is_no_leaf, hello_served, text_passed, request_of, request_placed, next_request, repeats, accepts, ask_served, hub_pumped_up, hub_received_up}
 use Rattle.linkcalls.specs.declared.answer.Answer.{Answer}
-use Rattle.linkcalls.specs.declared.answer.Outgoing.{Outgoing}
 use Rattle.linkcalls.specs.declared.error.LinkFault.{LinkFault}
 use Rattle.linkcalls.specs.Calls.{note_of, outgoings_of}
 use Rattle.hublink.specs.Kept.{KeptHub, Journals}
-use Rattle.hublink.specs.Link.{HubEnd, end_of, Meets, hello_sends, repeated}
+use Rattle.hublink.specs.Link.{HubEnd, end_of, Meets, Accepts, left_by, told_before, hello_sends, repeated}
 use Rattle.hublink.proofs.Sending.{outgoings-length}
-use Rattle.hublink.proofs.LinkLaws.{meets-answer, meets-lacking, meets-kept, meets-unkept, place-below, place-same, place-above}
+use Rattle.hublink.proofs.LinkLaws.{meets-answer, meets-lacking, meets-kept, meets-unkept, place-below, place-same, place-next, place-above}
 
 -- ---- hellos
 
@@ -156,6 +155,69 @@ module _ (old : HubEnd) (leaf request : ℕ) (change : Change) (last : Option Re
   placed-same-lacking same some =
       meets-lacking old placed_row (Ok Repeat) (ap (λ (r : Row Hub). r.told) (row-same same))
       (subst (λ (l : List Sent). 0 < length l) (sym (ap (λ (r : Row Hub). r.sends) (row-same same))) some)
+
+  -- the next request, which the records refuse or don't
+  pub placed-next : (new : HubEnd) (result : Result Answer (Failure LinkFault)) (found : Option ChangeFault) → request ≡ last_request last + 1
+      → refusal old.bot.kept.records change ≡ found
+      → Meets old (λ how. next_request old.leaves how old.bot leaf request change found) result new → Meets old placed_row result new
+  placed-next new result found next is meets =
+      subst (λ (p : Place). Meets old (λ how. request_placed old.leaves how old.bot leaf request change last p) result new)
+      (sym (place-next request (last_request last) next))
+      (subst (λ (o : Option ChangeFault). Meets old (λ how. next_request old.leaves how old.bot leaf request change o) result new) (sym is) meets)
+
+-- ---- accepting
+
+left-same : (result : Result Answer (Failure LinkFault)) (asks : List Change) → left_by result asks asks ≡ asks
+left-same (Ok answer) asks = refl
+left-same (Err error) asks = refl
+
+-- a leaf is told of its request
+told-replied : (leaf request number : ℕ) (held : List (Option Reply)) (last : Option Reply) → item_at held leaf ≡ Some last
+    → told_before leaf request number ≡ record { to = leaf; packet = answer_packet leaf request (Taken number) } ∷ []
+told-replied zero request number held last found = absurd (cc)
+told-replied (suc place) request number held last found = refl
+
+pub placed-accepts : (old new : KeptHub) (asks : List Change) (leaf request : ℕ) (change : Change) (last : Option Reply)
+    (result : Result Answer (Failure LinkFault)) → item_at old.kept.replies leaf ≡ Some last → request ≡ last_request last + 1
+    → refusal old.kept.records change ≡ None → Accepts old (record { origin = leaf; request = request; change = change }) result new
+    → Meets (end_of old asks) (λ how. request_placed old.leaves how (end_of old asks).bot leaf request change last
+    (place_of request (last_request last))) result (end_of new asks)
+placed-accepts old new asks leaf request change last result found next taken accepted =
+    placed-next (end_of old asks) leaf request change last (end_of new asks) result None next taken
+    (subst (λ (l : List Sent). Meets (end_of old asks) (λ how. accepts old.leaves how (end_of old asks).bot entry l asks) result (end_of new asks))
+    (told-replied leaf request (version_of old.kept + 1) old.kept.replies last found)
+    (subst (λ (l : List Change). Meets (end_of old asks) (λ how. accepts old.leaves how (end_of old asks).bot entry
+    (told_before leaf request (version_of old.kept + 1)) asks) result (end_of new l)) (left-same result asks) (accepted asks asks)))
+  where
+    entry : AcceptedChange
+    entry = record { origin = leaf; request = request; change = change }
+
+-- ---- the oldest ask
+
+pub first-of : {X : Type 0} (xs : List X) (x : X) → 0 < length xs → x ≡ get_or xs 0 x → xs ≡ x ∷ drop 1 xs
+first-of [] x some is = absurd (omega (arith, some))
+first-of (y ∷ ys) x some is = ap (λ z. z ∷ ys) (sym is)
+
+module _ (old new : KeptHub) (asks : List Change) (change : Change) (oldest : asks ≡ change ∷ drop 1 asks)
+    (taken : refusal old.kept.records change ≡ None) where
+  abbrev pumped_row : How → Row Hub
+  pumped_row how = hub_pumped_up old.leaves how (end_of old asks).bot asks
+
+  pumped-as : (result : Result Answer (Failure LinkFault)) (left : List Change)
+      → Meets (end_of old asks) (λ how. accepts old.leaves how (end_of old asks).bot (own change) [] (drop 1 asks)) result (end_of new left)
+      → Meets (end_of old asks) pumped_row result (end_of new left)
+  pumped-as result left meets =
+      subst (λ (l : List Change). Meets (end_of old asks) (λ how. hub_pumped_up old.leaves how (end_of old asks).bot l) result (end_of new left)) (sym oldest)
+      (subst (λ (o : Option ChangeFault). Meets (end_of old asks) (λ how. ask_served old.leaves how (end_of old asks).bot change (drop 1 asks) o)
+      result (end_of new left)) (sym taken) meets)
+
+  pub pumped-kept : (answer : Answer) → Accepts old (record { origin = 0; request = 0; change = change }) (Ok answer) new
+      → Meets (end_of old asks) pumped_row (Ok answer) (end_of new (drop 1 asks))
+  pumped-kept answer accepted = pumped-as (Ok answer) (drop 1 asks) (accepted asks (drop 1 asks))
+
+  pub pumped-unkept : (error : Failure LinkFault) → Accepts old (record { origin = 0; request = 0; change = change }) (Err error) new
+      → Meets (end_of old asks) pumped_row (Err error) (end_of new asks)
+  pumped-unkept error accepted = pumped-as (Err error) asks (accepted asks (drop 1 asks))
 
 -- ---- a request that is refused
 

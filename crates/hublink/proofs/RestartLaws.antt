@@ -1,15 +1,12 @@
 -- What a restart finds.
-use Rattle.std.proofs.Common.{◌≡◌, ◌⊎◌, ◌<◌, ℕ, Bool, true, false, List, Option, None, Some, Result, Ok, Err, refl, sym, ap, subst, ◌∙◌, inl, inr}
-use Rattle.bytetext.specs.declared.failure.Failure.{Failure}
-use Rattle.bytetext.specs.declared.failure.Failure.TheVariants.{Refused, NoMemory}
-use Rattle.storage.specs.declared.disk.DiskFault.{DiskFault}
+use Rattle.std.proofs.Common.{◌≡◌, ◌⊎◌, ℕ, Bool, true, false, Option, None, Some, Ok, refl, sym, ap, subst, ◌∙◌, inl, inr}
 use Rattle.botjournal.specs.Contents.{Contents}
 use Rattle.botjournal.specs.declared.found.Found.{Found}
-use Rattle.botjournal.specs.Ledger.{Ledger, Account, IsFound, StaysDown, settled, written_if, counted as contents_counted, Restarts as LedgerRestarts}
+use Rattle.botjournal.specs.Ledger.{Ledger, Account, Failures, IsFound, StaysDown, settled, written_if, counted as contents_counted, Restarts as LedgerRestarts}
 use Rattle.protocol.specs.Bots.{counted}
 use Rattle.protocol.specs.HubRules.{HubState, HubRecord, hub_folded}
 use Rattle.protocol.specs.Journals.{hub_meaning, IsHubState}
-use Rattle.hublink.specs.Kept.{Means, MeansEither, IsUp, IsDown, Stands, Holds}
+use Rattle.hublink.specs.Kept.{KeptHub, Means, MeansEither, Stands, Holds, Restarts}
 use Rattle.hublink.specs.Opening.{contents_in}
 
 -- in a journal of which nothing is in doubt, what would count is what is there
@@ -120,3 +117,21 @@ down-holds leaves kept down doubt old new holds stays = record {
     counted = either-of leaves kept down doubt old.account (contents_counted new.account) holds.stands (inr (ap contents_counted stays));
   };
 }
+
+-- a restart that ended, as the link shows it
+pub restarted-is : (leaves : ℕ) (kept state : HubState) (down : Bool) (doubt : Option HubRecord) (before now : Failures) (old : KeptHub)
+    → record { leaves = leaves; kept = kept; down = down; doubt = doubt; failures = before } ≡ old
+    → (state ≡ kept) ⊎ (state ≡ counted hub_folded kept doubt)
+    → Restarts old (Ok tt) (record { leaves = leaves; kept = state; down = false; doubt = None; failures = now })
+restarted-is leaves kept state down doubt before now old view found = subst (λ (h : KeptHub). Restarts h (Ok tt) new) view (by found)
+  where
+    new : KeptHub
+    new = record { leaves = leaves; kept = state; down = false; doubt = None; failures = now }
+
+    same : (s : HubState) → state ≡ s → new ≡ record { leaves = leaves; kept = s; down = false; doubt = None; failures = now }
+    same s e = ap (λ k. (let h : KeptHub = record { leaves = leaves; kept = k; down = false; doubt = None; failures = now } in h)) e
+
+    by : (state ≡ kept) ⊎ (state ≡ counted hub_folded kept doubt)
+        → Restarts (record { leaves = leaves; kept = kept; down = down; doubt = doubt; failures = before }) (Ok tt) new
+    by (inl e) = inl (same kept e)
+    by (inr e) = inr (same (counted hub_folded kept doubt) e)

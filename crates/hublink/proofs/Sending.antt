@@ -1,5 +1,5 @@
 -- Packets one after another, and the shapes of those that a hub sends.
-use Rattle.std.proofs.Common.{◌≡◌, ◌<◌, ◌≤◌, ◌+◌, ◌-◌, ◌*◌, ℕ, zero, suc, List, [], ◌∷◌, ◌++◌, length, take, drop, get_or, refl, sym, ap, subst, ◌∙◌, append_assoc, arith, add-one}
+use Rattle.std.proofs.Common.{◌≡◌, ◌<◌, ◌≤◌, ◌+◌, ◌-◌, ◌*◌, ℕ, zero, suc, List, [], ◌∷◌, ◌++◌, length, take, drop, get_or, Option, None, Some, Result, Ok, Err, IfOk, refl, sym, ap, subst, ◌∙◌, append_assoc, arith, add-one}
 use Rattle.std.proofs.lemmas.List.{append-nil}
 use Rattle.std.proofs.Math.Seq.{drop-cons}
 use Rattle.std.specs.List.{AllByRecursion}
@@ -7,14 +7,17 @@ use Rattle.usercodec.specs.declared.records.Record.{Record}
 use Rattle.usercodec.specs.Records.{IsGoodRecord}
 use Rattle.sharewire.specs.declared.packet.Packet.{Packet as WirePacket}
 use Rattle.sharewire.specs.declared.packet.Packet.TheVariants as wire
-use Rattle.protocol.specs.Packets.{Packet, Outgoing as Sent, AcceptedChange, from_wire, change_packet, to_each, numbered_from}
+use Rattle.protocol.specs.Packets.{Packet, Outgoing as Sent, AcceptedChange, from_wire, answer_packet, change_packet, to_each, numbered_from}
 use Rattle.protocol.specs.Packets.Packet.{Hello, Change, Request, Accepted, Refused, BotText, Part}
-use Rattle.protocol.specs.HubRules.{HubState, version_of, parts_from}
+use Rattle.botjournal.specs.declared.reply.Reply.{Reply}
+use Rattle.botjournal.specs.declared.reply.Answer.{Answer}
+use Rattle.botjournal.specs.declared.reply.Answer.TheVariants.{Taken, Refused as refused_request}
+use Rattle.protocol.specs.HubRules.{HubState, version_of, changes_from, parts_from}
 use Rattle.protocol.specs.Snapshots.{items_of, part_count, part_of}
 use Rattle.linkcalls.specs.declared.answer.Outgoing.{Outgoing}
 use Rattle.linkcalls.specs.Calls.{outgoing_of, outgoings_of}
 use Rattle.linkcalls.specs.Shapes.{HasGoodRecords, AreGood}
-use Rattle.hublink.specs.Link.{told_before, told_accepted}
+use Rattle.hublink.specs.Link.{told_before, told_accepted, repeated}
 
 -- ---- one after another
 
@@ -234,3 +237,59 @@ good-parts hub leaf first (suc count) (out ∷ packets) good is = (one, good-par
     one : HasGoodRecords out.packet
     one = part-good out.packet (version_of hub) first (part_count hub.records) (part_of hub.records first) (ap (λ (s : Sent). s.packet) head)
         (good-take 8 (drop (8 * (first - 1)) (items_of hub.records)) (good-drop (8 * (first - 1)) (items_of hub.records) good))
+
+-- ---- what calls send
+
+-- an accepted change goes to at most 1,000 leaves
+pub goes-accepted : (leaves number : ℕ) (entry : AcceptedChange) (packets : List Outgoing) → leaves ≤ 1000
+    → outgoings_of packets ≡ told_accepted leaves number entry → (length packets ≤ 1001) × AreGood packets
+goes-accepted leaves number entry packets few is =
+    goes-plain packets (told_accepted leaves number entry) 1001 is (plain-accepted leaves number entry) (omega (arith, few-accepted leaves number entry, few))
+
+plain-answer : (leaf request : ℕ) (answer : Answer) → IsPlain (answer_packet leaf request answer)
+plain-answer leaf request (Taken number) = tt
+plain-answer leaf request (refused_request fault) = tt
+
+plain-repeated : (leaf request : ℕ) (last : Option Reply) → ArePlain (repeated leaf request last) × (length (repeated leaf request last) ≤ 1001)
+plain-repeated leaf request None = (tt, omega arith)
+plain-repeated leaf request (Some reply) = ((plain-answer leaf request reply.answer, tt), omega arith)
+
+pub goes-repeated : (leaf request : ℕ) (last : Option Reply) (packets : List Outgoing) → outgoings_of packets ≡ repeated leaf request last
+    → (length packets ≤ 1001) × AreGood packets
+goes-repeated leaf request last packets is =
+    goes-plain packets (repeated leaf request last) 1001 is (plain-repeated leaf request last).0 (plain-repeated leaf request last).1
+
+numbered-length : (leaf version : ℕ) (entries : List AcceptedChange) → length (numbered_from leaf version entries) ≡ length entries
+numbered-length leaf version [] = refl
+numbered-length leaf version (entry ∷ entries) = ap suc (numbered-length leaf (version + 1) entries)
+
+take-few : {X : Type 0} (n : ℕ) (xs : List X) → length (take n xs) ≤ n
+take-few zero xs = omega arith
+take-few (suc n) [] = omega arith
+take-few (suc n) (x ∷ xs) = omega (arith, take-few n xs)
+
+pub goes-changes : (hub : HubState) (leaf version : ℕ) (packets : List Outgoing) → outgoings_of packets ≡ changes_from hub leaf version
+    → (length packets ≤ 255) × AreGood packets
+goes-changes hub leaf version packets is =
+    let entries = take 16 (drop (version - hub.floor) hub.tail) in
+    goes-plain packets (changes_from hub leaf version) 255 is (plain-numbered leaf version entries)
+    (omega (arith, numbered-length leaf version entries, take-few 16 (drop (version - hub.floor) hub.tail)))
+
+-- the same of what a call answers
+pub changes-good : {V E : Type 0} (items : V → List Outgoing) (hub : HubState) (leaf version : ℕ) (result : Result V E)
+    → IfOk result (λ v. outgoings_of (items v) ≡ changes_from hub leaf version) → IfOk result (λ v. AreGood (items v))
+changes-good items hub leaf version (Ok v) is = (goes-changes hub leaf version (items v) is).1
+changes-good items hub leaf version (Err e) is = tt
+
+pub changes-few : {V E : Type 0} (items : V → List Outgoing) (hub : HubState) (leaf version : ℕ) (result : Result V E)
+    → IfOk result (λ v. outgoings_of (items v) ≡ changes_from hub leaf version) → IfOk result (λ v. length (items v) ≤ 255)
+changes-few items hub leaf version (Ok v) is = (goes-changes hub leaf version (items v) is).0
+changes-few items hub leaf version (Err e) is = tt
+
+pub some-changes : (leaf version : ℕ) (entries : List AcceptedChange) → 0 < length entries → 0 < length (numbered_from leaf version entries)
+some-changes leaf version entries some = omega (arith, numbered-length leaf version entries, some)
+
+pub parts-few : (hub : HubState) (leaf first count : ℕ) (packets : List Outgoing) → outgoings_of packets ≡ parts_from hub leaf first count
+    → length packets ≡ count
+parts-few hub leaf first count packets is =
+    sym (outgoings-length packets) ∙ ap (λ (l : List Sent). length l) is ∙ parts-length hub leaf first count

@@ -148,10 +148,20 @@ fn next_changes(
     ensures packets { IfOk result (λ packets. outgoings_of packets.items ≡ changes_from hub.now leaf version) }
     ensures some { OnErr result (0 < length (changes_from hub.now leaf version)) }
 {
+    numbered_from(alloc, leaf, version, changes_after(version, hub))
+}
+
+// The accepted changes after a version, at most 16.
+fn changes_after(version: u32, hub: &HubState) -> &[AcceptedChange]
+    requires kept { hub.now.floor ≤ version }
+    requires has { version ≤ version_of hub.now }
+    ensures changes { result.now ≡ take 16 (drop (version - hub.now.floor) hub.now.tail) }
+    ensures last { version + length result.now < 2 ^ 32 }
+{
     let _last = hub.version();
     let rest = &hub.tail()[(version - hub.floor()) as usize..];
     let count = rest.len().min(HELLO_CHANGES);
-    numbered_from(alloc, leaf, version, &rest[..count])
+    &rest[..count]
 }
 
 // These accepted changes to one leaf, numbered on from a version.

@@ -74,10 +74,10 @@ impl<D: Disk> HubLink<D> {
         if self.is_stray_hello(leaf, version) {
             return Ok(Answer::only(alloc, Note::Stray));
         }
-        let packets = hello_packets(alloc, leaf, version, self.kept.state())?;
+        let packets = Seq::new(hello_packets(alloc, leaf, version, self.kept.state())?);
         Ok(Answer {
             note: Note::Served(packets.len()),
-            packets: Seq::new(packets),
+            packets,
         })
     }
 

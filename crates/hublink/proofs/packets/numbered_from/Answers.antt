@@ -1,5 +1,5 @@
-use Rattle.std.proofs.Common.{ap, ◌∙◌, ◌+◌, arith}
-use Rattle.protocol.specs.Packets.{change_packet, Outgoing}
+use Rattle.std.proofs.Common.{ap, arith}
+use Rattle.protocol.specs.Packets.{Outgoing}
 use Rattle.hublink.proofs.Sending.{numbered-more}
 use Rattle.hublink.proofs.packets.numbered_from.Goals as goal
 
@@ -8,5 +8,5 @@ loop-entry-preserved c = (
   omega (arith, c.loop-entry.invariant.0),
   numbered-more c.args.leaf c.loop-entry.number c.args.entries.now c.loop-entry.entry-index c.entry-item.result c.loop-entry.packets.items
       c.push.new.self.items _ _ c.loop-entry-test.true c.entry-item.is c.in_ok-push.ensures.items
-      (ap (λ p. (let o : Outgoing = record { to = c.args.leaf; packet = p } in o)) c.in_ok-numbered_packet.ensures) c.loop-entry.invariant.1,
+      (ap (λ p. (let o : Outgoing = record { to = c.args.leaf; packet = p } in o)) c.in_ok-packet.ensures) c.loop-entry.invariant.1,
 )

@@ -1,4 +1,4 @@
-use Rattle.std.proofs.Common.{ap, ◌∙◌, ◌+◌}
+use Rattle.std.proofs.Common.{ap, ◌+◌}
 use Rattle.protocol.specs.Packets.{change_packet, Outgoing}
 use Rattle.hublink.proofs.Sending.{each-more}
 use Rattle.hublink.proofs.packets.put_to_each.Goals as goal
@@ -7,4 +7,4 @@ pub loop-place-preserved : goal.loop-place-preserved
 loop-place-preserved c =
     let packet = change_packet c.args.number c.args.entry.now in
     each-more packet c.loop-place.packets.items c.push.new.self.items _ c.loop-place.place c.args.leaves _ c.loop-place-test.true c.in_ok-push.ensures.items
-    (ap (λ p. (let o : Outgoing = record { to = c.loop-place.place + 1; packet = p } in o)) c.in_ok-numbered_packet.ensures) c.loop-place.invariant
+    (ap (λ p. (let o : Outgoing = record { to = c.loop-place.place + 1; packet = p } in o)) c.in_ok-packet.ensures) c.loop-place.invariant

@@ -1,4 +1,4 @@
-use Rattle.std.proofs.Common.{true, Err, refl, ap, subst, ◌∙◌, ◌≡◌, nat_lt}
+use Rattle.std.proofs.Common.{Err, refl, ap, subst, ◌∙◌, nat_lt}
 use Rattle.std.specs.Option.{option_map}
 use Rattle.userfile.specs.Apply.{refusal}
 use Rattle.botjournal.specs.declared.entry.Entry.TheVariants.{Accepted}

@@ -1,4 +1,4 @@
-use Rattle.std.proofs.Common.{ap, subst}
+use Rattle.std.proofs.Common.{subst}
 use Rattle.std.specs.Option.{option_map}
 use Rattle.hublink.specs.Kept.{KeptHub}
 use Rattle.hublink.specs.Doubts.{record_of}

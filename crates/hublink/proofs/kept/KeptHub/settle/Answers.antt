@@ -1,4 +1,4 @@
-use Rattle.std.proofs.Common.{true, Err, refl, ap, subst, ◌∙◌, ◌≡◌}
+use Rattle.std.proofs.Common.{true, Err, ap, subst, ◌∙◌, ◌≡◌}
 use Rattle.std.specs.Option.{option_map}
 use Rattle.botjournal.specs.Contents.{added}
 use Rattle.botjournal.specs.declared.entry.Entry.TheVariants.{Settled}
