@@ -3,6 +3,7 @@ ghost use Rattle.std.specs.Prelude.{◌≡◌, ◌<◌, true, false, Some, OnOk,
 ghost use Rattle.bytetext.specs.declared.moment.TheConstants.{MOMENTS_END};
 ghost use Rattle.botdrive.specs.Driving.{Drives, DrivesTo, TakesAll, TakesSome, course_at};
 ghost use Rattle.botdrive.specs.Outboxes.{course_of};
+ghost use Rattle.linkcalls.specs.Shapes.{AreGood};
 
 use crate::hearing::hear_all;
 use crate::input::{Input, Memory};
@@ -36,7 +37,7 @@ pub enum DriveEnd {
 pub struct DriveReport {
     /// How it ended.
     pub end: DriveEnd,
-    /// The packets of the steps that it made, in order, to be sent over the link.
+    /// The packets of the steps that it made, in order, to be sent over the link: texts, so that no record is in them.
     pub packets: Outgoings,
 }
 
@@ -69,10 +70,11 @@ pub fn drive<P: Promise, D: Disk, B: Run, R: Read, W: Write>(
     now: u64,
 ) -> DriveReport
     requires { now < MOMENTS_END }
-    ensures { Drives true P.code_of P.may store.now now
+    ensures drives { Drives true P.code_of P.may store.now now
         (record { bot = bot.old; held = lines.old; left = R.remaining reader.old; written = W.contents writer.old })
         result
         (record { bot = bot.new; held = lines.new; left = R.remaining reader.new; written = W.contents writer.new }) }
+    ensures good { AreGood result.packets }
 {
     drive_over(alloc, bot, store, lines, reader, writer, now)
 }
@@ -89,10 +91,11 @@ pub fn drive_bytes<P: Promise, D: Disk, B: Run, W: Write>(
     now: u64,
 ) -> DriveReport
     requires { now < MOMENTS_END }
-    ensures { Drives false P.code_of P.may store.now now
+    ensures drives { Drives false P.code_of P.may store.now now
         (record { bot = bot.old; held = lines.old; left = Some bytes.old.now; written = W.contents writer.old })
         result
         (record { bot = bot.new; held = lines.new; left = Some bytes.new.now; written = W.contents writer.new }) }
+    ensures good { AreGood result.packets }
 {
     let mut memory = Memory { bytes: *bytes };
     let report = drive_over(alloc, bot, store, lines, &mut memory, writer, now);
@@ -101,6 +104,7 @@ pub fn drive_bytes<P: Promise, D: Disk, B: Run, W: Write>(
 }
 
 // Drives a bot over any input.
+#[tactic(auto, using(crate::proofs::PacketLemmas::DrivesTo_good))]
 fn drive_over<P: Promise, D: Disk, B: Run, I: Input, W: Write>(
     alloc: Global,
     bot: &mut Bot<D>,
@@ -110,10 +114,11 @@ fn drive_over<P: Promise, D: Disk, B: Run, I: Input, W: Write>(
     writer: &mut W,
     now: u64,
 ) -> DriveReport
-    ensures { Drives I.stalls P.code_of P.may store.now now
+    ensures drives { Drives I.stalls P.code_of P.may store.now now
         (record { bot = bot.old; held = lines.old; left = I.left input.old; written = W.contents writer.old })
         result
         (record { bot = bot.new; held = lines.new; left = I.left input.new; written = W.contents writer.new }) }
+    ensures good { AreGood result.packets }
 {
     let mut outbox = Outbox::new(alloc);
     let end = drive_with(alloc, bot, store, lines, input, writer, now, &mut outbox);

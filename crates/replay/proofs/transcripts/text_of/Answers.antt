@@ -7,7 +7,7 @@ returns g c =
     let world = c.in_ok-world.ensures in
     record {
       first = world.0;
-      begins = world.1.0;
+      begins = world.1;
       done = Does-first g.P.Promise.code_of g.P.Promise.may world.0 c.as_slice.result.now c.args.script.now.commands _ _ _ c.new-text.ensures.items
-          c.as_slice.ensures (c.in_ok-put_commands.ensures (beginning world.0) world.1.1);
+          c.as_slice.ensures (c.in_ok-put_commands.ensures (beginning world.0) world.2);
     }
