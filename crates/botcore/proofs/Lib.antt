@@ -4,6 +4,7 @@ pub mod AutomaticLemmas
 pub mod Calendar
 pub mod CallingLemmas
 pub mod JoiningLemmas
+pub mod MakingLemmas
 pub mod PacketLemmas
 pub mod PutLemmas
 pub mod ReachLemmas
