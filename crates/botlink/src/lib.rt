@@ -11,6 +11,7 @@
 //! ```
 #![tactic(auto)]
 
+mod ends;
 mod link;
 
 pub use crate::link::BotLink;

@@ -1,4 +1,5 @@
 // A bot's end of the link.
+use crate::ends::Ends;
 use bytejournal::{Disks, Returned};
 use hublink::HubLink;
 use leaflink::LeafLink;
@@ -11,16 +12,7 @@ use userfile::{Change, Userfile};
 /// A bot's end of the link: the hub's where its number is 0, else a leaf's.
 #[derive(Drop)]
 pub struct BotLink<D: Disk> {
-    number: u16,
-    leaves: u16,
     end: Ends<D>,
-}
-
-// Which end it is.
-#[derive(Drop)]
-enum Ends<D: Disk> {
-    Hub(HubLink<D>),
-    Leaf(LeafLink<D>),
 }
 
 impl<D: Disk> Model for BotLink<D> {
@@ -28,11 +20,11 @@ impl<D: Disk> Model for BotLink<D> {
 
     ghost Value = { BotEnd };
 
-    ghost use Rattle.botlink.specs.Links.{new_bot_end};
+    ghost use Rattle.botlink.specs.Ends.{bot_of, IsNumbered};
 
-    ghost view = { λ l. new_bot_end l.number l.leaves (record { first = 0; second = 0 }) };
+    ghost view = { λ l. bot_of l.end };
 
-    ghost invariant = { λ l. ⊥ };
+    ghost invariant = { λ l. IsNumbered l.end };
 }
 
 impl<D: Disk> BotLink<D> {
@@ -64,23 +56,18 @@ impl<D: Disk> BotLink<D> {
         ensures row { Makes D.state number leaves first second result }
     {
         if number == 0 {
-            match HubLink::create(alloc, first, second, leaves) {
+            return match HubLink::create(alloc, first, second, leaves) {
                 Ok(hub) => Ok(BotLink {
-                    number,
-                    leaves,
                     end: Ends::Hub(hub),
                 }),
                 Err(returned) => Err(returned),
-            }
-        } else {
-            match LeafLink::create(alloc, first, second, number, leaves) {
-                Ok(leaf) => Ok(BotLink {
-                    number,
-                    leaves,
-                    end: Ends::Leaf(leaf),
-                }),
-                Err(returned) => Err(returned),
-            }
+            };
+        }
+        match LeafLink::create(alloc, first, second, number, leaves) {
+            Ok(leaf) => Ok(BotLink {
+                end: Ends::Leaf(leaf),
+            }),
+            Err(returned) => Err(returned),
         }
     }
 
@@ -104,23 +91,18 @@ impl<D: Disk> BotLink<D> {
         ensures row { Opens D.state number leaves first second result }
     {
         if number == 0 {
-            match HubLink::open(alloc, first, second, leaves) {
+            return match HubLink::open(alloc, first, second, leaves) {
                 Ok(hub) => Ok(BotLink {
-                    number,
-                    leaves,
                     end: Ends::Hub(hub),
                 }),
                 Err(returned) => Err(returned),
-            }
-        } else {
-            match LeafLink::open(alloc, first, second, number, leaves) {
-                Ok(leaf) => Ok(BotLink {
-                    number,
-                    leaves,
-                    end: Ends::Leaf(leaf),
-                }),
-                Err(returned) => Err(returned),
-            }
+            };
+        }
+        match LeafLink::open(alloc, first, second, number, leaves) {
+            Ok(leaf) => Ok(BotLink {
+                end: Ends::Leaf(leaf),
+            }),
+            Err(returned) => Err(returned),
         }
     }
 

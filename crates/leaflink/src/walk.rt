@@ -102,12 +102,12 @@ impl<'a> Walk<'a> {
     }
 
     // Whether one of them clashes with this record.
-    fn has_clash(self, record: &Record) -> bool
-        ensures { result ≡ list_any (clash record.now) (left self.entry) }
+    fn has_clash(self, one: &Record) -> bool
+        ensures { result ≡ list_any (clash one.now) (left self.entry) }
     {
         let mut rest = self;
         while let Some((other, after)) = rest.next() {
-            if clash(record, other) {
+            if clash(one, other) {
                 return true;
             }
             rest = after;
@@ -160,10 +160,10 @@ impl<'a> Walk<'a> {
 }
 
 // Whether a userfile holds one of two records alone.
-fn clash(record: &Record, other: &Record) -> bool
-    ensures { result ≡ clash record.now other.now }
+fn clash(one: &Record, other: &Record) -> bool
+    ensures { result ≡ clash one.now other.now }
 {
-    match (record, other) {
+    match (one, other) {
         (Record::User(user), Record::User(other)) => {
             same(user.handle.as_bytes(), other.handle.as_bytes())
         }

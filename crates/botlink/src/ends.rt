@@ -1,0 +1,10 @@
+// The end that a bot has. This is apart, since an enum has no value that contracts see.
+use hublink::HubLink;
+use leaflink::LeafLink;
+use storage::Disk;
+
+#[derive(Drop)]
+pub(crate) enum Ends<D: Disk> {
+    Hub(HubLink<D>),
+    Leaf(LeafLink<D>),
+}
