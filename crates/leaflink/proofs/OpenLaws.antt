@@ -1,19 +1,22 @@
 -- A leaf that is made, found or handed back.
 use Rattle.std.proofs.Common.{◌≡◌, ◌⊎◌, ◌<◌, ◌+◌, ◌==◌, ℕ, Bool, true, false, if◌then◌else◌, List, [], ◌∷◌, Option, None, Some, refl, sym, ap, subst, ◌∙◌, inl, inr, eq-eqb}
 use Rattle.std.specs.Option.{option_map}
+use Rattle.storage.specs.State.{State}
+use Rattle.bytejournal.specs.Opening.{Untouched}
 use Rattle.botjournal.specs.Bases.{IsGoodOut}
 use Rattle.botjournal.specs.declared.base.Base.{Base}
 use Rattle.botjournal.specs.declared.entry.Entry.{Entry}
+use Rattle.botjournal.specs.declared.found.Found.{Found}
 use Rattle.botjournal.specs.declared.entry.Entry.TheVariants.{Accepted, Settled, Applied, ReqOut, ReqDone}
 use Rattle.botjournal.specs.Contents.{Contents, new_contents, meaning}
 use Rattle.botjournal.specs.Journal.{IsEither}
-use Rattle.botjournal.specs.Ledger.{Account, settled, counted as contents_counted}
+use Rattle.botjournal.specs.Ledger.{Account, IsFound as FindsContents, settled, counted as contents_counted}
 use Rattle.protocol.specs.LeafRules.{LeafState, LeafRecord, Apply, Out, Done, leaf_folded}
 use Rattle.protocol.specs.Network.{new_leaf}
 use Rattle.protocol.specs.Journals.{read_next, reads, record_if, leaf_of, leaf_base, is_leaf_base, leaf_record, leaf_meaning}
 use Rattle.leaflink.specs.Kept.{Means, MeansEither, Stands, Holds}
-use Rattle.leaflink.specs.Opening.{AreOf}
-use Rattle.leaflink.proofs.RestartLaws.{either-of}
+use Rattle.leaflink.specs.Opening.{AreOf, contents_in}
+use Rattle.leaflink.proofs.RestartLaws.{either-of, found-is}
 
 -- ---- made
 
@@ -92,3 +95,39 @@ found-means number contents state is = record { means = is; generation = by (is_
         → state.generation ≡ contents.generation
     by true e = reads-generation contents.entries (leaf_of contents.generation contents.base) state contents.generation refl e
     by false e = absurd (cc)
+
+-- a leaf whose journal is at rest
+pub rests-holds : (number : ℕ) (state : LeafState) (account : Account) → 0 < number → IsGoodOut state.out
+    → account ≡ settled account.contents → leaf_meaning number account.contents ≡ Some state → Holds number state false None account
+rests-holds number state account above good rests is = record {
+  numbered = above;
+  out = good;
+  stands = record {
+    up = ap (λ (a : Account). a.down) rests;
+    certain = ap (λ (a : Account). a.doubt) rests;
+    none = refl;
+    means = found-means number account.contents state is;
+  };
+}
+
+-- what was read is what the contents mean
+pub found-meaning : (number generation : ℕ) (found : Found) (contents : Contents) (means : Option LeafState) → generation ≡ contents.generation
+    → FindsContents found contents → leaf_meaning number (contents_in generation found) ≡ means → leaf_meaning number contents ≡ means
+found-meaning number generation found contents means at is read =
+    ap (λ c. leaf_meaning number c) (sym (found-is contents generation found at is)) ∙ read
+
+-- disks that were only read mean what they meant
+pub untouched-mean : (first second first' second' : State) → Untouched first first' → Untouched second second'
+    → (x y : List ℕ) → first'.may_leave x → second'.may_leave y → meaning x y ≡ meaning first.seen second.seen
+untouched-mean first second first' second' one other x y left right =
+    ap (λ image. meaning image y) (one.settled x left ∙ one.seen)
+    ∙ ap (λ image. meaning first.seen image) (other.settled y right ∙ other.seen)
+
+-- and so do those that were taken out of a journal at rest
+pub rested-mean : (account : Account) (before : Option Contents) (x y : List ℕ) → account ≡ settled account.contents
+    → before ≡ Some account.contents → IsEither (Some account.contents) (Some (contents_counted account)) x y → meaning x y ≡ before
+rested-mean account before x y rests was either = by either.means ∙ sym was
+  where
+    by : (meaning x y ≡ Some account.contents) ⊎ (meaning x y ≡ Some (contents_counted account)) → meaning x y ≡ Some account.contents
+    by (inl e) = e
+    by (inr e) = e ∙ ap (λ (a : Account). Some (contents_counted a)) rests

@@ -6,11 +6,11 @@ use Rattle.storage.specs.declared.disk.DiskFault.{DiskFault}
 use Rattle.botjournal.specs.Bases.{IsGoodOut}
 use Rattle.botjournal.specs.Contents.{Contents}
 use Rattle.botjournal.specs.declared.found.Found.{Found}
-use Rattle.botjournal.specs.Ledger.{Ledger, Account, IsFound, StaysDown, settled, written_if, counted as contents_counted, Restarts as LedgerRestarts}
+use Rattle.botjournal.specs.Ledger.{Ledger, Account, Failures, IsFound, StaysDown, settled, written_if, counted as contents_counted, Restarts as LedgerRestarts}
 use Rattle.protocol.specs.Bots.{counted}
 use Rattle.protocol.specs.LeafRules.{LeafState, LeafRecord, leaf_folded}
 use Rattle.protocol.specs.Journals.{leaf_meaning}
-use Rattle.leaflink.specs.Kept.{Means, MeansEither, IsUp, IsDown, Stands, Holds}
+use Rattle.leaflink.specs.Kept.{KeptLeaf, Means, MeansEither, IsUp, IsDown, Stands, Holds, Restarts}
 use Rattle.leaflink.specs.Opening.{contents_in}
 
 -- in a journal of which nothing is in doubt, what would count is what is there
@@ -39,7 +39,7 @@ settled-found old new (inl e) = e ∙ sym (ap (λ (a : Account). settled a.conte
 settled-found old new (inr e) = e ∙ sym (ap (λ (a : Account). settled a.contents) e)
 
 -- what is found is what the journal then holds
-found-is : (contents : Contents) (generation : ℕ) (found : Found) → generation ≡ contents.generation → IsFound found contents
+pub found-is : (contents : Contents) (generation : ℕ) (found : Found) → generation ≡ contents.generation → IsFound found contents
     → contents_in generation found ≡ contents
 found-is contents generation found at is =
     ap (λ n. (let c : Contents = record { generation = n; base = found.base; entries = found.entries } in c)) at
@@ -121,3 +121,40 @@ down-holds number kept down doubt old new holds stays = record {
     counted = either-of number kept down doubt old.account (contents_counted new.account) holds.stands (inr (ap contents_counted stays));
   };
 }
+
+-- so it is after each error
+pub failed-holds : (number : ℕ) (kept : LeafState) (down : Bool) (doubt : Option LeafRecord) (old new : Ledger) (error : Failure DiskFault)
+    → Holds number kept down doubt old.account → LedgerRestarts old (Err error) new → Holds number kept true doubt new.account
+failed-holds number kept down doubt old new (Refused fault) holds restarts = down-holds number kept down doubt old new holds restarts.0
+failed-holds number kept down doubt old new NoMemory holds restarts = down-holds number kept down doubt old new holds restarts
+
+-- ---- as the link shows it
+
+-- a restart that ended
+pub restarted-is : (number : ℕ) (kept state : LeafState) (down : Bool) (doubt : Option LeafRecord) (before now : Failures) (old : KeptLeaf)
+    → record { number = number; kept = kept; down = down; doubt = doubt; failures = before } ≡ old
+    → (state ≡ kept) ⊎ (state ≡ counted leaf_folded kept doubt)
+    → Restarts old (Ok tt) (record { number = number; kept = state; down = false; doubt = None; failures = now })
+restarted-is number kept state down doubt before now old view found = subst (λ (l : KeptLeaf). Restarts l (Ok tt) new) view (by found)
+  where
+    new : KeptLeaf
+    new = record { number = number; kept = state; down = false; doubt = None; failures = now }
+
+    same : (s : LeafState) → state ≡ s → new ≡ record { number = number; kept = s; down = false; doubt = None; failures = now }
+    same s e = ap (λ k. (let l : KeptLeaf = record { number = number; kept = k; down = false; doubt = None; failures = now } in l)) e
+
+    by : (state ≡ kept) ⊎ (state ≡ counted leaf_folded kept doubt)
+        → Restarts (record { number = number; kept = kept; down = down; doubt = doubt; failures = before }) (Ok tt) new
+    by (inl e) = inl (same kept e)
+    by (inr e) = inr (same (counted leaf_folded kept doubt) e)
+
+-- one that a disk's fault or want of memory ended
+pub failed-is : (number : ℕ) (kept : LeafState) (down : Bool) (doubt : Option LeafRecord) (was now : Ledger) (error : Failure DiskFault) (old : KeptLeaf)
+    → record { number = number; kept = kept; down = down; doubt = doubt; failures = was.failures } ≡ old → LedgerRestarts was (Err error) now
+    → Restarts old (Err error) (record { number = number; kept = kept; down = true; doubt = doubt; failures = now.failures })
+failed-is number kept down doubt was now (Refused fault) old view restarts =
+    subst (λ (l : KeptLeaf). Restarts l (Err (Refused fault)) (record { number = number; kept = kept; down = true; doubt = doubt; failures = now.failures }))
+    view (refl, restarts.1)
+failed-is number kept down doubt was now NoMemory old view restarts =
+    subst (λ (l : KeptLeaf). Restarts l (Err NoMemory) (record { number = number; kept = kept; down = true; doubt = doubt; failures = now.failures }))
+    view refl

@@ -177,9 +177,10 @@ impl<D: Disk> KeptLeaf<D> {
     {
         self.state.userfile().are_sound();
         let kept = change.copy(alloc)?;
+        let twin = change.copy(alloc)?;
         let entry = Entry::ReqOut {
             request: self.state.last_request() + 1,
-            change: change.copy(alloc)?,
+            change: twin,
         };
         match self.ledger.append(alloc, &entry) {
             Ok(()) => {
@@ -254,6 +255,7 @@ impl<D: Disk> KeptLeaf<D> {
         ensures { Journals (Install version userfile) self.old result self.new }
     {
         userfile.are_sound();
+        self.state.userfile().are_sound();
         let base = self
             .state
             .base_with(alloc, self.number, version, &userfile)?;
