@@ -1,7 +1,7 @@
 -- The records of parts are of good shape: those that were sent, and those that a bot is told.
-use Rattle.std.proofs.Common.{◌≡◌, ℕ, zero, suc, ◌+◌, ◌-◌, ◌<◌, Bool, true, false, ◌&&◌, if◌then◌else◌, List, [], ◌∷◌, ◌++◌, length, slice_get, get_or}
-use Rattle.std.proofs.Common.{Option, None, Some, Result, Ok, Err, IsOk, refl, sym, subst, ◌∙◌}
-use Rattle.std.proofs.lemmas.Option.{slice_get_read}
+use Rattle.std.proofs.Common.{◌≡◌, ℕ, zero, suc, ◌-◌, Bool, true, false, ◌&&◌, if◌then◌else◌, List, [], ◌∷◌, ◌++◌, slice_get, get_or}
+use Rattle.std.proofs.Common.{Option, None, Some, Result, Ok, Err, IsOk, refl, ap, sym, subst, ◌∙◌, arith}
+use Rattle.std.proofs.lemmas.Option.{get_or_from_slice_get}
 use Rattle.linkcalls.specs.declared.answer.Outgoing.{Outgoing}
 use Rattle.linkcalls.specs.Shapes.{HasGoodRecords, AreGood}
 use Rattle.botcore.specs.declared.event.Event.{Event}
@@ -9,9 +9,10 @@ use Rattle.botcore.specs.declared.event.Event.TheVariants.{Connect, Line, Ask, P
 use Rattle.botcore.specs.Steps.{IsGoodEvent}
 use Rattle.botworld.specs.declared.sent.Sent.{Sent}
 use Rattle.botworld.specs.declared.step.Part.{Part}
+use Rattle.botworld.specs.declared.step.Step.TheVariants.{Deliver}
 use Rattle.botworld.specs.declared.outcome.Outcome.{Outcome}
 use Rattle.botworld.specs.declared.outcome.Outcome.TheVariants.{NoSuchBot, NoSuchPacket}
-use Rattle.botworld.specs.Net.{Net, AllGood, is_bot, is_packet, part_at, told_at, posted}
+use Rattle.botworld.specs.Net.{Net, AllGood, is_bot, is_packet, told_at, delivered, part_of, posted}
 
 -- what is posted after good packets
 pub posted_good : (packets : List Sent) (from : ℕ) (os : List Outgoing) → AllGood packets → AreGood os → AllGood (packets ++ posted from os)
@@ -26,10 +27,18 @@ sent_good (p ∷ packets) zero sent good e =
     let same : p ≡ sent = cc in subst (λ (s : Sent). HasGoodRecords s.packet) same good.0
 sent_good (p ∷ packets) (suc place) sent good e = sent_good packets place sent good.1 e
 
-pub read_good : (packets : List Sent) (place : ℕ) (sent : Sent) → AllGood packets → place < length packets → sent ≡ get_or packets place sent
+-- a packet that is delivered
+pub delivered_good : (w : Net) (k : ℕ) (sent : Sent) → AllGood w.packets → IsOk (part_of w (Deliver k)) → sent ≡ get_or w.packets (k - 1) sent
     → HasGoodRecords sent.packet
-read_good packets place sent good within is =
-    sent_good packets place sent good (slice_get_read packets (length packets) place sent refl within is)
+delivered_good w zero sent good ok is = absurd ok
+delivered_good w (suc place) sent good ok is = by (slice_get w.packets place) refl ok
+  where
+    by : (r : Option Sent) → slice_get w.packets place ≡ r → IsOk (delivered w r) → HasGoodRecords sent.packet
+    by None at ok = absurd ok
+    by (Some x) at ok =
+        let one_less : suc place - 1 ≡ place = omega arith in
+        let same : sent ≡ x = is ∙ ap (λ i. get_or w.packets i sent) one_less ∙ get_or_from_slice_get w.packets place sent x at in
+        subst (λ (s : Sent). HasGoodRecords s.packet) (sym same) (sent_good w.packets place x good at)
 
 -- an event that is no packet
 other_good : (event : Event) → is_packet event ≡ false → IsGoodEvent event
