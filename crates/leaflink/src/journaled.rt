@@ -2,11 +2,11 @@
 ghost use Rattle.std.specs.Prelude.{◌≡◌, ◌≢◌, ◌<◌, ◌+◌, ◌-◌, ◌^◌, false, true, nat_lt, OnOk, OnErr};
 ghost use Rattle.usercodec.specs.Changes.{IsGoodChange};
 ghost use Rattle.botjournal.specs.Bases.{IsGoodOut};
-ghost use Rattle.botjournal.specs.declared.entry.Entry.TheVariants.{ReqOut};
+ghost use Rattle.botjournal.specs.declared.entry.Entry.TheVariants.{ReqOut, ReqDone};
 ghost use Rattle.botjournal.specs.Ledger.{Appends};
 ghost use Rattle.protocol.specs.Numbers.{last_number};
 ghost use Rattle.protocol.specs.Journals.{leaf_base};
-ghost use Rattle.protocol.specs.LeafRules.{Out, Install, leaf_folded};
+ghost use Rattle.protocol.specs.LeafRules.{Out, Done, Install, leaf_folded};
 ghost use Rattle.leaflink.specs.Journaling.{Replaces};
 
 use botjournal::{Entry, Ledger, LedgerError, RebaseFault};
@@ -55,6 +55,39 @@ fn request_journaled<D: Disk>(
         request,
         change: change.copy(alloc)?,
     };
+    ledger.append(alloc, &entry)
+}
+
+// Ends the request that is out.
+pub(crate) fn done_journaled<D: Disk>(
+    alloc: Global,
+    state: &mut LeafState,
+    ledger: &mut Ledger<D>,
+) -> Result<(), LedgerError>
+    requires up { ledger.old.account.down ≡ false }
+    ensures row { Appends ledger.old (ReqDone state.old.last) result ledger.new }
+    ensures done { OnOk result (state.new ≡ leaf_folded state.old Done) }
+    ensures stays { OnErr result (state.new ≡ state.old) }
+{
+    match end_journaled(alloc, ledger, state.last_request()) {
+        Ok(()) => {
+            state.end_request();
+            Ok(())
+        }
+        Err(error) => Err(error),
+    }
+}
+
+// Appends that the request of this number is done.
+fn end_journaled<D: Disk>(
+    alloc: Global,
+    ledger: &mut Ledger<D>,
+    request: u32,
+) -> Result<(), LedgerError>
+    requires up { ledger.old.account.down ≡ false }
+    ensures { Appends ledger.old (ReqDone request) result ledger.new }
+{
+    let entry = Entry::ReqDone { request };
     ledger.append(alloc, &entry)
 }
 

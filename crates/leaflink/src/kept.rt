@@ -15,8 +15,8 @@ ghost use Rattle.leaflink.specs.Kept.{Journals, Restarts};
 ghost use Rattle.leaflink.specs.Opening.{Makes, Finds, MayLeave, contents_in};
 
 use crate::doubt::Doubt;
-use crate::journaled::{base_journaled, install_journaled, out_journaled};
-use botjournal::{Base, Entry, Found, Ledger, LedgerError};
+use crate::journaled::{base_journaled, done_journaled, install_journaled, out_journaled};
+use botjournal::{Base, Found, Ledger, LedgerError};
 use bytejournal::{Disks, JournalFault, Returned};
 use bytetext::{Failure, Seq};
 use linkstate::{LeafState, StateError};
@@ -186,14 +186,8 @@ impl<D: Disk> KeptLeaf<D> {
         ensures { Journals Done self.old result self.new }
     {
         self.state.userfile().are_sound();
-        let entry = Entry::ReqDone {
-            request: self.state.last_request(),
-        };
-        match self.ledger.append(alloc, &entry) {
-            Ok(()) => {
-                self.state.end_request();
-                Ok(())
-            }
+        match done_journaled(alloc, &mut self.state, &mut self.ledger) {
+            Ok(()) => Ok(()),
             Err(Failure::NoMemory) => Err(Failure::NoMemory),
             Err(Failure::Refused(fault)) => {
                 self.doubt = Some(Doubt::Done);
