@@ -8,6 +8,7 @@ use crate::sizes::Sizes;
 use crate::stop::Stop;
 use botcore::Bot;
 use bytetext::NoMemory;
+use disks::MemDisk;
 use std::alloc::Global;
 use std::cell::Cell;
 use std::rc::Rc;
@@ -125,7 +126,7 @@ fn measure_case<R: AllocGlobal + Clock + Eprint>(
 fn measure_bot<R: AllocGlobal + Clock + Eprint>(
     rt: &R,
     case: &Case,
-    bot: &mut Bot,
+    bot: &mut Bot<MemDisk>,
     store: &Store,
     stream: &[u8],
 ) -> Result<(), Stop> {
