@@ -1,7 +1,6 @@
 // From a live script to what it prints.
 ghost use Rattle.std.specs.Prelude.{◌≡◌, ◌++◌, IfOk, OnOk, ◌≤◌};
 ghost use Rattle.liveloop.specs.declared.TheConstants.{MAX_LEAVES as most_leaves};
-ghost use Rattle.liveloop.specs.Grammar.{IsGoodCommand};
 ghost use Rattle.liveloop.specs.Heard.{heard_line, heard_text};
 
 use crate::MAX_TURNS;
@@ -64,9 +63,7 @@ fn done<R: Net + AllocGlobal, P: Promise, B: Run>(
     net: &mut Network,
     store: &ProcStore<P, B>,
     command: Command,
-) -> Result<Vec<u8>, LiveError>
-    requires good { IsGoodCommand command }
-{
+) -> Result<Vec<u8>, LiveError> {
     let alloc = rt.alloc();
     match command {
         Command::Tell { bot, event } => tell(alloc, net, store, bot as usize, event)?,

@@ -12,7 +12,7 @@
 //! ```
 //!
 //! Whoever runs scripts in another way takes the same pieces: the bytes of a script by [`script_bytes`], its bots by
-//! [`new_bots`], each with its journal on two [`SteadyDisk`]s, what a `show` prints by [`put_records`], and the way to the writer by [`write_text`].
+//! [`new_bots`], what a `show` prints by [`put_records`], and the way to the writer by [`write_text`].
 #![tactic(auto)]
 
 mod answers;
@@ -27,7 +27,6 @@ mod records;
 mod replaying;
 mod shows;
 mod starting;
-mod steady_disk;
 mod transcripts;
 
 pub use crate::error::ReplayError;
@@ -36,5 +35,4 @@ pub use crate::output::write_text;
 pub use crate::replaying::replay;
 pub use crate::shows::put_records;
 pub use crate::starting::new_bots;
-pub use crate::steady_disk::SteadyDisk;
 pub use crate::transcripts::transcript;

@@ -8,7 +8,6 @@ use crate::sizes::Sizes;
 use crate::stop::Stop;
 use botcore::Bot;
 use bytetext::NoMemory;
-use disks::MemDisk;
 use std::alloc::Global;
 use std::cell::Cell;
 use std::rc::Rc;
@@ -126,7 +125,7 @@ fn measure_case<R: AllocGlobal + Clock + Eprint>(
 fn measure_bot<R: AllocGlobal + Clock + Eprint>(
     rt: &R,
     case: &Case,
-    bot: &mut Bot<MemDisk>,
+    bot: &mut Bot,
     store: &Store,
     stream: &[u8],
 ) -> Result<(), Stop> {
