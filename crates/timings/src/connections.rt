@@ -6,6 +6,7 @@ use crate::quiet::Store;
 use crate::stop::Stop;
 use botcore::Bot;
 use botdrive::{DriveEnd, drive};
+use disks::MemDisk;
 use ircline::LineReader;
 use std::alloc::Global;
 
@@ -49,7 +50,12 @@ impl Connection {
     }
 
     /// Lets a bot come to the channel `#egg`, where it is op.
-    pub fn open(&mut self, alloc: Global, bot: &mut Bot, store: &Store) -> Result<(), Stop> {
+    pub fn open(
+        &mut self,
+        alloc: Global,
+        bot: &mut Bot<MemDisk>,
+        store: &Store,
+    ) -> Result<(), Stop> {
         self.drive(alloc, bot, store, WELCOME, ARRIVAL)
     }
 
@@ -57,7 +63,7 @@ impl Connection {
     pub fn drive_over(
         &mut self,
         alloc: Global,
-        bot: &mut Bot,
+        bot: &mut Bot<MemDisk>,
         store: &Store,
         stream: &[u8],
         at_once: usize,
@@ -72,7 +78,7 @@ impl Connection {
     fn drive(
         &mut self,
         alloc: Global,
-        bot: &mut Bot,
+        bot: &mut Bot<MemDisk>,
         store: &Store,
         piece: &[u8],
         now: u64,

@@ -1,0 +1,135 @@
+// Calls of a bot's link.
+ghost use Rattle.std.specs.Prelude.{◌+◌};
+ghost use Rattle.linkcalls.specs.declared.TheConstants.{MAX_LEAVES};
+ghost use Rattle.linkcalls.specs.Shapes.{AreGood, GoOut};
+
+use crate::net::{Good, Net, Place, Sent};
+use crate::print::{put, put_code, put_note, put_number, put_packet, records_text};
+use crate::stop::CaseError;
+use botlink::BotLink;
+use bytetext::{Failure, NoMemory};
+use disks::MemDisk;
+use linkcalls::{Answer, LinkError, Outgoing};
+use std::alloc::Global;
+use userfile::Change;
+
+/// A call of a link.
+#[derive(Drop)]
+pub enum Call {
+    /// An ask for a change.
+    Ask(Change),
+    /// A pump.
+    Pump,
+    /// A compaction.
+    Compact,
+    /// A restart.
+    Restart,
+    /// A packet that it takes.
+    Take(Good),
+}
+
+/// Makes a call of a bot's link, and prints what it answers. A bot above the last one is none.
+pub fn make(
+    alloc: Global,
+    net: &mut Net,
+    bot: u16,
+    call: Call,
+    out: &mut Vec<u8>,
+) -> Result<(), CaseError> {
+    match net.bots.get_mut(usize::from(bot)) {
+        Some(Place::Linked(link)) => {
+            let before = link.version();
+            let answer = answer_of(alloc, link, call);
+            tell(alloc, net, bot, answer, out)?;
+            see(alloc, net, bot, before)?;
+        }
+        Some(Place::Apart(_)) => {
+            put_number(out, u64::from(bot))?;
+            put(out, b" apart\n")?;
+        }
+        None => put(out, b"world O2\n")?,
+    }
+    Ok(())
+}
+
+fn answer_of(alloc: Global, link: &mut BotLink<MemDisk>, call: Call) -> Result<Answer, LinkError>
+    ensures { GoOut (MAX_LEAVES + 1) result }
+{
+    match call {
+        Call::Ask(change) => link.ask(alloc, change),
+        Call::Pump => link.pump(alloc),
+        Call::Compact => link.compact(alloc),
+        Call::Restart => link.restart(alloc),
+        Call::Take(packet) => link.receive(alloc, packet.packet()),
+    }
+}
+
+// Prints what a call answered, and sends its packets.
+fn tell(
+    alloc: Global,
+    net: &mut Net,
+    bot: u16,
+    answer: Result<Answer, LinkError>,
+    out: &mut Vec<u8>,
+) -> Result<(), NoMemory>
+    requires { GoOut (MAX_LEAVES + 1) answer }
+{
+    match answer {
+        Ok(answer) => {
+            send(alloc, net, bot, answer.packets.as_slice(), out)?;
+            put_number(out, u64::from(bot))?;
+            put_note(out, &answer.note)?;
+            put(out, b"\n")
+        }
+        Err(Failure::Refused(fault)) => put_code(out, bot, b"refused", fault.code()),
+        Err(Failure::NoMemory) => Err(NoMemory),
+    }
+}
+
+// send K A>B KIND DETAIL
+fn send(
+    alloc: Global,
+    net: &mut Net,
+    bot: u16,
+    packets: &[Outgoing],
+    out: &mut Vec<u8>,
+) -> Result<(), NoMemory>
+    requires { AreGood packets.now }
+{
+    for outgoing in packets {
+        let to = outgoing.to;
+        let packet = Good::copy_of(alloc, &outgoing.packet)?;
+        net.packets.push(Sent { to, packet })?;
+        put_sent(out, net.packets.len(), bot, outgoing)?;
+    }
+    Ok(())
+}
+
+fn put_sent(
+    out: &mut Vec<u8>,
+    number: usize,
+    bot: u16,
+    outgoing: &Outgoing,
+) -> Result<(), NoMemory> {
+    put(out, b"send ")?;
+    put_number(out, number as u64)?;
+    put(out, b" ")?;
+    put_number(out, u64::from(bot))?;
+    put(out, b">")?;
+    put_number(out, u64::from(outgoing.to))?;
+    put_packet(out, &outgoing.packet)?;
+    put(out, b"\n")
+}
+
+/// Takes in what a bot shows now, which was at this version before.
+pub fn see(alloc: Global, net: &mut Net, bot: u16, before: u32) -> Result<(), NoMemory> {
+    let Some(Place::Linked(link)) = net.bots.get(usize::from(bot)) else {
+        return Ok(());
+    };
+    let version = link.version();
+    let records = records_text(alloc, link.userfile())?;
+    if version < before {
+        net.seen.note_breach(bot, b" went back to ", version)?;
+    }
+    net.seen.note(bot, version, records)
+}

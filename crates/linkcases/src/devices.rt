@@ -1,0 +1,214 @@
+// Steps that take a bot's disks.
+ghost use Rattle.std.specs.Prelude.{◌<◌, ◌≤◌, IfOk, OnOk};
+ghost use Rattle.storage.specs.State.{IsSettled};
+ghost use Rattle.disks.specs.Memory.{state_of};
+
+use crate::calls::see;
+use crate::net::{Leaves, Net, Place, disks_of};
+use crate::print::{put, put_code, put_counted, put_number};
+use crate::stop::{CaseError, NO_STEP};
+use crate::words::{bytes_of, cut, number};
+use botlink::BotLink;
+use bytejournal::{Disks, Returned};
+use bytetext::{Failure, NoMemory};
+use disks::{MemDisk, Tear};
+use std::alloc::Global;
+use std::mem;
+
+/// `plan B DISK CALL TEAR`
+pub fn plan(
+    alloc: Global,
+    net: &mut Net,
+    bot: u16,
+    rest: &[u8],
+    out: &mut Vec<u8>,
+) -> Result<(), CaseError> {
+    let (disk, rest) = cut(rest);
+    let (call, tear) = cut(rest);
+    let (call, tear) = (call_of(call)?, tear_of(tear)?);
+    let before = version_of(net, bot);
+    let mut disks = taken(alloc, net, bot);
+    fail(&mut disks, disk, call, tear)?;
+    open(alloc, net, bot, disks, out)?;
+    Ok(see(alloc, net, bot, before)?)
+}
+
+fn fail(disks: &mut Disks<MemDisk>, disk: &[u8], call: u64, tear: Tear) -> Result<(), CaseError>
+    requires call { 0 < call }
+    requires first { IsSettled (state_of disks.old.first) }
+    requires second { IsSettled (state_of disks.old.second) }
+    ensures first { OnOk result (IsSettled (state_of disks.new.first)) }
+    ensures second { OnOk result (IsSettled (state_of disks.new.second)) }
+{
+    match disk {
+        b"1" => disks.first.plan(call, tear),
+        b"2" => disks.second.plan(call, tear),
+        _ => return Err(NO_STEP),
+    }
+    Ok(())
+}
+
+// Which call fails, from 1.
+fn call_of(word: &[u8]) -> Result<u64, CaseError>
+    ensures { IfOk result (λ call. 0 < call) }
+{
+    let call = number::<u64>(word)?;
+    if call == 0 {
+        return Err(NO_STEP);
+    }
+    Ok(call)
+}
+
+fn tear_of(word: &[u8]) -> Result<Tear, CaseError> {
+    match word {
+        b"old" => Ok(Tear::Old),
+        b"new" => Ok(Tear::New),
+        digits => Ok(Tear::Fill(number(digits)?)),
+    }
+}
+
+/// `planread B DISK`
+pub fn plan_read(
+    alloc: Global,
+    net: &mut Net,
+    bot: u16,
+    disk: &[u8],
+    out: &mut Vec<u8>,
+) -> Result<(), CaseError> {
+    let before = version_of(net, bot);
+    let mut disks = taken(alloc, net, bot);
+    misread(&mut disks, disk)?;
+    open(alloc, net, bot, disks, out)?;
+    Ok(see(alloc, net, bot, before)?)
+}
+
+// Each disk is read once where a link is opened, so the read after that one is a restart's.
+fn misread(disks: &mut Disks<MemDisk>, disk: &[u8]) -> Result<(), CaseError>
+    requires first { IsSettled (state_of disks.old.first) }
+    requires second { IsSettled (state_of disks.old.second) }
+    ensures first { OnOk result (IsSettled (state_of disks.new.first)) }
+    ensures second { OnOk result (IsSettled (state_of disks.new.second)) }
+{
+    match disk {
+        b"1" => disks.first.plan_read(2),
+        b"2" => disks.second.plan_read(2),
+        _ => return Err(NO_STEP),
+    }
+    Ok(())
+}
+
+/// `hold B FIRST SECOND`
+pub fn hold(
+    alloc: Global,
+    net: &mut Net,
+    bot: u16,
+    rest: &[u8],
+    out: &mut Vec<u8>,
+) -> Result<(), CaseError> {
+    let disks = held(alloc, rest)?;
+    open(alloc, net, bot, disks, out)?;
+    Ok(see(alloc, net, bot, 0)?)
+}
+
+// Two disks that hold the bytes of two words.
+fn held(alloc: Global, rest: &[u8]) -> Result<Disks<MemDisk>, CaseError>
+    ensures first { IfOk result (λ disks. IsSettled (state_of disks.first)) }
+    ensures second { IfOk result (λ disks. IsSettled (state_of disks.second)) }
+{
+    let (first, second) = cut(rest);
+    let first = disk_of(alloc, first)?;
+    let second = disk_of(alloc, second)?;
+    Ok(Disks { first, second })
+}
+
+fn disk_of(alloc: Global, word: &[u8]) -> Result<MemDisk, CaseError>
+    ensures { IfOk result (λ disk. IsSettled (state_of disk)) }
+{
+    let bytes = bytes_of(alloc, word)?;
+    Ok(MemDisk::holding(alloc, bytes)?)
+}
+
+// The version that a bot shows.
+fn version_of(net: &Net, bot: u16) -> u32 {
+    match net.bots.get(usize::from(bot)) {
+        Some(Place::Linked(link)) => link.version(),
+        Some(Place::Apart(_)) | None => 0,
+    }
+}
+
+// A bot's disks as a crash leaves them; empty ones of a bot that there isn't. The bot is left with empty ones.
+fn taken(alloc: Global, net: &mut Net, bot: u16) -> Disks<MemDisk>
+    ensures first { IsSettled (state_of result.first) }
+    ensures second { IsSettled (state_of result.second) }
+{
+    let empty = Disks {
+        first: MemDisk::new(alloc),
+        second: MemDisk::new(alloc),
+    };
+    match net.bots.get_mut(usize::from(bot)) {
+        Some(place) => disks_of(mem::replace(place, Place::Apart(empty))),
+        None => empty,
+    }
+}
+
+// Opens a bot's link on these disks.
+fn open(
+    alloc: Global,
+    net: &mut Net,
+    bot: u16,
+    disks: Disks<MemDisk>,
+    out: &mut Vec<u8>,
+) -> Result<(), CaseError>
+    requires first { IsSettled (state_of disks.first) }
+    requires second { IsSettled (state_of disks.second) }
+{
+    if bot > net.leaves.count() {
+        put(out, b"world O2\n")?;
+        return Ok(());
+    }
+    let place = place_on(alloc, &net.leaves, bot, disks, out)?;
+    put_place(net, bot, place);
+    Ok(())
+}
+
+// What a bot of the net has after it was opened on these disks.
+fn place_on(
+    alloc: Global,
+    leaves: &Leaves,
+    bot: u16,
+    disks: Disks<MemDisk>,
+    out: &mut Vec<u8>,
+) -> Result<Place, NoMemory>
+    requires first { IsSettled (state_of disks.first) }
+    requires second { IsSettled (state_of disks.second) }
+    requires numbered { bot ≤ leaves.now }
+{
+    let Disks { first, second } = disks;
+    match BotLink::open(alloc, first, second, bot, leaves.count()) {
+        Ok(link) => opened(bot, link, out),
+        Err(returned) => not_opened(bot, returned, out),
+    }
+}
+
+fn put_place(net: &mut Net, bot: u16, place: Place) {
+    if let Some(slot) = net.bots.get_mut(usize::from(bot)) {
+        *slot = place;
+    }
+}
+
+fn opened(bot: u16, link: BotLink<MemDisk>, out: &mut Vec<u8>) -> Result<Place, NoMemory> {
+    put_number(out, u64::from(bot))?;
+    put_counted(out, b"Restarted", u64::from(link.version()))?;
+    put(out, b"\n")?;
+    Ok(Place::Linked(link))
+}
+
+fn not_opened(bot: u16, returned: Returned<MemDisk>, out: &mut Vec<u8>) -> Result<Place, NoMemory> {
+    match returned.error {
+        Failure::Refused(fault) => {
+            put_code(out, bot, b"refused", fault.code())?;
+            Ok(Place::Apart(returned.disks))
+        }
+        Failure::NoMemory => Err(NoMemory),
+    }
+}

@@ -1,0 +1,184 @@
+// A net of bots, and the packets that they sent.
+ghost use Rattle.std.specs.Prelude.{◌≤◌};
+ghost use Rattle.storage.specs.State.{IsSettled};
+ghost use Rattle.disks.specs.Memory.{state_of};
+ghost use Rattle.linkcalls.specs.declared.TheConstants.{MAX_LEAVES};
+
+use crate::seen::Seen;
+use crate::stop::{CaseError, NO_STEP};
+use botlink::BotLink;
+use bytejournal::{Disks, Returned};
+use bytetext::{Failure, NoMemory, TryCopy};
+use disks::MemDisk;
+use linkcalls::{MAX_LEAVES, Packet};
+use std::alloc::Global;
+use std::marker::Model;
+use storage::Disk;
+
+/// How many leaves a net has: at most as many as a hub may have.
+#[derive(Drop)]
+pub struct Leaves {
+    count: u16,
+}
+
+impl Model for Leaves {
+    ghost use Rattle.std.specs.Prelude.{ℕ, ◌≤◌};
+    ghost use Rattle.linkcalls.specs.declared.TheConstants.{MAX_LEAVES};
+
+    ghost Value = { ℕ };
+
+    ghost view = { λ l. l.count };
+
+    ghost invariant = { λ l. l.count ≤ MAX_LEAVES };
+}
+
+impl Leaves {
+    ghost use Rattle.std.specs.Prelude.{◌≡◌, ◌≤◌};
+    ghost use Rattle.linkcalls.specs.declared.TheConstants.{MAX_LEAVES};
+
+    /// So many, where a hub may have them.
+    pub fn new(count: u16) -> Result<Leaves, CaseError> {
+        if count > MAX_LEAVES {
+            return Err(NO_STEP);
+        }
+        Ok(Leaves { count })
+    }
+
+    /// How many.
+    pub fn count(&self) -> u16
+        ensures count { result ≡ self.now }
+        ensures few { result ≤ MAX_LEAVES }
+    {
+        self.count
+    }
+}
+
+/// A packet whose records have a spelling each, as those of a packet that was sent, or read from bytes.
+#[derive(Drop)]
+pub struct Good {
+    packet: Packet,
+}
+
+impl Model for Good {
+    ghost use Rattle.sharewire.specs.declared.packet.Packet.{Packet};
+    ghost use Rattle.linkcalls.specs.Shapes.{HasGoodRecords};
+
+    ghost Value = { Packet };
+
+    ghost view = { λ g. g.packet };
+
+    ghost invariant = { λ g. HasGoodRecords g.packet };
+}
+
+impl Good {
+    ghost use Rattle.std.specs.Prelude.{◌≡◌};
+    ghost use Rattle.sharewire.specs.Frames.{IsGoodPacket};
+    ghost use Rattle.linkcalls.specs.Shapes.{HasGoodRecords};
+
+    /// A copy of this packet, which was read from bytes.
+    #[tactic(auto, using(crate::proofs::Shapes::good_records))]
+    pub fn read(alloc: Global, packet: &Packet) -> Result<Good, NoMemory>
+        requires { IsGoodPacket packet.now }
+    {
+        Good::copy_of(alloc, packet)
+    }
+
+    /// A copy of this packet.
+    pub fn copy_of(alloc: Global, packet: &Packet) -> Result<Good, NoMemory>
+        requires { HasGoodRecords packet.now }
+    {
+        Ok(Good {
+            packet: packet.copy(alloc)?,
+        })
+    }
+
+    /// The packet.
+    pub fn packet(&self) -> &Packet
+        ensures { HasGoodRecords result.now }
+    {
+        &self.packet
+    }
+}
+
+/// A packet that was sent.
+#[derive(Drop)]
+pub struct Sent {
+    /// The addressee's number.
+    pub to: u16,
+    /// What was sent.
+    pub packet: Good,
+}
+
+/// A bot's link, or its disks where no link could be opened on them.
+#[derive(Drop)]
+pub enum Place {
+    /// The link.
+    Linked(BotLink<MemDisk>),
+    /// The disks.
+    Apart(Disks<MemDisk>),
+}
+
+/// A net.
+#[derive(Drop)]
+pub struct Net {
+    /// How many leaves there are.
+    pub leaves: Leaves,
+    /// The bots, by their numbers.
+    pub bots: Vec<Place>,
+    /// The packets that were ever sent, in order.
+    pub packets: Vec<Sent>,
+    /// What was seen of the bots' versions and records.
+    pub seen: Seen,
+}
+
+impl Net {
+    /// A hub and these leaves, none of which was ever used.
+    pub fn new(alloc: Global, leaves: Leaves) -> Result<Net, NoMemory> {
+        let mut bots = Vec::new(alloc);
+        let count = leaves.count();
+        for number in 0..count + 1 {
+            bots.push(new_bot(alloc, number, count)?)?;
+        }
+        Ok(Net {
+            leaves,
+            bots,
+            packets: Vec::new(alloc),
+            seen: Seen::nothing(alloc),
+        })
+    }
+}
+
+// A bot that was never used.
+fn new_bot(alloc: Global, number: u16, leaves: u16) -> Result<Place, NoMemory>
+    requires numbered { number ≤ leaves }
+    requires few { leaves ≤ MAX_LEAVES }
+{
+    let first = MemDisk::new(alloc);
+    let second = MemDisk::new(alloc);
+    match BotLink::create(alloc, first, second, number, leaves) {
+        Ok(link) => Ok(Place::Linked(link)),
+        Err(returned) => Ok(Place::Apart(kept_disks(returned)?)),
+    }
+}
+
+// The disks on which no link was made, unless memory ran out.
+fn kept_disks(returned: Returned<MemDisk>) -> Result<Disks<MemDisk>, NoMemory> {
+    match returned.error {
+        Failure::Refused(_) => Ok(returned.disks),
+        Failure::NoMemory => Err(NoMemory),
+    }
+}
+
+/// What a crash leaves of a bot's disks.
+pub fn disks_of(place: Place) -> Disks<MemDisk>
+    ensures first { IsSettled (state_of result.first) }
+    ensures second { IsSettled (state_of result.second) }
+{
+    let mut disks = match place {
+        Place::Linked(link) => link.into_disks(),
+        Place::Apart(disks) => disks,
+    };
+    disks.first.reopen();
+    disks.second.reopen();
+    disks
+}

@@ -1,0 +1,59 @@
+// What was seen of the bots' versions and records, and whether it breaks the promise of the net.
+use crate::print::put_number;
+use bytetext::NoMemory;
+use std::alloc::Global;
+
+/// The records of a version, as they are printed.
+#[derive(Drop)]
+struct Version {
+    number: u32,
+    records: Vec<u8>,
+}
+
+/// What was seen so far.
+#[derive(Drop)]
+pub struct Seen {
+    versions: Vec<Version>,
+    breaches: Vec<u8>,
+}
+
+impl Seen {
+    /// Nothing.
+    pub fn nothing(alloc: Global) -> Seen {
+        Seen {
+            versions: Vec::new(alloc),
+            breaches: Vec::new(alloc),
+        }
+    }
+
+    /// What breaks the promise: a line for each breach.
+    pub fn breaches(&self) -> &[u8] {
+        &self.breaches
+    }
+
+    /// Takes a bot's version and records in.
+    pub fn note(&mut self, bot: u16, number: u32, records: Vec<u8>) -> Result<(), NoMemory> {
+        match self
+            .versions
+            .iter()
+            .find(|version| version.number == number)
+        {
+            Some(version) => {
+                if version.records.as_slice() != records.as_slice() {
+                    self.note_breach(bot, b" differs at ", number)?;
+                }
+            }
+            None => self.versions.push(Version { number, records })?,
+        }
+        Ok(())
+    }
+
+    /// Takes in that a bot's version went back to this one.
+    pub fn note_breach(&mut self, bot: u16, what: &[u8], number: u32) -> Result<(), NoMemory> {
+        put_number(&mut self.breaches, u64::from(bot))?;
+        self.breaches.extend_from_slice(what)?;
+        put_number(&mut self.breaches, u64::from(number))?;
+        self.breaches.push(b'\n')?;
+        Ok(())
+    }
+}
