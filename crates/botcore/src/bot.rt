@@ -1,22 +1,24 @@
 // One bot.
 use crate::config::Config;
-use crate::presence::Presence;
+use crate::fault::BotError;
+use crate::link::Link;
 use bindtable::BindTable;
-use botlink::BotLink;
 use bottimers::{Clock, Timers};
+use bytetext::{Failure, NoMemory, TryCopy};
+use chanstate::ChanState;
 use outqueue::Queues;
+use std::alloc::Global;
 use std::marker::Model;
-use storage::Disk;
 use userfile::Userfile;
 
-/// A bot: its end of the sharing link over a journal on two disks, its binds, the channels that it is on, its clock, its timers, and its lines for the
+/// A bot: its end of the sharing link, its binds, the channels that it is on, its clock, its timers, and its lines for the
 /// server.
 #[derive(Drop)]
-pub struct Bot<D: Disk> {
+pub struct Bot {
     pub(crate) config: Config,
-    pub(crate) link: BotLink<D>,
+    pub(crate) link: Link,
     pub(crate) binds: BindTable,
-    pub(crate) channels: Presence,
+    pub(crate) channels: ChanState,
     pub(crate) clock: Clock,
     pub(crate) timers: Timers,
     pub(crate) queues: Queues,
@@ -24,7 +26,7 @@ pub struct Bot<D: Disk> {
     pub(crate) welcomed: bool,
 }
 
-impl<D: Disk> Model for Bot<D> {
+impl Model for Bot {
     ghost use Rattle.botcore.specs.Bots.{Bot};
 
     ghost Value = { Bot };
@@ -33,7 +35,7 @@ impl<D: Disk> Model for Bot<D> {
       config = b.config;
       link = b.link;
       binds = b.binds;
-      channels = b.channels.current;
+      channels = b.channels;
       clock = b.clock;
       timers = b.timers;
       queues = b.queues;
@@ -44,18 +46,48 @@ impl<D: Disk> Model for Bot<D> {
     ghost use Rattle.std.specs.Prelude.{◌≡◌};
     ghost use Rattle.bottimers.specs.Civil.{IsOffset};
     ghost use Rattle.outqueue.specs.Sending.{no_room};
-    ghost use Rattle.chanstate.specs.Views.{connected};
 
-    // No timer has seen a second that the clock has not, the clock has an offset of less than a day, no room is kept for
-    // lines to come, and what it goes back to when it leaves all channels is under its configuration's nick.
-    ghost invariant = { λ b. IsReached b.timers.last b.clock × IsOffset b.config.offset × (b.queues.room ≡ no_room)
-        × (b.channels.first ≡ connected b.config.nick) };
+    // No timer has seen a second that the clock has not, the clock has an offset of less than a day, and no room is kept for
+    // lines to come.
+    ghost invariant = { λ b. IsReached b.timers.last b.clock × IsOffset b.config.offset × (b.queues.room ≡ no_room) };
 }
 
-impl<D: Disk> Bot<D> {
-    ghost use Rattle.std.specs.Prelude.{◌≡◌};
-    ghost use Rattle.linknet.specs.Ends.{end_is_down};
+impl Bot {
+    ghost use Rattle.std.specs.Prelude.{◌≡◌, IfOk, OnOk, IfErr};
+    ghost use Rattle.botcore.specs.Configs.{IsGood};
     ghost use Rattle.botcore.specs.Links.{link_records, link_version};
+    ghost use Rattle.botcore.specs.Bots.{new_bot, IsWhyNot};
+
+    /// A bot at version 0, without binds, that is on no channel.
+    ///
+    /// # Errors
+    /// `BadConfig` (G1) where the configuration breaks a rule. `NoMemory` where it breaks none and room for the nick is
+    /// refused.
+    pub fn new(alloc: Global, config: Config) -> Result<Bot, BotError>
+        ensures made { IfOk result (λ bot. bot ≡ new_bot config) }
+        ensures good { OnOk result (IsGood config) }
+        ensures why { IfErr result (λ why. IsWhyNot config why) }
+    {
+        if let Some(fault) = config.refusal() {
+            return Err(Failure::Refused(fault));
+        }
+        let channels = match ChanState::new(alloc, config.nick.as_bytes()) {
+            Ok(channels) => channels,
+            Err(NoMemory) => return Err(Failure::NoMemory),
+        };
+        let link = Link::new(alloc, config.number, config.leaves);
+        let binds = BindTable::new(alloc);
+        Ok(Bot {
+            config,
+            link,
+            binds,
+            channels,
+            clock: Clock::new(),
+            timers: Timers::new(alloc),
+            queues: Queues::new(alloc),
+            welcomed: false,
+        })
+    }
 
     /// What it was told before it was made.
     pub fn config(&self) -> &Config
@@ -64,7 +96,7 @@ impl<D: Disk> Bot<D> {
         &self.config
     }
 
-    /// The version of its userfile: how many changes the hub has accepted, or the number of the last one that the leaf holds.
+    /// The version of its userfile: how many changes the hub has accepted, or the leaf has applied.
     pub fn version(&self) -> u32
         ensures { result ≡ link_version self.now.link }
     {
@@ -77,12 +109,26 @@ impl<D: Disk> Bot<D> {
     {
         self.link.userfile()
     }
+}
 
-    /// Whether a disk failed, or a restart did not end, since its journal was last opened. Until a restart its end of the link
-    /// takes nothing: no ask, no pump, no packet and no compaction. Lines, readings and binds go on.
-    pub fn is_down(&self) -> bool
-        ensures { result ≡ end_is_down self.now.link.end }
-    {
-        self.link.is_down()
+impl TryCopy for Bot {
+    fn copy(&self, alloc: Global) -> Result<Bot, NoMemory> {
+        let config = self.config.copy(alloc)?;
+        let link = self.link.copy(alloc)?;
+        let binds = self.binds.copy(alloc)?;
+        let channels = self.channels.copy(alloc)?;
+        let clock = self.clock.copy(alloc)?;
+        let timers = self.timers.copy(alloc)?;
+        let queues = self.queues.copy(alloc)?;
+        Ok(Bot {
+            config,
+            link,
+            binds,
+            channels,
+            clock,
+            timers,
+            queues,
+            welcomed: self.welcomed,
+        })
     }
 }

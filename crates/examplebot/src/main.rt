@@ -11,7 +11,6 @@ use bindtable::BindKind;
 use botcore::{Bot, Config, Event, NewBind};
 use botworld::{Outcome, Step, World};
 use bytetext::{NoMemory, Text, Texts};
-use disks::MemDisk;
 use ircline::read_line;
 use procstore::{Action, Actions, Body, Call, Code, Proc, ProcStore, Promise, Reply, Run};
 use std::alloc::Global;
@@ -114,8 +113,8 @@ fn read_lines<R: Print + AllocGlobal, B: Run>(
     Ok(())
 }
 
-// The only bot: the hub of a net without leaves, with its journal on two disks in memory.
-fn hub(alloc: Global) -> Result<Vec<Bot<MemDisk>>, anyhow::Error>
+// The only bot: the hub of a net without leaves.
+fn hub(alloc: Global) -> Result<Vec<Bot>, anyhow::Error>
     ensures { IfOk result (λ bots. AllNew bots.items) }
 {
     let config = Config {
@@ -126,10 +125,8 @@ fn hub(alloc: Global) -> Result<Vec<Bot<MemDisk>>, anyhow::Error>
         exclusive: false,
         offset: 0,
     };
-    match Bot::create(alloc, config, MemDisk::new(alloc), MemDisk::new(alloc)) {
-        Ok(hub) => Ok(vec![in alloc; hub]?),
-        Err(returned) => Err(returned.error.into()),
-    }
+    let hub = Bot::new(alloc, config)?;
+    Ok(vec![in alloc; hub]?)
 }
 
 // Two binds, three lines, and a pump, which does what a proc asked for.

@@ -1,6 +1,6 @@
 // Why the program ends early.
-use botcore::{BotError, BotFault, Refusal};
-use bytetext::{Failure, NoMemory};
+use bytejournal::{JournalError, JournalFault};
+use bytetext::NoMemory;
 use disks::{FileDiskError, FileFault};
 use std::alloc::AllocError;
 use std::io;
@@ -10,15 +10,12 @@ use thiserror::Error;
 /// Why the program ends early.
 #[derive(Clone, Copy, Debug, Error)]
 pub enum Stop {
-    /// The hub was not made, or not found in the files.
+    /// The journal refused a call.
     #[error("{0}")]
-    Bot(BotFault),
-    /// The hub refused a step.
-    #[error("{0}")]
-    Step(Refusal),
-    /// The hub has other users than this program gives it.
-    #[error("the hub in these files has other users: give other files")]
-    OtherUsers,
+    Journal(JournalFault),
+    /// What the journal holds is not the numbers from 1.
+    #[error("the journal doesn't hold the numbers from 1: give other files")]
+    OtherEntries,
     /// The command line is not understood.
     #[error("say keeper FILE FILE [COUNT]")]
     Words,
@@ -37,7 +34,7 @@ impl Stop {
     /// The status that the program ends with.
     pub fn status(self) -> u8 {
         match self {
-            Stop::Bot(_) | Stop::Step(_) | Stop::OtherUsers => 1,
+            Stop::Journal(_) | Stop::OtherEntries => 1,
             Stop::Words => 2,
             Stop::File(_) | Stop::Stream => 3,
             Stop::NoMemory => 4,
@@ -45,11 +42,11 @@ impl Stop {
     }
 }
 
-impl From<BotError> for Stop {
-    fn from(error: BotError) -> Stop {
+impl From<JournalError> for Stop {
+    fn from(error: JournalError) -> Stop {
         match error {
-            Failure::Refused(fault) => Stop::Bot(fault),
-            Failure::NoMemory => Stop::NoMemory,
+            JournalError::Refused(fault) => Stop::Journal(fault),
+            JournalError::NoMemory => Stop::NoMemory,
         }
     }
 }

@@ -6,11 +6,10 @@ use crate::seat::Seat;
 use botcore::{Bot, Event};
 use bytetext::NoMemory;
 use ircline::LineReader;
-use linkcalls::Outgoings;
 use loopback::{House, LinkHouse, Peer, Uplink, local};
 use mio::net::TcpStream;
 use procstore::{ProcStore, Promise, Run};
-use replay::SteadyDisk;
+use sharelink::Outgoings;
 use std::alloc::Global;
 use std::io;
 use std::net::{Net, SocketAddr};
@@ -30,8 +29,6 @@ pub struct Network {
 }
 
 impl Network {
-    ghost use Rattle.linkcalls.specs.Shapes.{AreGood};
-
     /// The server and the hub's listener, and no bot yet.
     ///
     /// # Errors
@@ -60,34 +57,20 @@ impl Network {
         &mut self,
         rt: &R,
         store: &ProcStore<P, B>,
-        bot: Bot<SteadyDisk>,
+        bot: Bot,
     ) -> Result<(), LiveError> {
         let irc = TcpStream::connect(rt, self.server)?;
-        let uplink = self.next_uplink(rt)?;
-        let seat = Seat::new(rt.alloc(), bot, irc, uplink);
-        self.take_seat(rt.alloc(), store, seat)
-    }
-
-    // Adds a bot, which is told that it connects.
-    fn take_seat<P: Promise, B: Run>(
-        &mut self,
-        alloc: Global,
-        store: &ProcStore<P, B>,
-        mut seat: Seat,
-    ) -> Result<(), LiveError> {
-        let _none = events::tell(alloc, &mut seat.bot, store, Event::Connect)?;
+        let uplink = if self.seats.is_empty() {
+            None
+        } else {
+            Some(self.uplink(rt)?)
+        };
+        let mut seat = Seat::new(rt.alloc(), bot, irc, uplink);
+        let _none = events::tell(rt.alloc(), &mut seat.bot, store, Event::Connect)?;
         if self.seats.push(seat).is_err() {
             return Err(LiveError::NoMemory);
         }
         Ok(())
-    }
-
-    // The next bot's connection to the hub; none where it is the hub itself.
-    fn next_uplink<R: Net + AllocGlobal>(&self, rt: &R) -> io::Result<Option<Uplink>> {
-        if self.seats.is_empty() {
-            return Ok(None);
-        }
-        Ok(Some(self.uplink(rt)?))
     }
 
     fn uplink<R: Net + AllocGlobal>(&self, rt: &R) -> io::Result<Uplink> {
@@ -200,9 +183,12 @@ impl Network {
     ///
     /// # Errors
     /// `NoMemory` where a growth was refused.
-    pub fn pass(&mut self, alloc: Global, place: usize, packets: &Outgoings) -> Result<(), NoMemory>
-        requires good { AreGood packets.now }
-    {
+    pub fn pass(
+        &mut self,
+        alloc: Global,
+        place: usize,
+        packets: &Outgoings,
+    ) -> Result<(), NoMemory> {
         for outgoing in packets.as_slice() {
             if place == 0 {
                 self.link.tell(alloc, outgoing.to, &outgoing.packet)?;

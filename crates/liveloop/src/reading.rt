@@ -1,6 +1,4 @@
 // A whole live script.
-ghost use Rattle.liveloop.specs.Grammar.{IsGoodCommand, IsGoodSaying};
-
 use crate::MAX_LEAVES;
 use crate::command::{Command, Commands};
 use crate::saying::{Saying, saying_of};
@@ -25,16 +23,11 @@ impl Model for LiveScript {
 
     ghost view = { λ s. record { leaves = s.leaves; commands = s.commands } };
 
-    ghost use Rattle.std.specs.List.{AllByRecursion};
-    ghost use Rattle.liveloop.specs.Grammar.{IsGoodCommand};
-
-    ghost invariant = { λ s. (s.leaves ≤ MAX_LEAVES) × AllByRecursion IsGoodCommand s.commands };
+    ghost invariant = { λ s. s.leaves ≤ MAX_LEAVES };
 }
 
 impl LiveScript {
     ghost use Rattle.std.specs.Prelude.{◌≡◌, ◌≤◌};
-    ghost use Rattle.std.specs.List.{AllByRecursion};
-    ghost use Rattle.liveloop.specs.Grammar.{IsGoodCommand};
     ghost use Rattle.liveloop.specs.declared.TheConstants.{MAX_LEAVES};
 
     /// The script that these bytes spell.
@@ -60,9 +53,7 @@ impl LiveScript {
 
     /// The commands, in order. Takes no memory.
     pub fn into_commands(self) -> Commands
-        ensures value { result ≡ self.commands }
-        // None of them tells a bot a packet.
-        ensures good { AllByRecursion IsGoodCommand result }
+        ensures { result ≡ self.commands }
     {
         self.commands
     }
@@ -88,9 +79,7 @@ fn script_of(alloc: Global, lines: &[&[u8]]) -> Result<LiveScript, ScriptError> 
 }
 
 // Adds what the next line says. False where it breaks a rule after the lines so far.
-fn go_on(alloc: Global, script: &mut Option<LiveScript>, saying: Saying) -> Result<bool, NoMemory>
-    requires good { IsGoodSaying saying }
-{
+fn go_on(alloc: Global, script: &mut Option<LiveScript>, saying: Saying) -> Result<bool, NoMemory> {
     match saying {
         Saying::Nothing => Ok(true),
         Saying::Leaves(leaves) => Ok(set_leaves(alloc, script, leaves)),
@@ -110,9 +99,7 @@ fn set_leaves(alloc: Global, script: &mut Option<LiveScript>, leaves: u16) -> bo
 }
 
 // Adds a command, after the number of leaves.
-fn add_command(script: &mut Option<LiveScript>, command: Command) -> Result<bool, NoMemory>
-    requires good { IsGoodCommand command }
-{
+fn add_command(script: &mut Option<LiveScript>, command: Command) -> Result<bool, NoMemory> {
     match script {
         Some(begun) => {
             begun.commands.push(command)?;

@@ -1,12 +1,10 @@
 // From a live script to what it prints.
 ghost use Rattle.std.specs.Prelude.{◌≡◌, ◌++◌, IfOk, OnOk, ◌≤◌};
-ghost use Rattle.std.specs.List.{AllByRecursion};
 ghost use Rattle.liveloop.specs.declared.TheConstants.{MAX_LEAVES as most_leaves};
-ghost use Rattle.liveloop.specs.Grammar.{IsGoodCommand};
 ghost use Rattle.liveloop.specs.Heard.{heard_line, heard_text};
 
 use crate::MAX_TURNS;
-use crate::command::{Command, Commands, Speech};
+use crate::command::{Command, Speech};
 use crate::error::LiveError;
 use crate::network::Network;
 use crate::reading::LiveScript;
@@ -37,21 +35,8 @@ pub fn live<R: Net + AllocGlobal, P: Promise, B: Run, I: Read, W: Write>(
     let bytes = script_bytes(rt.alloc(), reader)?;
     let script = LiveScript::read(rt.alloc(), bytes.as_slice())?;
     let mut net = start(rt, &store, script.leaves())?;
-    do_all(rt, &mut net, &store, script.into_commands(), writer)
-}
-
-// Does commands, and writes what each prints.
-fn do_all<R: Net + AllocGlobal, P: Promise, B: Run, W: Write>(
-    rt: &R,
-    net: &mut Network,
-    store: &ProcStore<P, B>,
-    commands: Commands,
-    writer: &mut W,
-) -> Result<(), LiveError>
-    requires good { AllByRecursion IsGoodCommand commands }
-{
-    for command in commands.into_vec() {
-        let text = done(rt, net, store, command)?;
+    for command in script.into_commands().into_vec() {
+        let text = done(rt, &mut net, &store, command)?;
         write_text(writer, text.as_slice())?;
     }
     Ok(())
@@ -78,9 +63,7 @@ fn done<R: Net + AllocGlobal, P: Promise, B: Run>(
     net: &mut Network,
     store: &ProcStore<P, B>,
     command: Command,
-) -> Result<Vec<u8>, LiveError>
-    requires good { IsGoodCommand command }
-{
+) -> Result<Vec<u8>, LiveError> {
     let alloc = rt.alloc();
     match command {
         Command::Tell { bot, event } => tell(alloc, net, store, bot as usize, event)?,

@@ -4,14 +4,13 @@ use bytetext::NoMemory;
 use ircline::LineReader;
 use loopback::{Peer, Uplink};
 use mio::net::TcpStream;
-use replay::SteadyDisk;
 use sharewire::Packet;
 use std::alloc::Global;
 
 /// A bot, its connection to the server, and a leaf's to the hub.
 #[derive(Drop)]
 pub struct Seat {
-    pub bot: Bot<SteadyDisk>,
+    pub bot: Bot,
     /// What its connection to the server has begun to say.
     pub lines: LineReader,
     pub irc: Peer,
@@ -20,17 +19,8 @@ pub struct Seat {
 }
 
 impl Seat {
-    ghost use Rattle.std.specs.Prelude.{IfOk};
-    ghost use Rattle.std.specs.List.{AllByRecursion};
-    ghost use Rattle.linkcalls.specs.Shapes.{HasGoodRecords};
-
     /// A bot whose connections are being made. Takes no memory.
-    pub fn new(
-        alloc: Global,
-        bot: Bot<SteadyDisk>,
-        irc: TcpStream,
-        uplink: Option<Uplink>,
-    ) -> Seat {
+    pub fn new(alloc: Global, bot: Bot, irc: TcpStream, uplink: Option<Uplink>) -> Seat {
         Seat {
             bot,
             lines: LineReader::new(alloc),
@@ -63,9 +53,7 @@ impl Seat {
     ///
     /// # Errors
     /// `NoMemory` where a growth was refused.
-    pub fn take_packets(&mut self, alloc: Global) -> Result<Vec<Packet>, NoMemory>
-        ensures good { IfOk result (λ packets. AllByRecursion HasGoodRecords packets.items) }
-    {
+    pub fn take_packets(&mut self, alloc: Global) -> Result<Vec<Packet>, NoMemory> {
         match &mut self.uplink {
             Some(uplink) => uplink.wire.take_packets(alloc),
             None => Ok(Vec::new(alloc)),
@@ -76,9 +64,7 @@ impl Seat {
     ///
     /// # Errors
     /// `NoMemory` where a growth was refused.
-    pub fn tell_hub(&mut self, alloc: Global, packet: &Packet) -> Result<(), NoMemory>
-        requires good { HasGoodRecords packet.now }
-    {
+    pub fn tell_hub(&mut self, alloc: Global, packet: &Packet) -> Result<(), NoMemory> {
         match &mut self.uplink {
             Some(uplink) => uplink.tell(alloc, packet),
             None => Ok(()),

@@ -1,16 +1,11 @@
 // One turn of all bots.
-ghost use Rattle.std.specs.Prelude.{IfOk};
-ghost use Rattle.std.specs.List.{AllByRecursion};
-ghost use Rattle.linkcalls.specs.Shapes.{AreGood, HasGoodRecords};
-ghost use Rattle.botcore.specs.Steps.{IsGoodEvent};
-
 use crate::error::LiveError;
 use crate::events;
 use crate::network::Network;
 use botcore::Event;
 use bytetext::{NoMemory, Seq};
-use linkcalls::Outgoings;
 use procstore::{ProcStore, Promise, Run};
+use sharelink::Outgoings;
 use sharewire::Packet;
 use std::alloc::Global;
 use std::net::Net;
@@ -71,9 +66,7 @@ fn hear<P: Promise, B: Run>(
     net: &mut Network,
     store: &ProcStore<P, B>,
     place: usize,
-) -> Result<Outgoings, NoMemory>
-    ensures sends { IfOk result AreGood }
-{
+) -> Result<Outgoings, NoMemory> {
     match net.seats.get_mut(place) {
         Some(seat) => events::hear(
             alloc,
@@ -123,9 +116,7 @@ fn receive_all<P: Promise, B: Run>(
     store: &ProcStore<P, B>,
     place: usize,
     packets: Vec<Packet>,
-) -> Result<(), NoMemory>
-    requires good { AllByRecursion HasGoodRecords packets.items }
-{
+) -> Result<(), NoMemory> {
     for packet in packets {
         tell(alloc, net, store, place, Event::Receive(packet))?;
     }
@@ -154,9 +145,7 @@ pub fn tell<P: Promise, B: Run>(
     store: &ProcStore<P, B>,
     place: usize,
     event: Event,
-) -> Result<(), NoMemory>
-    requires good { IsGoodEvent event }
-{
+) -> Result<(), NoMemory> {
     let packets = match net.seats.get_mut(place) {
         Some(seat) => events::tell(alloc, &mut seat.bot, store, event)?,
         None => return Ok(()),

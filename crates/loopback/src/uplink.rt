@@ -13,8 +13,6 @@ pub struct Uplink {
 }
 
 impl Uplink {
-    ghost use Rattle.linkcalls.specs.Shapes.{HasGoodRecords};
-
     /// A connection that is being made. Takes no memory.
     pub fn new(alloc: Global, stream: TcpStream) -> Uplink {
         Uplink {
@@ -27,9 +25,7 @@ impl Uplink {
     ///
     /// # Errors
     /// `NoMemory` where a growth was refused.
-    pub fn tell(&mut self, alloc: Global, packet: &Packet) -> Result<(), NoMemory>
-        requires good { HasGoodRecords packet.now }
-    {
+    pub fn tell(&mut self, alloc: Global, packet: &Packet) -> Result<(), NoMemory> {
         if is_hello(packet) {
             self.greeted = true;
         }

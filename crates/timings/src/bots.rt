@@ -1,41 +1,20 @@
 // The bots that are timed.
-ghost use Rattle.botcore.specs.Steps.{IsGoodEvent};
 
 use crate::quiet::Store;
 use crate::stop::Stop;
 use bindtable::BindKind;
-use botcore::{Bot, BotError, Config, End, Event, NewBind};
+use botcore::{Bot, Config, End, Event, NewBind};
 use bytetext::{NoMemory, Text, Texts};
-use disks::MemDisk;
 use std::alloc::Global;
 use userfile::Change;
 
-/// A hub without leaves over two disks in memory, its nick `Egg`, that has so many binds of what is said on channels and so
-/// many bans. The first bind is of all that is said on `#egg`, the others of a command each; the bans are of
-/// `host0.example.net` and on.
-pub fn bot_of(alloc: Global, store: &Store, binds: u32, bans: u32) -> Result<Bot<MemDisk>, Stop> {
-    let mut bot = new_bot(alloc, config(alloc)?)?;
-    fill(alloc, &mut bot, store, binds, bans)?;
+/// A hub without leaves, its nick `Egg`, that has so many binds of what is said on channels and so many bans. The first bind
+/// is of all that is said on `#egg`, the others of a command each; the bans are of `host0.example.net` and on.
+pub fn bot_of(alloc: Global, store: &Store, binds: u32, bans: u32) -> Result<Bot, Stop> {
+    let mut bot = Bot::new(alloc, config(alloc)?)?;
+    add_bans(alloc, &mut bot, store, bans)?;
+    add_binds(alloc, &mut bot, store, binds)?;
     Ok(bot)
-}
-
-// A bot of this configuration, over two disks in memory.
-fn new_bot(alloc: Global, config: Config) -> Result<Bot<MemDisk>, BotError> {
-    match Bot::create(alloc, config, MemDisk::new(alloc), MemDisk::new(alloc)) {
-        Ok(bot) => Ok(bot),
-        Err(returned) => Err(returned.error),
-    }
-}
-
-fn fill(
-    alloc: Global,
-    bot: &mut Bot<MemDisk>,
-    store: &Store,
-    binds: u32,
-    bans: u32,
-) -> Result<(), Stop> {
-    add_bans(alloc, bot, store, bans)?;
-    add_binds(alloc, bot, store, binds)
 }
 
 fn config(alloc: Global) -> Result<Config, NoMemory> {
@@ -49,7 +28,7 @@ fn config(alloc: Global) -> Result<Config, NoMemory> {
     })
 }
 
-fn add_bans(alloc: Global, bot: &mut Bot<MemDisk>, store: &Store, count: u32) -> Result<(), Stop> {
+fn add_bans(alloc: Global, bot: &mut Bot, store: &Store, count: u32) -> Result<(), Stop> {
     for number in 0..count {
         tell(alloc, bot, store, Event::Ask(ban(alloc, number)?))?;
         tell(alloc, bot, store, Event::Pump)?;
@@ -57,7 +36,7 @@ fn add_bans(alloc: Global, bot: &mut Bot<MemDisk>, store: &Store, count: u32) ->
     Ok(())
 }
 
-fn add_binds(alloc: Global, bot: &mut Bot<MemDisk>, store: &Store, count: u32) -> Result<(), Stop> {
+fn add_binds(alloc: Global, bot: &mut Bot, store: &Store, count: u32) -> Result<(), Stop> {
     for number in 0..count {
         tell(alloc, bot, store, Event::Bind(bind(alloc, number)?))?;
     }
@@ -95,9 +74,7 @@ fn mask(alloc: Global, number: u32) -> Result<Text, NoMemory> {
 }
 
 // Tells the bot what can be done.
-fn tell(alloc: Global, bot: &mut Bot<MemDisk>, store: &Store, event: Event) -> Result<(), Stop>
-    requires good { IsGoodEvent event }
-{
+fn tell(alloc: Global, bot: &mut Bot, store: &Store, event: Event) -> Result<(), Stop> {
     match bot.step(alloc, store, event).end {
         End::Done => Ok(()),
         End::Refused(_) => Err(Stop::Refused),

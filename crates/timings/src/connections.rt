@@ -6,7 +6,6 @@ use crate::quiet::Store;
 use crate::stop::Stop;
 use botcore::Bot;
 use botdrive::{DriveEnd, drive};
-use disks::MemDisk;
 use ircline::LineReader;
 use std::alloc::Global;
 
@@ -50,12 +49,7 @@ impl Connection {
     }
 
     /// Lets a bot come to the channel `#egg`, where it is op.
-    pub fn open(
-        &mut self,
-        alloc: Global,
-        bot: &mut Bot<MemDisk>,
-        store: &Store,
-    ) -> Result<(), Stop> {
+    pub fn open(&mut self, alloc: Global, bot: &mut Bot, store: &Store) -> Result<(), Stop> {
         self.drive(alloc, bot, store, WELCOME, ARRIVAL)
     }
 
@@ -63,7 +57,7 @@ impl Connection {
     pub fn drive_over(
         &mut self,
         alloc: Global,
-        bot: &mut Bot<MemDisk>,
+        bot: &mut Bot,
         store: &Store,
         stream: &[u8],
         at_once: usize,
@@ -78,7 +72,7 @@ impl Connection {
     fn drive(
         &mut self,
         alloc: Global,
-        bot: &mut Bot<MemDisk>,
+        bot: &mut Bot,
         store: &Store,
         piece: &[u8],
         now: u64,

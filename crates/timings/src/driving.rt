@@ -8,7 +8,6 @@ use crate::sizes::Sizes;
 use crate::stop::Stop;
 use botcore::Bot;
 use bytetext::NoMemory;
-use disks::MemDisk;
 use std::alloc::Global;
 use std::cell::Cell;
 use std::rc::Rc;
@@ -115,27 +114,18 @@ fn measure_case<R: AllocGlobal + Clock + Eprint>(
 ) -> Result<(), Stop> {
     let calls = Rc::new(rt.alloc(), Cell::new(0u64))?;
     let store = store_of(rt.alloc(), Rc::clone(&calls)?)?;
-    measure_times(rt, case, &store, times)?;
+    let stream = stream(rt.alloc(), case.lines, times)?;
+    let mut bot = bot_of(rt.alloc(), &store, case.binds, case.bans)?;
+    measure_bot(rt, case, &mut bot, &store, stream.as_slice())?;
     report::outcome(rt, "calls", calls.get());
     Ok(())
-}
-
-fn measure_times<R: AllocGlobal + Clock + Eprint>(
-    rt: &R,
-    case: &Case,
-    store: &Store,
-    times: u32,
-) -> Result<(), Stop> {
-    let stream = stream(rt.alloc(), case.lines, times)?;
-    let mut bot = bot_of(rt.alloc(), store, case.binds, case.bans)?;
-    measure_bot(rt, case, &mut bot, store, stream.as_slice())
 }
 
 // Times a bot over a stream.
 fn measure_bot<R: AllocGlobal + Clock + Eprint>(
     rt: &R,
     case: &Case,
-    bot: &mut Bot<MemDisk>,
+    bot: &mut Bot,
     store: &Store,
     stream: &[u8],
 ) -> Result<(), Stop> {

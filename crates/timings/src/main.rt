@@ -126,24 +126,12 @@ where
 
 // Times everything.
 fn all<R: AllocGlobal + Clock + Eprint>(rt: &R, sizes: &Sizes) -> Result<(), Stop> {
-    people(rt, sizes)?;
-    lines_and_clocks(rt, sizes)?;
-    bytes(rt, sizes)
-}
-
-fn people<R: AllocGlobal + Clock + Eprint>(rt: &R, sizes: &Sizes) -> Result<(), Stop> {
     persons::measure(rt, sizes)?;
     masks::measure(rt, sizes)?;
-    binds::measure(rt, sizes)
-}
-
-fn lines_and_clocks<R: AllocGlobal + Clock + Eprint>(rt: &R, sizes: &Sizes) -> Result<(), Stop> {
+    binds::measure(rt, sizes)?;
     channels::measure(rt, sizes)?;
     timers::measure(rt)?;
-    lines::measure(rt, sizes)
-}
-
-fn bytes<R: AllocGlobal + Clock + Eprint>(rt: &R, sizes: &Sizes) -> Result<(), Stop> {
+    lines::measure(rt, sizes)?;
     driving::measure(rt, sizes)?;
     frames::measure(rt, sizes)?;
     journals::measure(rt, sizes)

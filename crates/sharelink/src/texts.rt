@@ -1,0 +1,47 @@
+// Texts from one bot to another.
+ghost use Rattle.std.specs.Prelude.{◌≡◌, IfOk};
+ghost use Rattle.sharelink.specs.Texts.{text_fault, text_by};
+
+use crate::MAX_TEXTS;
+use crate::answer::Outgoing;
+use crate::error::LinkFault;
+use bytetext::{NoMemory, Text};
+use sharewire::{Packet, is_bot_text};
+use std::alloc::Global;
+
+/// What stands against a text of this bot to another, where its step has sent so many. Takes no memory.
+pub(crate) fn text_fault(
+    leaves: u16,
+    number: u16,
+    to: u16,
+    text: &[u8],
+    sent: usize,
+) -> Option<LinkFault>
+    ensures { result ≡ text_fault leaves number to text.now sent }
+{
+    if to > leaves || to == number || !is_bot_text(text) {
+        return Some(LinkFault::BadBotText);
+    }
+    if sent >= MAX_TEXTS {
+        return Some(LinkFault::TextsFull);
+    }
+    None
+}
+
+/// A text from one bot to another, on its way to the bot that takes it next.
+///
+/// # Errors
+/// `NoMemory` where room for the text is refused.
+pub(crate) fn text_by(
+    alloc: Global,
+    next: u16,
+    from: u16,
+    to: u16,
+    text: &[u8],
+) -> Result<Outgoing, NoMemory>
+    ensures { IfOk result (λ outgoing. outgoing ≡ text_by next from to text.now) }
+{
+    let text = Text::from_slice(alloc, text)?;
+    let packet = Packet::BotText { from, to, text };
+    Ok(Outgoing { to: next, packet })
+}
