@@ -1,63 +1,149 @@
 -- What actions leave of the link and the rest.
-use Rattle.std.proofs.Common.{◌≡◌, ◌∙◌, ℕ, ◌+◌, ◌<◌, List, [], ◌∷◌, ◌++◌, length, drop, get_or, refl, ap, sym, subst, append_assoc, Option, Some, None, Result, Ok, Err}
+use Rattle.std.proofs.Common.{◌≡◌, ◌∙◌, ℕ, ◌+◌, ◌<◌, nat_lt, Bool, true, false, if◌then◌else◌, List, [], ◌∷◌, ◌++◌, length, drop, get_or, refl, ap, sym, subst, append_assoc, Option, Some, None, Result, Ok, Err}
 use Rattle.std.proofs.lemmas.List.{append-nil, drop_more}
+use Rattle.std.proofs.Math.Seq.{take-append_seam}
+use Rattle.userfile.specs.Apply.{bad_shape}
 use Rattle.userfile.specs.declared.change.Change.{Change}
+use Rattle.userfile.specs.declared.error.ChangeFault.{ChangeFault}
 use Rattle.procstore.specs.declared.action.Action.{Action}
 use Rattle.bytetext.specs.declared.failure.Failure.{Failure}
 use Rattle.bytetext.specs.declared.failure.Failure.TheVariants.{Refused, NoMemory}
-use Rattle.sharelink.specs.declared.answer.Answer.{Answer}
-use Rattle.sharelink.specs.declared.error.LinkFault.{LinkFault}
-use Rattle.sharelink.specs.Meets.{Meets}
-use Rattle.sharelink.proofs.Asks.{hub_asked-with_asks, with_oldest-with_asks}
+use Rattle.protocol.specs.Notes.{Note as Meaning, LinkFault as Meant}
+use Rattle.protocol.specs.Notes.Note.{Queued}
+use Rattle.protocol.specs.Notes.LinkFault.{Down, BadChange, AsksFull, Diverged, NumbersSpent, JournalFault, BadBotText, DiskFault}
+use Rattle.protocol.specs.Bots.{Works, noted, refused}
+use Rattle.protocol.specs.HubRules.{Hub, ask_taken}
+use Rattle.protocol.specs.LeafRules.{Leaf}
+use Rattle.protocol.specs.Network.Event.{Ask}
+use Rattle.linkcalls.specs.declared.answer.Answer.{Answer}
+use Rattle.linkcalls.specs.declared.error.LinkFault.{LinkFault}
+use Rattle.linkcalls.specs.declared.error.LinkFault.TheVariants as fault
+use Rattle.linkcalls.specs.Calls.{note_of, IsFault}
+use Rattle.linknet.specs.Ends.{End, AtHub, AtLeaf, end_asks, with_asks, with_oldest, end_did}
+use Rattle.botlink.specs.Links.{BotEnd, Asks, asked, keeps_asks}
 use Rattle.botcore.specs.declared.fault.ActionFault.{ActionFault}
+use Rattle.botcore.specs.declared.fault.ActionFault.TheVariants.{Link as link_fault}
 use Rattle.botcore.specs.declared.fault.Fault.{Fault}
-use Rattle.botcore.specs.declared.link.Link.{Link}
-use Rattle.botcore.specs.declared.link.Link.TheVariants.{Hub as hub_end, Leaf as leaf_end}
 use Rattle.botcalls.specs.declared.made_call.MadeCall.{MadeCall}
-use Rattle.botcore.specs.Acting.{Acting, acted, acted_all, with_fault, action_faults, actions_of}
-use Rattle.botcore.specs.Links.{link_asked, link_with_asks, link_with_oldest, ask_count}
+use Rattle.botcore.specs.Acting.{Acting, acted, acted_all, asked_if, asked_to, done_to, refused_to, with_fault, action_faults, actions_of}
+use Rattle.botcore.specs.Links.{link_with_asks, ask_count, fault_told}
 use Rattle.botcore.specs.Progress.{Progress, Leaves, LeavesAll, HasMoreAsks, acting_at}
 use Rattle.botcore.specs.Putting.{HasMoreLines}
 use Rattle.botcore.proofs.PutLemmas.{HasMoreLines_same, HasMoreLines-then}
 
 -- asks -------------------------------------------------------------------------------------------------------------------
 
+-- the asks that wait are those that wait
+with_asks-same : (end : End) → with_asks end (end_asks end) ≡ end
+with_asks-same (AtHub hub) = refl
+with_asks-same (AtLeaf leaf) = refl
+
+with_asks-append : (end : End) (xs ys : List Change)
+    → with_asks (with_asks end (end_asks end ++ xs)) (end_asks (with_asks end (end_asks end ++ xs)) ++ ys)
+    ≡ with_asks end (end_asks end ++ (xs ++ ys))
+with_asks-append (AtHub hub) xs ys = ap (λ (asks : List Change). AtHub (record hub { loose = asks })) (append_assoc hub.loose xs ys)
+with_asks-append (AtLeaf leaf) xs ys =
+    ap (λ (asks : List Change). AtLeaf (record leaf { loose = record leaf.loose { waiting = asks } })) (append_assoc leaf.loose.waiting xs ys)
+
+with_oldest-with_asks : (end : End) (more : List Change)
+    → with_oldest (with_asks end (end_asks end ++ more)) (length (end_asks end)) ≡ end
+with_oldest-with_asks (AtHub hub) more = ap (λ (asks : List Change). AtHub (record hub { loose = asks })) (take-append_seam hub.loose more)
+with_oldest-with_asks (AtLeaf leaf) more =
+    ap (λ (asks : List Change). AtLeaf (record leaf { loose = record leaf.loose { waiting = asks } })) (take-append_seam leaf.loose.waiting more)
+
 -- no ask more
-pub HasMoreAsks_refl : (link : Link) → HasMoreAsks link link
-HasMoreAsks_refl (hub_end hub) = ([], ap (λ (waiting : List Change). hub_end (record hub { waiting = waiting })) (sym (append-nil hub.waiting)))
-HasMoreAsks_refl (leaf_end leaf) = ([], refl)
+pub HasMoreAsks_refl : (link : BotEnd) → HasMoreAsks link link
+HasMoreAsks_refl link = (
+  [],
+  sym (ap (λ (end : End). record link { end = end })
+      (ap (with_asks link.end) (append-nil (end_asks link.end)) ∙ with_asks-same link.end)),
+)
 
 -- asks after asks
-link_with_asks-append : (link : Link) (xs ys : List Change) → link_with_asks (link_with_asks link xs) ys ≡ link_with_asks link (xs ++ ys)
-link_with_asks-append (hub_end hub) xs ys =
-    ap (λ (waiting : List Change). hub_end (record hub { waiting = waiting })) (append_assoc hub.waiting xs ys)
-link_with_asks-append (leaf_end leaf) xs ys = refl
+link_with_asks-append : (link : BotEnd) (xs ys : List Change) → link_with_asks (link_with_asks link xs) ys ≡ link_with_asks link (xs ++ ys)
+link_with_asks-append link xs ys = ap (λ (end : End). record link { end = end }) (with_asks-append link.end xs ys)
 
-pub HasMoreAsks-then : (a b c : Link) → HasMoreAsks a b → HasMoreAsks b c → HasMoreAsks a c
+pub HasMoreAsks-then : (a b c : BotEnd) → HasMoreAsks a b → HasMoreAsks b c → HasMoreAsks a c
 HasMoreAsks-then a b c one other =
-    (one.0 ++ other.0, other.1 ∙ ap (λ (l : Link). link_with_asks l other.0) one.1 ∙ link_with_asks-append a one.0 other.0)
+    (one.0 ++ other.0, other.1 ∙ ap (λ (l : BotEnd). link_with_asks l other.0) one.1 ∙ link_with_asks-append a one.0 other.0)
+
+-- an ask that is taken leaves one ask more
+taken_waits : {S : Type 0} (old with_it : S) (waiting : ℕ) (fault : Option ChangeFault) (note : Meaning)
+    → (ask_taken old with_it waiting fault).told ≡ Ok note → (ask_taken old with_it waiting fault).after ≡ with_it
+taken_waits old with_it waiting (Some fault) note is = cc
+taken_waits old with_it waiting None note is = by (nat_lt waiting 64) is
+  where
+    by : (room : Bool) → (if room then noted Queued with_it else refused AsksFull old).told ≡ Ok note
+        → (if room then noted Queued with_it else refused AsksFull old).after ≡ with_it
+    by true is = refl
+    by false is = cc
+
+up_waits : {S : Type 0} (down : Bool) (old with_it : S) (waiting : ℕ) (fault : Option ChangeFault) (note : Meaning)
+    → (if down then refused Down old else ask_taken old with_it waiting fault).told ≡ Ok note
+    → (if down then refused Down old else ask_taken old with_it waiting fault).after ≡ with_it
+up_waits true old with_it waiting fault note is = cc
+up_waits false old with_it waiting fault note is = taken_waits old with_it waiting fault note is
+
+asked_waits : (leaves number : ℕ) (end : End) (change : Change) (note : Meaning)
+    → (end_did leaves number Works end (Ask change)).told ≡ Ok note
+    → (end_did leaves number Works end (Ask change)).after ≡ with_asks end (end_asks end ++ change ∷ [])
+asked_waits leaves number (AtHub hub) change note is =
+    ap (λ (h : Hub). AtHub h)
+    (up_waits hub.down hub (record hub { loose = hub.loose ++ change ∷ [] }) (length hub.loose) (bad_shape change) note is)
+asked_waits leaves number (AtLeaf leaf) change note is =
+    ap (λ (l : Leaf). AtLeaf l)
+    (up_waits leaf.down leaf (record leaf { loose = record leaf.loose { waiting = leaf.loose.waiting ++ change ∷ [] } })
+    (length leaf.loose.waiting) (bad_shape change) note is)
 
 -- an ask leaves the link with one ask more, or as it was
-pub HasMoreAsks_asked : (link : Link) (change : Change) → HasMoreAsks link (link_asked link change).after
-HasMoreAsks_asked (hub_end hub) change = let one = hub_asked-with_asks hub change in (one.0, ap (λ h. hub_end h) one.1)
-HasMoreAsks_asked (leaf_end leaf) change = ([], refl)
-
--- so does the link's call, whatever it answers
-pub HasMoreAsks-row : (old : Link) (change : Change) (result : Result Answer (Failure LinkFault)) (new : Link)
-    → Meets old (link_asked old change) result new → HasMoreAsks old new
-HasMoreAsks-row old change (Ok answer) new m = subst (HasMoreAsks old) (sym m.1) (HasMoreAsks_asked old change)
-HasMoreAsks-row old change (Err (Refused fault)) new m = subst (HasMoreAsks old) (sym m.1) (HasMoreAsks_asked old change)
-HasMoreAsks-row old change (Err NoMemory) new m = subst (HasMoreAsks old) (sym m.1) (HasMoreAsks_refl old)
+pub HasMoreAsks-asked : (old : BotEnd) (change : Change) (result : Result Answer (Failure LinkFault)) (new : BotEnd)
+    → Asks old change result new → HasMoreAsks old new
+HasMoreAsks-asked old change (Ok answer) new is = (
+  change ∷ [],
+  is.1 ∙ ap (λ (end : End). record old { end = end })
+      (is.0.after ∙ asked_waits old.leaves old.number old.end change (note_of answer.note) is.0.told),
+)
+HasMoreAsks-asked old change (Err (Refused fault)) new is = subst (HasMoreAsks old) (sym is.1) (HasMoreAsks_refl old)
+HasMoreAsks-asked old change (Err NoMemory) new is = subst (HasMoreAsks old) (sym is.1) (HasMoreAsks_refl old)
 
 -- the asks that waited before are the oldest
-link_with_oldest-with_asks : (link : Link) (more : List Change) → link_with_oldest (link_with_asks link more) (ask_count link) ≡ link
-link_with_oldest-with_asks (hub_end hub) more = ap (λ h. hub_end h) (with_oldest-with_asks hub more)
-link_with_oldest-with_asks (leaf_end leaf) more = refl
+keeps_asks-with_asks : (link : BotEnd) (more : List Change) → keeps_asks (link_with_asks link more) (ask_count link) ≡ link
+keeps_asks-with_asks link more = ap (λ (end : End). record link { end = end }) (with_oldest-with_asks link.end more)
 
 -- so those that came since can be taken back
-pub asks_taken_back : (old new kept : Link) (count : ℕ) → HasMoreAsks old new → count ≡ ask_count old → kept ≡ link_with_oldest new count → kept ≡ old
+pub asks_taken_back : (old new kept : BotEnd) (count : ℕ) → HasMoreAsks old new → count ≡ ask_count old → kept ≡ keeps_asks new count → kept ≡ old
 asks_taken_back old new kept count more counted back =
-    back ∙ ap (link_with_oldest new) counted ∙ ap (λ (l : Link). link_with_oldest l (ask_count old)) more.1 ∙ link_with_oldest-with_asks old more.0
+    back ∙ ap (keeps_asks new) counted ∙ ap (λ (l : BotEnd). keeps_asks l (ask_count old)) more.1 ∙ keeps_asks-with_asks old more.0
+
+-- an ask, as an action ----------------------------------------------------------------------------------------------------
+
+-- one that is taken is done
+pub asked_done : (old : Acting) (change : Change) (answer : Answer) (new : BotEnd)
+    → Asks old.link change (Ok answer) new → asked_to old (asked old.link change) ≡ done_to (record old { link = new })
+asked_done old change answer new is =
+    ap (λ (said : Result Meaning Meant). asked_if said old (asked old.link change).after) is.0.told
+    ∙ ap (λ (link : BotEnd). done_to (record old { link = link }))
+    (sym (is.1 ∙ ap (λ (end : End). record old.link { end = end }) is.0.after))
+
+-- a fault is told as the link tells it
+pub fault_is : (fault : LinkFault) (said : Result Meaning Meant) → IsFault fault said → (why : Meant) × (said ≡ Err why) × (fault_told why ≡ fault)
+fault_is fault.Down said is = (Down, is, refl)
+fault_is (fault.BadChange of_change) said is = (BadChange of_change, is, refl)
+fault_is fault.AsksFull said is = (AsksFull, is, refl)
+fault_is fault.Diverged said is = (Diverged, is, refl)
+fault_is fault.NumbersSpent said is = (NumbersSpent, is, refl)
+fault_is fault.JournalFault said is = (JournalFault, is, refl)
+fault_is fault.BadBotText said is = (BadBotText, is, refl)
+fault_is fault.TextsFull said is = absurd is
+fault_is fault.DiskFault said is = (DiskFault, is, refl)
+
+-- one that is refused changes nothing, and its fault is told
+pub asked_refused : (old : Acting) (change : Change) (why : LinkFault) (new : BotEnd)
+    → Asks old.link change (Err (Refused why)) new → asked_to old (asked old.link change) ≡ refused_to old (link_fault why)
+asked_refused old change why new is =
+    let meant = fault_is why (asked old.link change).told is.0 in
+    ap (λ (said : Result Meaning Meant). asked_if said old (asked old.link change).after) meant.1
+    ∙ ap (λ (f : LinkFault). refused_to old (link_fault f)) meant.2
 
 -- actions after actions ----------------------------------------------------------------------------------------------------
 
@@ -76,17 +162,17 @@ action_faults-append old (x ∷ xs) ys =
     ∙ with_fault-append (acted old x).fault (action_faults (acted old x).after xs) (action_faults (acted_all (acted old x).after xs) ys)
 
 -- some of all actions were done, from a first moment on, and these are left
-pub record IsActing (before : Link) (old : Progress) (all : List Action) (link : Link) (now : Progress) (left : List Action) : Type 0 where
+pub record IsActing (before : BotEnd) (old : Progress) (all : List Action) (link : BotEnd) (now : Progress) (left : List Action) : Type 0 where
   pub acting : acted_all (acting_at link now) left ≡ acted_all (acting_at before old) all
   pub faults : now.faults ++ action_faults (acting_at link now) left ≡ old.faults ++ action_faults (acting_at before old) all
   pub kept : HasMoreAsks before link
   pub lines : HasMoreLines old.queues now.queues
 
-pub IsActing-none : (before : Link) (old : Progress) (all : List Action) → IsActing before old all before old all
+pub IsActing-none : (before : BotEnd) (old : Progress) (all : List Action) → IsActing before old all before old all
 IsActing-none before old all = record { acting = refl; faults = refl; kept = HasMoreAsks_refl before; lines = HasMoreLines_same old.queues old.queues refl }
 
 -- these were done next
-pub IsActing-more : (before : Link) (old : Progress) (all : List Action) (link : Link) (now : Progress) (left xs rest : List Action) (next : Link) (new : Progress)
+pub IsActing-more : (before : BotEnd) (old : Progress) (all : List Action) (link : BotEnd) (now : Progress) (left xs rest : List Action) (next : BotEnd) (new : Progress)
     → IsActing before old all link now left → left ≡ xs ++ rest → LeavesAll link now xs next new → HasMoreAsks link next
     → HasMoreLines now.queues new.queues
     → IsActing before old all next new rest
@@ -104,7 +190,7 @@ IsActing-more before old all link now left xs rest next new is here done more li
     }
 
 -- all were done
-pub IsActing-all : (before : Link) (old : Progress) (all : List Action) (link : Link) (now : Progress) (left : List Action)
+pub IsActing-all : (before : BotEnd) (old : Progress) (all : List Action) (link : BotEnd) (now : Progress) (left : List Action)
     → IsActing before old all link now left → left ≡ [] → LeavesAll before old all link now
 IsActing-all before old all link now left is none =
     record {
@@ -113,12 +199,12 @@ IsActing-all before old all link now left is none =
     }
 
 -- one action is all of it
-LeavesAll-one : (link : Link) (now : Progress) (x : Action) (next : Link) (new : Progress)
+LeavesAll-one : (link : BotEnd) (now : Progress) (x : Action) (next : BotEnd) (new : Progress)
     → Leaves now (acted (acting_at link now) x) next new → LeavesAll link now (x ∷ []) next new
 LeavesAll-one link now x next new one = record { acting = one.acting; faults = one.faults }
 
 -- one more action
-pub IsActing-action : (before : Link) (old : Progress) (all : List Action) (link : Link) (now : Progress) (i : ℕ) (x : Action) (next : Link) (new : Progress)
+pub IsActing-action : (before : BotEnd) (old : Progress) (all : List Action) (link : BotEnd) (now : Progress) (i : ℕ) (x : Action) (next : BotEnd) (new : Progress)
     → IsActing before old all link now (drop i all) → i < length all → x ≡ get_or all i x
     → Leaves now (acted (acting_at link now) x) next new → HasMoreAsks link next → HasMoreLines now.queues new.queues
     → IsActing before old all next new (drop (i + 1) all)
@@ -127,8 +213,8 @@ IsActing-action before old all link now i x next new is within here one more lin
     (drop_more all i x within ∙ ap (λ (a : Action). a ∷ drop (i + 1) all) (sym here)) (LeavesAll-one link now x next new one) more lines
 
 -- one more call
-pub IsActing-call : (before : Link) (old : Progress) (calls : List MadeCall) (link : Link) (now : Progress) (i : ℕ) (m : MadeCall) (xs : List Action)
-    (next : Link) (new : Progress)
+pub IsActing-call : (before : BotEnd) (old : Progress) (calls : List MadeCall) (link : BotEnd) (now : Progress) (i : ℕ) (m : MadeCall) (xs : List Action)
+    (next : BotEnd) (new : Progress)
     → IsActing before old (actions_of calls) link now (actions_of (drop i calls)) → i < length calls → m ≡ get_or calls i m → xs ≡ m.reply.actions
     → LeavesAll link now xs next new → HasMoreAsks link next → HasMoreLines now.queues new.queues
     → IsActing before old (actions_of calls) next new (actions_of (drop (i + 1) calls))

@@ -2,9 +2,9 @@
 use Rattle.std.proofs.Common.{◌≡◌, ◌∙◌, ℕ, Result, Ok, Err, OnErr, refl, ap, sym, subst}
 use Rattle.outqueue.specs.declared.queues.Counts.{Counts}
 use Rattle.outqueue.specs.Sending.{Sending, counts_of, with_first, no_room}
-use Rattle.botcore.specs.declared.link.Link.{Link}
+use Rattle.botlink.specs.Links.{BotEnd, keeps_asks}
 use Rattle.botcore.specs.Bots.{Bot}
-use Rattle.botcore.specs.Links.{ask_count, link_with_oldest}
+use Rattle.botcore.specs.Links.{ask_count}
 use Rattle.botcore.specs.Progress.{HasMore, with_oldest}
 use Rattle.botcore.proofs.AskLemmas.{HasMoreAsks_refl, HasMoreAsks-then, asks_taken_back}
 use Rattle.botcore.proofs.PutLemmas.{HasMoreLines_same, HasMoreLines-then, lines_taken_back}
@@ -36,7 +36,7 @@ pub taken_back : (old new kept : Bot) (asks : ℕ) (lines : Counts) → HasMore 
     → old.queues.room ≡ no_room → kept ≡ with_oldest new asks lines → kept ≡ old
 taken_back old new kept asks lines more counted counts none back =
     back
-    ∙ ap (λ (l : Link). record new { link = l; queues = with_first new.queues lines })
-    (asks_taken_back old.link new.link (link_with_oldest new.link asks) asks more.asks counted refl)
+    ∙ ap (λ (l : BotEnd). record new { link = l; queues = with_first new.queues lines })
+    (asks_taken_back old.link new.link (keeps_asks new.link asks) asks more.asks counted refl)
     ∙ ap (λ (q : Sending). record new { link = old.link; queues = q }) (lines_taken_back old.queues new.queues lines more.lines none counts)
     ∙ ap (λ (m : Bot). record m { link = old.link; queues = old.queues }) more.rest

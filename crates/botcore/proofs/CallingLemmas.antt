@@ -10,7 +10,7 @@ use Rattle.botcalls.specs.declared.made_call.Unbound.{Unbound}
 use Rattle.botcore.specs.declared.fault.Fault.{Fault}
 use Rattle.botcore.specs.declared.report.Note.{Note}
 use Rattle.botcore.specs.declared.report.Report.{Report}
-use Rattle.sharelink.specs.declared.answer.Outgoing.{Outgoing}
+use Rattle.linkcalls.specs.declared.answer.Outgoing.{Outgoing}
 use Rattle.bottimers.specs.Seconds.{seconds_run}
 use Rattle.botcalls.specs.declared.occasion.Occasion.{Occasion}
 use Rattle.botcore.specs.Bots.{Bot, bot_setting}

@@ -3,8 +3,12 @@ pub mod BackLemmas
 pub mod AutomaticLemmas
 pub mod Calendar
 pub mod CallingLemmas
+pub mod GoodLemmas
 pub mod JoiningLemmas
 pub mod PacketLemmas
 pub mod PutLemmas
 pub mod ReachLemmas
+pub mod RowLemmas
 pub mod RunningLemmas
+pub mod SilentLemmas
+pub mod TextLemmas

@@ -1,126 +1,123 @@
 -- What a packet that the link has answered makes of a bot.
-use Rattle.std.proofs.Common.{◌≡◌, ◌∙◌, ℕ, ◌+◌, ◌==◌, nat_le, nat_lt, not, ◌||◌, Bool, true, false, if◌then◌else◌, List, Option, Some, None, Ok, Err, refl, ap, sym, subst}
+use Rattle.std.proofs.Common.{◌≡◌, ◌∙◌, ℕ, List, Option, Some, None, Result, Ok, Err, refl, ap, sym, subst}
 use Rattle.bytetext.specs.declared.failure.Failure.{Failure}
 use Rattle.bytetext.specs.declared.failure.Failure.TheVariants.{Refused, NoMemory}
-use Rattle.userfile.specs.Apply.{refusal}
-use Rattle.userfile.specs.declared.change.Change.{Change}
-use Rattle.userfile.specs.declared.error.ChangeFault.{ChangeFault}
 use Rattle.procstore.specs.declared.action.Action.{Action}
 use Rattle.procstore.specs.declared.call.Call.{Call}
 use Rattle.procstore.specs.declared.reply.Code.{Code}
 use Rattle.sharewire.specs.declared.packet.Packet.{Packet}
-use Rattle.sharewire.specs.declared.packet.Packet.TheVariants.{Hello, Change as change_packet, BotText}
-use Rattle.sharelink.specs.declared.answer.Answer.{Answer}
-use Rattle.sharelink.specs.declared.answer.Note.TheVariants.{Old, Early, Text, Stray}
-use Rattle.sharelink.specs.declared.error.LinkFault.{LinkFault}
-use Rattle.sharelink.specs.Meets.{Meets, noted}
-use Rattle.sharelink.specs.Texts.{is_no_bot}
-use Rattle.sharelink.specs.HubRules.{Hub, hub_received, is_no_leaf, version_of, hello_served, relayed}
-use Rattle.sharelink.specs.LeafRules.{Leaf, leaf_received, change_received, next_applied}
-use Rattle.botcore.specs.declared.link.Link.{Link}
-use Rattle.botcore.specs.declared.link.Link.TheVariants.{Hub as hub_end, Leaf as leaf_end}
+use Rattle.protocol.specs.Notes.{Note as Meaning, LinkFault as Meant}
+use Rattle.protocol.specs.Packets.{from_wire}
+use Rattle.protocol.specs.Bots.{Works}
+use Rattle.linkcalls.specs.declared.answer.Answer.{Answer}
+use Rattle.linkcalls.specs.declared.error.LinkFault.{LinkFault}
+use Rattle.linkcalls.specs.Calls.{note_of}
+use Rattle.linkcalls.specs.Meets.{how_of}
+use Rattle.linknet.specs.Ends.{End}
+use Rattle.botlink.specs.Links.{BotEnd, Calls, took}
 use Rattle.botcore.specs.declared.report.Report.{Report}
-use Rattle.botcore.specs.Bots.{Bot, bot_setting}
+use Rattle.botcore.specs.Bots.{Bot, bot_setting, with_failures}
 use Rattle.botcalls.specs.Calls.{calls_in}
 use Rattle.botcalls.specs.Dispatching.{told_of}
 use Rattle.botcore.specs.Happenings.{Saying, saying_in, saying_of}
-use Rattle.botcore.specs.Links.{link_received}
-use Rattle.botcore.specs.Reports.{answer_report, link_report, out_of_memory}
+use Rattle.botcore.specs.Reports.{answer_report}
 use Rattle.botcore.specs.Steps.{TakesPacket, TakesText, GivesRow, said_occasions}
+use Rattle.botcore.proofs.AskLemmas.{fault_is}
+use Rattle.botcore.proofs.SilentLemmas.{end_text}
 
--- no packet changes the hub
-hub_stays : (h : Hub) (packet : Packet) → (hub_received h packet).after ≡ h
-hub_stays h (Hello leaf version) = by (is_no_leaf h.leaves leaf || nat_lt (version_of h) version)
-  where
-    by : (b : Bool) → (if b then noted Stray h else hello_served h leaf version).after ≡ h
-    by true = refl
-    by false = refl
-hub_stays h (BotText from to text) = by (is_no_bot h.leaves from || is_no_bot h.leaves to)
-  where
-    ends : (b : Bool) → (if b then noted (Text from text) h else relayed h from to text).after ≡ h
-    ends true = refl
-    ends false = refl
+-- the same end of the link, but for how often the disks have failed
+link_is : (old link : BotEnd) → link.number ≡ old.number → link.leaves ≡ old.leaves → link.end ≡ old.end
+    → link ≡ record old { failures = link.failures }
+link_is old link number leaves end =
+    ap (λ (n : ℕ). record link { number = n }) number
+    ∙ ap (λ (n : ℕ). record link { number = old.number; leaves = n }) leaves
+    ∙ ap (λ (e : End). record link { number = old.number; leaves = old.leaves; end = e }) end
 
-    by : (b : Bool) → (if b then noted Stray h else if to == 0 then noted (Text from text) h else relayed h from to text).after ≡ h
-    by true = refl
-    by false = ends (to == 0)
-hub_stays h other = refl
+-- a packet that brings a text leaves the end of the link so
+text_leaves : (old link : BotEnd) (packet : Packet) (answer : Answer) (saying : Saying)
+    → Calls old (took old packet) (Ok answer) link → saying_of (took old packet Works).told ≡ Some saying
+    → link ≡ record old { failures = link.failures }
+text_leaves old link packet answer saying calls is =
+    link_is old link calls.number calls.leaves
+    (calls.row.after ∙ (end_text old.leaves old.number old.end (from_wire packet) saying is).0)
 
--- no change brings a text
-change_silent : (l : Leaf) (number : ℕ) (change : Change) → saying_of (change_received l number change).answer ≡ None
-change_silent l number change = by (nat_le number l.version)
-  where
-    applied : (fault : Option ChangeFault) → saying_of (next_applied l change fault).answer ≡ None
-    applied (Some fault) = refl
-    applied None = refl
-
-    next : (b : Bool) → saying_of (if b then next_applied l change (refusal l.records change) else noted Early l).answer ≡ None
-    next true = applied (refusal l.records change)
-    next false = refl
-
-    by : (b : Bool) → saying_of
-        (if b then noted Old l else if number == (l.version + 1) then next_applied l change (refusal l.records change) else noted Early l).answer ≡ None
-    by true = refl
-    by false = next (number == (l.version + 1))
-
--- a packet that brings a text changes no leaf
-leaf_stays : (l : Leaf) (packet : Packet) (saying : Saying) → saying_of (leaf_received l packet).answer ≡ Some saying → (leaf_received l packet).after ≡ l
-leaf_stays l (change_packet number origin request change) saying is = let none = sym (change_silent l number change) ∙ is in cc
-leaf_stays l (BotText from to text) saying is = by (is_no_bot l.leaves from || not (to == l.number))
-  where
-    by : (b : Bool) → (if b then noted Stray l else noted (Text from text) l).after ≡ l
-    by true = refl
-    by false = refl
-leaf_stays l other saying is = refl
-
-link_stays : (link : Link) (packet : Packet) (saying : Saying) → saying_of (link_received link packet).answer ≡ Some saying
-    → (link_received link packet).after ≡ link
-link_stays (hub_end h) packet saying is = ap (λ x. hub_end x) (hub_stays h packet)
-link_stays (leaf_end l) packet saying is = ap (λ x. leaf_end x) (leaf_stays l packet saying is)
+-- what is refused brings no text
+refused_silent : (said : Result Meaning Meant) (why : Meant) (saying : Saying) → said ≡ Err why → saying_of said ≡ Some saying → ⊥
+refused_silent said why saying is some =
+    let none : saying_of said ≡ None = ap saying_of is in
+    let different : None ≡ Some saying = sym none ∙ some in cc
 
 module _ (code_of : List ℕ → Call → Code) (may : List ℕ → Call → List Action → Type 0) (names : List (List ℕ)) where
   -- the link has answered
-  pub answered : (old mid new : Bot) (packet : Packet) (answer : Answer) (report : Report)
-      → (link_received old.link packet).answer ≡ Ok answer → mid ≡ record old { link = (link_received old.link packet).after }
-      → ((saying : Saying) → saying_in answer.note ≡ Some saying → TakesText code_of may names mid saying report new)
-      → (saying_in answer.note ≡ None → report ≡ answer_report (Ok answer)) → (saying_in answer.note ≡ None → new ≡ mid)
-      → TakesPacket (saying_of (link_received old.link packet).answer) code_of may names old packet report new
-  answered old mid new packet answer report is after texts reports stays =
-      subst (λ (s : Option Saying). TakesPacket s code_of may names old packet report new) (sym (ap saying_of is)) (by (saying_in answer.note) refl)
+  pub answered : (old : Bot) (link : BotEnd) (new : Bot) (packet : Packet) (answer : Answer) (report : Report)
+      → Calls old.link (took old.link packet) (Ok answer) link
+      → ((saying : Saying) → saying_in (note_of answer.note) ≡ Some saying
+      → TakesText code_of may names (record old { link = link }) saying report new)
+      → (saying_in (note_of answer.note) ≡ None → report ≡ answer_report (Ok answer))
+      → (saying_in (note_of answer.note) ≡ None → new ≡ record old { link = link })
+      → TakesPacket (saying_of (took old.link packet Works).told) code_of may names old packet report new
+  answered old link new packet answer report calls texts reports stays =
+      subst (λ (s : Option Saying). TakesPacket s code_of may names old packet report new) (sym told)
+      (by (saying_in (note_of answer.note)) refl)
     where
-      by : (s : Option Saying) → saying_in answer.note ≡ s → TakesPacket s code_of may names old packet report new
-      by (Some saying) e =
-          let same = after ∙ ap (λ (l : Link). record old { link = l }) (link_stays old.link packet saying (ap saying_of is ∙ e)) in
-          subst (λ (b : Bot). TakesText code_of may names b saying report new) same (texts saying e)
-      by None e =
-          subst (λ (r : Report). GivesRow old (link_received old.link packet) r new) (sym (reports e))
-          (ap link_report (sym is), stays e ∙ after)
+      told : saying_of (took old.link packet Works).told ≡ saying_in (note_of answer.note)
+      told = ap saying_of calls.row.told
+
+      by : (s : Option Saying) → saying_in (note_of answer.note) ≡ s → TakesPacket s code_of may names old packet report new
+      by (Some saying) e = (
+        link.failures,
+        subst (λ (l : BotEnd). TakesText code_of may names (record old { link = l }) saying report new)
+            (text_leaves old.link link packet answer saying calls (told ∙ e)) (texts saying e),
+      )
+      by None e = record {
+        answer = Ok answer;
+        met = subst (λ (b : Bot). Calls old.link (took old.link packet) (Ok answer) b.link) (sym (stays e)) calls;
+        report = reports e;
+        after = stays e ∙ ap (λ (b : Bot). record old { link = b.link }) (sym (stays e));
+      }
+
+  -- it was refused, or memory ran out, and the link is all that may be another
+  GivesRow-err : (old new : Bot) (link : BotEnd) (packet : Packet) (why : Failure LinkFault) (report : Report)
+      → Calls old.link (took old.link packet) (Err why) link → new ≡ record old { link = link } → report ≡ answer_report (Err why)
+      → GivesRow old (took old.link packet) report new
+  GivesRow-err old new link packet why report calls after reported = record {
+    answer = Err why;
+    met = subst (λ (b : Bot). Calls old.link (took old.link packet) (Err why) b.link) (sym after) calls;
+    report = reported;
+    after = after ∙ ap (λ (b : Bot). record old { link = b.link }) (sym after);
+  }
 
   -- the link has refused, or memory ran out
-  pub failed : (old new : Bot) (link : Link) (packet : Packet) (why : Failure LinkFault) (report : Report)
-      → Meets old.link (link_received old.link packet) (Err why) link → new ≡ record old { link = link } → report ≡ answer_report (Err why)
-      → TakesPacket (saying_of (link_received old.link packet).answer) code_of may names old packet report new
-  failed old new link packet (Refused fault) report meets after reported =
-      subst (λ (s : Option Saying). TakesPacket s code_of may names old packet report new) (sym (ap saying_of meets.0))
-      (subst (λ (r : Report). GivesRow old (link_received old.link packet) r new) (sym reported)
-      (ap link_report (sym meets.0), after ∙ ap (λ (l : Link). record old { link = l }) meets.1))
-  failed old new link packet NoMemory report meets after reported =
-      subst (λ (r : Report). TakesPacket (saying_of (link_received old.link packet).answer) code_of may names old packet r new) (sym reported)
-      (by (saying_of (link_received old.link packet).answer))
+  pub failed : (old new : Bot) (link : BotEnd) (packet : Packet) (why : Failure LinkFault) (report : Report)
+      → Calls old.link (took old.link packet) (Err why) link → new ≡ record old { link = link } → report ≡ answer_report (Err why)
+      → TakesPacket (saying_of (took old.link packet Works).told) code_of may names old packet report new
+  failed old new link packet (Refused fault) report calls after reported = by (saying_of (took old.link packet Works).told) refl
     where
-      same : new ≡ old
-      same = after ∙ ap (λ (l : Link). record old { link = l }) meets.1
+      by : (s : Option Saying) → saying_of (took old.link packet Works).told ≡ s → TakesPacket s code_of may names old packet report new
+      by None e = GivesRow-err old new link packet (Refused fault) report calls after reported
+      by (Some saying) e =
+          let same = (end_text old.link.leaves old.link.number old.link.end (from_wire packet) saying e).1 (how_of fault) in
+          let meant = fault_is fault (took old.link packet (how_of fault)).told calls.row.0.told in
+          absurd (refused_silent (took old.link packet Works).told meant.0 saying (sym same ∙ meant.1) e)
+  failed old new link packet NoMemory report calls after reported =
+      by (saying_of (took old.link packet Works).told)
+    where
+      same : new ≡ with_failures old link.failures
+      same = after ∙ ap (λ (l : BotEnd). record old { link = l }) (link_is old.link link calls.number calls.leaves calls.row.1)
 
-      by : (s : Option Saying) → TakesPacket s code_of may names old packet out_of_memory new
-      by None = (meets.0, refl, same)
-      by (Some saying) = record {
-        rest = calls_in (told_of (bot_setting code_of names old) (said_occasions saying));
-        calls = refl;
-        kept = tt;
-        note = refl;
-        packets = refl;
-        lines = refl;
-        faults = refl;
-        logged = refl;
-        after = same;
-      }
+      by : (s : Option Saying) → TakesPacket s code_of may names old packet report new
+      by None = GivesRow-err old new link packet NoMemory report calls after reported
+      by (Some saying) = (
+        link.failures,
+        subst (λ (r : Report). TakesText code_of may names (with_failures old link.failures) saying r new) (sym reported) (record {
+          rest = calls_in (told_of (bot_setting code_of names (with_failures old link.failures)) (said_occasions saying));
+          calls = refl;
+          kept = tt;
+          note = refl;
+          packets = refl;
+          lines = refl;
+          faults = refl;
+          logged = refl;
+          after = same;
+        }),
+      )

@@ -11,10 +11,12 @@ use Rattle.procstore.specs.declared.action.PutWish.{PutWish}
 use Rattle.procstore.specs.declared.action.TimerWish.{TimerWish}
 use Rattle.outqueue.specs.declared.fault.QueueFault.{QueueFault}
 use Rattle.outqueue.specs.Refusals.{refusal}
-use Rattle.sharelink.specs.declared.answer.Outgoing.{Outgoing}
-use Rattle.sharelink.specs.declared.error.LinkFault.{LinkFault}
-use Rattle.botcore.specs.Acting.{Acting, acted, acted_all, made_unless, timer_made, timer_of, killed_if, sent_if, put_unless}
-use Rattle.botcore.specs.declared.link.Link.{Link}
+use Rattle.linkcalls.specs.declared.answer.Outgoing.{Outgoing}
+use Rattle.linkcalls.specs.declared.error.LinkFault.{LinkFault}
+use Rattle.botcore.specs.Acting.{Acting, acted, acted_all, asked_if, made_unless, timer_made, timer_of, killed_if, sent_if, put_unless}
+use Rattle.protocol.specs.Notes.{Note as Meaning, LinkFault as Meant}
+use Rattle.linknet.specs.Ends.{End}
+use Rattle.botlink.specs.Links.{BotEnd, asked}
 use Rattle.botcore.specs.Links.{link_text}
 use Rattle.botcore.specs.Progress.{Progress, LeavesAll, acting_at}
 use Rattle.botcore.specs.Rising.{IsReached}
@@ -40,8 +42,12 @@ killed_keeps : (held : Bool) (a : Acting) (id : ℕ) → IsReached a.timers.last
 killed_keeps true a id reached = (refl, reached)
 killed_keeps false a id reached = (refl, reached)
 
-sent_keeps : (text : Result Outgoing LinkFault) (a : Acting) → IsReached a.timers.last a.last → Keeps a (sent_if text a).after
-sent_keeps (Ok outgoing) a reached = (refl, reached)
+asked_keeps : (said : Result Meaning Meant) (a : Acting) (after : End) → IsReached a.timers.last a.last → Keeps a (asked_if said a after).after
+asked_keeps (Ok note) a after reached = (refl, reached)
+asked_keeps (Err why) a after reached = (refl, reached)
+
+sent_keeps : (text : Result (List Outgoing) LinkFault) (a : Acting) → IsReached a.timers.last a.last → Keeps a (sent_if text a).after
+sent_keeps (Ok packets) a reached = (refl, reached)
 sent_keeps (Err fault) a reached = (refl, reached)
 
 put_keeps : (fault : Option QueueFault) (a : Acting) (wish : PutWish) → IsReached a.timers.last a.last → Keeps a (put_unless fault a wish).after
@@ -49,7 +55,7 @@ put_keeps (Some fault) a wish reached = (refl, reached)
 put_keeps None a wish reached = (refl, reached)
 
 acted_keeps : (a : Acting) (x : Action) → IsReached a.timers.last a.last → Keeps a (acted a x).after
-acted_keeps a (Ask change) reached = (refl, reached)
+acted_keeps a (Ask change) reached = asked_keeps (asked a.link change).told a (asked a.link change).after reached
 acted_keeps a (timer_wished wish) reached = timer_keeps Minutes a wish reached
 acted_keeps a (Utimer wish) reached = timer_keeps Seconds a wish reached
 acted_keeps a (KillTimer id) reached = killed_keeps (holds a.timers id) a id reached
@@ -67,7 +73,7 @@ reached_after : (a : Acting) (xs : List Action) → IsReached a.timers.last a.la
 reached_after a xs reached = (acted_all_keeps a xs reached).1
 
 -- so after all actions of calls, too
-pub reached_by : (before link : Link) (old new : Progress) (actions : List Action) (clock : Option ℕ) → LeavesAll before old actions link new
+pub reached_by : (before link : BotEnd) (old new : Progress) (actions : List Action) (clock : Option ℕ) → LeavesAll before old actions link new
     → IsReached old.timers.last old.last → old.last ≡ clock → IsReached new.timers.last clock
 reached_by before link old new actions clock done reached is =
     subst (IsReached new.timers.last) is

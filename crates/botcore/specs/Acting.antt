@@ -14,23 +14,24 @@ use Rattle.outqueue.specs.Sending.{Sending}
 use Rattle.procstore.specs.declared.action.Action.TheVariants.{Ask, Timer as timer_wished, Utimer, KillTimer, SendBot, Put}
 use Rattle.procstore.specs.declared.action.PutWish.{PutWish}
 use Rattle.procstore.specs.declared.action.TimerWish.{TimerWish}
-use Rattle.sharelink.specs.declared.answer.Answer.{Answer}
-use Rattle.sharelink.specs.declared.answer.Outgoing.{Outgoing}
-use Rattle.sharelink.specs.declared.error.LinkFault.{LinkFault}
-use Rattle.sharelink.specs.Meets.{Row}
+use Rattle.linkcalls.specs.declared.answer.Outgoing.{Outgoing}
+use Rattle.linkcalls.specs.declared.error.LinkFault.{LinkFault}
+use Rattle.protocol.specs.Notes.{Note as Meaning, LinkFault as Meant}
+use Rattle.protocol.specs.Bots.{Row}
+use Rattle.linknet.specs.Ends.{End}
+use Rattle.botlink.specs.Links.{BotEnd, asked}
 use Rattle.botcore.specs.declared.fault.ActionFault.{ActionFault}
 use Rattle.botcore.specs.declared.fault.ActionFault.TheVariants.{Link as link_fault, Clock as clock_fault, Queue as queue_fault}
 use Rattle.botcore.specs.declared.fault.Fault.{Fault}
 use Rattle.botcore.specs.declared.fault.Fault.TheVariants.{Unbound as unbound_fault, Action as action_fault}
-use Rattle.botcore.specs.declared.link.Link.{Link}
 use Rattle.botcalls.specs.declared.made_call.MadeCall.{MadeCall}
 use Rattle.botcalls.specs.declared.made_call.Unbound.{Unbound}
-use Rattle.botcore.specs.Links.{link_asked, link_text}
+use Rattle.botcore.specs.Links.{fault_told, link_text}
 
 -- what actions change: the link, the timers, the texts that are sent, and the queues of lines for the server; new timers are
 -- made at the last second
 pub record Acting : Type 0 where
-  pub link : Link
+  pub link : BotEnd
   pub timers : Held
   pub last : Option ℕ
   pub sent : List Outgoing
@@ -49,13 +50,13 @@ refused_to old fault = record { after = old; fault = Some fault }
 
 -- ---- one action
 
--- a change is asked for
-abbrev pub answer_fault : Result Answer LinkFault → Option ActionFault
-answer_fault (Ok answer) = None
-answer_fault (Err fault) = Some (link_fault fault)
+-- a change is asked for, and waits unless the link refuses it
+abbrev pub asked_if : Result Meaning Meant → Acting → End → Acted
+asked_if (Ok note) old after = done_to (record old { link = record old.link { end = after } })
+asked_if (Err why) old after = refused_to old (link_fault (fault_told why))
 
-abbrev pub asked_to : Acting → Row Link → Acted
-asked_to old row = record { after = record old { link = row.after }; fault = answer_fault row.answer }
+abbrev pub asked_to : Acting → Row End → Acted
+asked_to old row = asked_if row.told old row.after
 
 -- a timer is made under the next id
 abbrev pub timer_of : Acting → TimerKind → TimerWish → Timer
@@ -82,8 +83,8 @@ killed_if true old id = done_to (record old { timers = without old.timers id })
 killed_if false old id = refused_to old (clock_fault NoSuchTimer)
 
 -- a text goes out after those that went out so far
-abbrev pub sent_if : Result Outgoing LinkFault → Acting → Acted
-sent_if (Ok outgoing) old = done_to (record old { sent = old.sent ++ outgoing ∷ [] })
+abbrev pub sent_if : Result (List Outgoing) LinkFault → Acting → Acted
+sent_if (Ok packets) old = done_to (record old { sent = old.sent ++ packets })
 sent_if (Err fault) old = refused_to old (link_fault fault)
 
 -- a line is put last in its queue, unless the queue refuses it
@@ -92,7 +93,7 @@ put_unless (Some fault) old wish = refused_to old (queue_fault fault)
 put_unless None old wish = done_to (record old { queues = put_last old.queues wish.queue wish.line })
 
 abbrev pub acted : Acting → Action → Acted
-acted old (Ask change) = asked_to old (link_asked old.link change)
+acted old (Ask change) = asked_to old (asked old.link change)
 acted old (timer_wished wish) = timer_made Minutes old wish
 acted old (Utimer wish) = timer_made Seconds old wish
 acted old (KillTimer id) = killed_if (holds old.timers id) old id

@@ -1,8 +1,8 @@
 -- What a bot is to a contract.
 use Rattle.std.specs.Prelude.{ℕ, Bool, false, List, [], Option, None}
-use Rattle.bytetext.specs.declared.failure.Failure.{Failure}
-use Rattle.bytetext.specs.declared.failure.Failure.TheVariants.{Refused, NoMemory}
 use Rattle.bottimers.specs.Held.{Held}
+use Rattle.botjournal.specs.Ledger.{Failures}
+use Rattle.botlink.specs.Links.{BotEnd, new_bot_end}
 use Rattle.chanstate.specs.declared.state.ChanState.{ChanState}
 use Rattle.chanstate.specs.Views.{connected}
 use Rattle.outqueue.specs.Sending.{Sending, idle}
@@ -10,18 +10,15 @@ use Rattle.procstore.specs.declared.call.Call.{Call}
 use Rattle.procstore.specs.declared.reply.Code.{Code}
 use Rattle.bindtable.specs.Tables.{Table, no_binds}
 use Rattle.botcore.specs.declared.config.Config.{Config}
-use Rattle.botcore.specs.declared.fault.BotFault.{BotFault}
-use Rattle.botcore.specs.declared.link.Link.{Link}
-use Rattle.botcore.specs.Configs.{IsGood}
 use Rattle.botcalls.specs.Dispatching.{Setting}
 use Rattle.botcalls.specs.Dispatched.{setting_of}
-use Rattle.botcore.specs.Links.{new_link, link_records}
+use Rattle.botcore.specs.Links.{link_records}
 
 -- who it is, its end of the link, its binds, oldest first, the channels that it is on, the last second of its clock, its
 -- timers, its lines for the server, and whether the server has welcomed it since it last connected
 pub record Bot : Type 0 where
   pub config : Config
-  pub link : Link
+  pub link : BotEnd
   pub binds : Table
   pub channels : ChanState
   pub clock : Option ℕ
@@ -32,12 +29,12 @@ pub record Bot : Type 0 where
 abbrev pub no_timers : Held
 no_timers = record { timers = []; last = None; spent = 0; room = 0 }
 
--- a bot before its first step
-abbrev pub new_bot : Config → Bot
-new_bot config =
+-- a bot as it begins over this end of the link: without binds, and with nothing that a restart would lose
+abbrev pub begun : Config → BotEnd → Bot
+begun config link =
     record {
       config = config;
-      link = new_link config.number config.leaves;
+      link = link;
       binds = no_binds;
       channels = connected config.nick;
       clock = None;
@@ -46,10 +43,17 @@ new_bot config =
       welcomed = false;
     }
 
--- why a bot isn't made: its configuration breaks a rule, or memory ran out though it is good
-abbrev pub IsWhyNot : Config → Failure BotFault → Type 0
-IsWhyNot config (Refused fault) = ¬ IsGood config
-IsWhyNot config NoMemory = IsGood config
+-- a bot before its first step, on disks that have failed so often
+abbrev pub new_bot : Config → Failures → Bot
+new_bot config failures = begun config (new_bot_end config.number config.leaves failures)
+
+-- what a restart leaves of a bot whose journal was opened again: its binds, and the end of the link that the journal has
+abbrev pub restarted : Bot → BotEnd → Bot
+restarted old link = record (begun old.config link) { binds = old.binds }
+
+-- the same bot, on disks that have failed so often
+abbrev pub with_failures : Bot → Failures → Bot
+with_failures bot failures = record bot { link = record bot.link { failures = failures } }
 
 -- what the calls of a bot depend on, with a store of these names
 abbrev pub bot_setting : (List ℕ → Call → Code) → List (List ℕ) → Bot → Setting

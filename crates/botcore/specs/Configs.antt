@@ -3,15 +3,17 @@ use Rattle.std.specs.Prelude.{◌≡◌, ℕ, ◌≤◌, ◌==◌, nat_lt, nat_l
 use Rattle.std.specs.List.{list_all}
 use Rattle.rfccase.specs.Channels.{is_channel_name}
 use Rattle.bottimers.specs.Civil.{IsOffset}
-use Rattle.sharelink.specs.declared.TheConstants.{MAX_LEAVES}
+use Rattle.linkcalls.specs.declared.TheConstants.{MAX_LEAVES}
+use Rattle.bytejournal.specs.Faults.{code_of as journal_code}
 use Rattle.botcore.specs.declared.config.Config.{Config}
 use Rattle.botcore.specs.declared.fault.BotFault.{BotFault}
-use Rattle.botcore.specs.declared.fault.BotFault.TheVariants.{BadConfig}
+use Rattle.botcore.specs.declared.fault.BotFault.TheVariants.{BadConfig, Journal}
 use Rattle.botcore.specs.declared.limits.TheConstants.{MAX_NICK}
 
 -- the code that transcripts print
 abbrev pub code_of : BotFault → List ℕ
 code_of BadConfig = codes "G1"
+code_of (Journal fault) = journal_code fault
 
 -- a nick has no space or control byte, and none of ! @ , * ?
 abbrev pub is_nick_byte : ℕ → Bool

@@ -7,14 +7,13 @@ use Rattle.chanstate.specs.Events.{events_of}
 use Rattle.chanstate.specs.Speech.{first_word}
 use Rattle.bottimers.specs.Held.{Held, calls_at, passed}
 use Rattle.bottimers.specs.Seconds.{seconds_run}
-use Rattle.sharelink.specs.declared.answer.Answer.{Answer}
-use Rattle.sharelink.specs.declared.answer.Note.{Note as LinkNote}
-use Rattle.sharelink.specs.declared.answer.Note.TheVariants.{Text as text_note}
-use Rattle.sharelink.specs.declared.error.LinkFault.{LinkFault}
+use Rattle.protocol.specs.Notes.{Note as Meaning, LinkFault as Meant}
+use Rattle.protocol.specs.Notes.Note.{Text as text_note}
+use Rattle.protocol.specs.Bots.{Works}
+use Rattle.botlink.specs.Links.{took}
 use Rattle.botcore.specs.declared.event.Event.{Event}
 use Rattle.botcore.specs.declared.event.Event.TheVariants.{Line, Receive, Clock}
 use Rattle.botcore.specs.Bots.{Bot}
-use Rattle.botcore.specs.Links.{link_received}
 
 pub data Happening : Type 0 where
   -- an event of a message
@@ -34,12 +33,12 @@ pub record Saying : Type 0 where
   pub text : List ℕ
 
 -- what the link takes for this bot, if it is a text
-abbrev pub saying_in : LinkNote → Option Saying
+abbrev pub saying_in : Meaning → Option Saying
 saying_in (text_note from text) = Some (record { from = from; text = text })
 saying_in other = None
 
-abbrev pub saying_of : Result Answer LinkFault → Option Saying
-saying_of (Ok answer) = saying_in answer.note
+abbrev pub saying_of : Result Meaning Meant → Option Saying
+saying_of (Ok note) = saying_in note
 saying_of (Err fault) = None
 
 -- a text that begins with a space has no first word, and calls nothing
@@ -75,6 +74,6 @@ passed_all timers (t ∷ ts) = passed_all (passed t timers) ts
 -- the events of a message, the seconds that a reading runs, a text that a packet brings; nothing else calls procs
 abbrev pub happenings_of : Bot → Event → List Happening
 happenings_of bot (Line (a_message message)) = map Heard (events_of message bot.channels)
-happenings_of bot (Receive packet) = said_if (saying_of (link_received bot.link packet).answer)
+happenings_of bot (Receive packet) = said_if (saying_of (took bot.link packet Works).told)
 happenings_of bot (Clock now) = seconds_of bot.config.offset bot.timers (seconds_run bot.clock now)
 happenings_of bot other = []

@@ -6,6 +6,8 @@ pub mod Configs
 pub mod Happenings
 pub mod Lines
 pub mod Links
+pub mod Making
+pub mod Presence
 pub mod Progress
 pub mod Putting
 pub mod Reports

@@ -1,61 +1,72 @@
--- A bot's end of the sharing link, be it the hub's or a leaf's.
-use Rattle.std.specs.Prelude.{ℕ, ◌==◌, List, length, Result, if◌then◌else◌}
+-- A bot's end of the sharing link, as the rest of a bot sees it.
+use Rattle.std.specs.Prelude.{ℕ, nat_lt, List, ◌++◌, length, map, Result, Ok, Err, if◌then◌else◌}
 use Rattle.userfile.specs.Records.{Records}
-use Rattle.userfile.specs.declared.change.Change.{Change}
-use Rattle.sharewire.specs.declared.packet.Packet.{Packet}
-use Rattle.sharelink.specs.declared.answer.Outgoing.{Outgoing}
-use Rattle.sharelink.specs.declared.error.LinkFault.{LinkFault}
-use Rattle.sharelink.specs.Meets.{Row}
-use Rattle.sharelink.specs.HubRules.{Hub, new_hub, version_of, hub_asked, hub_pumped, hub_received, hub_text, with_asks, with_oldest}
-use Rattle.sharelink.specs.LeafRules.{Leaf, new_leaf, leaf_asked, leaf_pumped, leaf_received, leaf_text}
-use Rattle.botcore.specs.declared.link.Link.{Link}
-use Rattle.botcore.specs.declared.link.Link.TheVariants.{Hub as hub_end, Leaf as leaf_end}
+use Rattle.userfile.specs.declared.change.Change.{Change as UserChange}
+use Rattle.sharewire.specs.declared.packet.Packet.{Packet as WirePacket}
+use Rattle.sharewire.specs.declared.packet.Packet.TheVariants as wire
+use Rattle.protocol.specs.Packets.{Packet, Outgoing as Sent}
+use Rattle.protocol.specs.Packets.Packet.{Hello, Change, Request, Accepted, Refused, BotText, Part}
+use Rattle.protocol.specs.Notes.{Note as Meaning, LinkFault as Fault}
+use Rattle.protocol.specs.Notes.LinkFault.{Down, BadChange, AsksFull, Diverged, NumbersSpent, JournalFault, BadBotText, DiskFault}
+use Rattle.protocol.specs.Bots.{Row}
+use Rattle.linkcalls.specs.declared.answer.Outgoing.{Outgoing}
+use Rattle.linkcalls.specs.declared.error.LinkFault.{LinkFault}
+use Rattle.linkcalls.specs.declared.error.LinkFault.TheVariants as fault
+use Rattle.linkcalls.specs.declared.TheConstants.{MAX_TEXTS}
+use Rattle.linknet.specs.Ends.{End, end_records, end_version, end_asks, with_asks}
+use Rattle.botlink.specs.Links.{BotEnd, told}
 
--- bot 0 is the hub
-abbrev pub new_link : ℕ → ℕ → Link
-new_link number leaves = if number == 0 then hub_end (new_hub leaves) else leaf_end (new_leaf number leaves)
+abbrev pub link_records : BotEnd → Records
+link_records link = end_records link.end
 
-abbrev pub link_records : Link → Records
-link_records (hub_end hub) = hub.records
-link_records (leaf_end leaf) = leaf.records
+abbrev pub link_version : BotEnd → ℕ
+link_version link = end_version link.end
 
-abbrev pub link_version : Link → ℕ
-link_version (hub_end hub) = version_of hub
-link_version (leaf_end leaf) = leaf.version
+-- ---- the asks that wait
 
--- the row of a hub's call or of a leaf's, as a row of the link
-abbrev pub link_row : Link → (Hub → Row Hub) → (Leaf → Row Leaf) → Row Link
-link_row (hub_end hub) hub_row leaf_row = record { answer = (hub_row hub).answer; after = hub_end (hub_row hub).after }
-link_row (leaf_end leaf) hub_row leaf_row = record { answer = (leaf_row leaf).answer; after = leaf_end (leaf_row leaf).after }
-
--- ---- the calls of a link
-
-abbrev pub link_asked : Link → Change → Row Link
-link_asked link change = link_row link (λ hub. hub_asked hub change) (λ leaf. leaf_asked leaf change)
-
-abbrev pub link_pumped : Link → Row Link
-link_pumped link = link_row link hub_pumped leaf_pumped
-
-abbrev pub link_received : Link → Packet → Row Link
-link_received link packet = link_row link (λ hub. hub_received hub packet) (λ leaf. leaf_received leaf packet)
-
--- a text to another bot, where so many were sent before it
-abbrev pub link_text : Link → ℕ → List ℕ → ℕ → Result Outgoing LinkFault
-link_text (hub_end hub) to text sent = hub_text hub to text sent
-link_text (leaf_end leaf) to text sent = leaf_text leaf to text sent
-
--- ---- the asks that wait; none do at a leaf
-
-abbrev pub ask_count : Link → ℕ
-ask_count (hub_end hub) = length hub.waiting
-ask_count (leaf_end leaf) = 0
+abbrev pub ask_count : BotEnd → ℕ
+ask_count link = length (end_asks link.end)
 
 -- the link with these asks after those that wait
-abbrev pub link_with_asks : Link → List Change → Link
-link_with_asks (hub_end hub) asks = hub_end (with_asks hub asks)
-link_with_asks (leaf_end leaf) asks = leaf_end leaf
+abbrev pub link_with_asks : BotEnd → List UserChange → BotEnd
+link_with_asks link asks = record link { end = with_asks link.end (end_asks link.end ++ asks) }
 
--- the link with its oldest asks alone, at most so many
-abbrev pub link_with_oldest : Link → ℕ → Link
-link_with_oldest (hub_end hub) count = hub_end (with_oldest hub count)
-link_with_oldest (leaf_end leaf) count = leaf_end leaf
+-- ---- what a rule tells and sends, as a bot reports it
+
+-- the fault of this meaning
+abbrev pub fault_told : Fault → LinkFault
+fault_told Down = fault.Down
+fault_told (BadChange of_change) = fault.BadChange of_change
+fault_told AsksFull = fault.AsksFull
+fault_told Diverged = fault.Diverged
+fault_told NumbersSpent = fault.NumbersSpent
+fault_told JournalFault = fault.JournalFault
+fault_told BadBotText = fault.BadBotText
+fault_told DiskFault = fault.DiskFault
+
+-- the packet of this meaning
+abbrev pub packet_told : Packet → WirePacket
+packet_told (Hello leaf version) = wire.Hello leaf version
+packet_told (Change number origin request change) = wire.Change number origin request change
+packet_told (Request leaf request change) = wire.Request leaf request change
+packet_told (Accepted leaf request number) = wire.Accepted leaf request number
+packet_told (Refused leaf request of_change) = wire.Refused leaf request of_change
+packet_told (BotText from to text) = wire.BotText from to text
+packet_told (Part version part count records) = wire.Part version part count records
+
+abbrev pub outgoing_told : Sent → Outgoing
+outgoing_told sent = record { to = sent.to; packet = packet_told sent.packet }
+
+-- ---- a text to another bot
+
+-- what goes out by its rule, unless the step has sent as many as it may
+abbrev pub text_sent : Result Meaning Fault → List Sent → ℕ → Result (List Outgoing) LinkFault
+text_sent (Err why) sends sent = Err (fault_told why)
+text_sent (Ok note) sends sent = if nat_lt sent MAX_TEXTS then Ok (map outgoing_told sends) else Err fault.TextsFull
+
+abbrev pub text_of : Row End → ℕ → Result (List Outgoing) LinkFault
+text_of row sent = text_sent row.told row.sends sent
+
+-- where so many were sent before it
+abbrev pub link_text : BotEnd → ℕ → List ℕ → ℕ → Result (List Outgoing) LinkFault
+link_text link to text sent = text_of (told link to text) sent

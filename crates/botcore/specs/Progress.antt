@@ -5,12 +5,12 @@ use Rattle.outqueue.specs.declared.queues.Counts.{Counts}
 use Rattle.bottimers.specs.Held.{Held}
 use Rattle.userfile.specs.declared.change.Change.{Change}
 use Rattle.procstore.specs.declared.action.Action.{Action}
-use Rattle.sharelink.specs.declared.answer.Outgoing.{Outgoing}
+use Rattle.linkcalls.specs.declared.answer.Outgoing.{Outgoing}
 use Rattle.botcore.specs.declared.fault.Fault.{Fault}
-use Rattle.botcore.specs.declared.link.Link.{Link}
+use Rattle.botlink.specs.Links.{BotEnd, keeps_asks}
 use Rattle.botcore.specs.Acting.{Acting, Acted, acted_all, with_fault, action_faults}
 use Rattle.botcore.specs.Bots.{Bot}
-use Rattle.botcore.specs.Links.{link_with_asks, link_with_oldest}
+use Rattle.botcore.specs.Links.{link_with_asks}
 use Rattle.botcore.specs.Putting.{HasMoreLines}
 
 -- what actions have changed beside the link, and what went wrong
@@ -22,22 +22,22 @@ pub record Progress : Type 0 where
   pub faults : List Fault
 
 -- all that actions change
-abbrev pub acting_at : Link → Progress → Acting
+abbrev pub acting_at : BotEnd → Progress → Acting
 acting_at link doing =
     record { link = link; timers = doing.timers; last = doing.last; sent = doing.sent; queues = doing.queues }
 
 -- one action left this, and its refusal is told after other faults
-pub record Leaves (old : Progress) (acted : Acted) (link : Link) (new : Progress) : Type 0 where
+pub record Leaves (old : Progress) (acted : Acted) (link : BotEnd) (new : Progress) : Type 0 where
   pub acting : acting_at link new ≡ acted.after
   pub faults : new.faults ≡ old.faults ++ with_fault acted.fault []
 
 -- and so did all of these actions
-pub record LeavesAll (before : Link) (old : Progress) (actions : List Action) (link : Link) (new : Progress) : Type 0 where
+pub record LeavesAll (before : BotEnd) (old : Progress) (actions : List Action) (link : BotEnd) (new : Progress) : Type 0 where
   pub acting : acting_at link new ≡ acted_all (acting_at before old) actions
   pub faults : new.faults ≡ old.faults ++ action_faults (acting_at before old) actions
 
 -- a link as it was, but for asks after those that waited
-abbrev pub HasMoreAsks : Link → Link → Type 0
+abbrev pub HasMoreAsks : BotEnd → BotEnd → Type 0
 HasMoreAsks old new = (more : List Change) × (new ≡ link_with_asks old more)
 
 -- a bot as it was, but for more asks and more lines, which can be taken back
@@ -48,4 +48,4 @@ pub record HasMore (old new : Bot) : Type 0 where
 
 -- the bot with so many of its asks and lines, from the oldest on
 abbrev pub with_oldest : Bot → ℕ → Counts → Bot
-with_oldest bot asks lines = record bot { link = link_with_oldest bot.link asks; queues = with_first bot.queues lines }
+with_oldest bot asks lines = record bot { link = keeps_asks bot.link asks; queues = with_first bot.queues lines }

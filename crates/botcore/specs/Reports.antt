@@ -3,9 +3,9 @@ use Rattle.std.specs.Prelude.{ℕ, List, [], true, map, Option, Some, None, Resu
 use Rattle.bytetext.specs.declared.failure.Failure.{Failure}
 use Rattle.bytetext.specs.declared.failure.Failure.TheVariants.{Refused as refused_by, NoMemory as no_memory}
 use Rattle.bindtable.specs.declared.fault.BindFault.{BindFault}
-use Rattle.sharelink.specs.declared.answer.Answer.{Answer}
-use Rattle.sharelink.specs.declared.answer.Outgoing.{Outgoing}
-use Rattle.sharelink.specs.declared.error.LinkFault.{LinkFault}
+use Rattle.linkcalls.specs.declared.answer.Answer.{Answer}
+use Rattle.linkcalls.specs.declared.answer.Outgoing.{Outgoing}
+use Rattle.linkcalls.specs.declared.error.LinkFault.{LinkFault}
 use Rattle.botcore.specs.declared.fault.Fault.{Fault}
 use Rattle.botcore.specs.declared.fault.Refusal.{Refusal}
 use Rattle.botcore.specs.declared.fault.Refusal.TheVariants.{Link as link_refusal, Bind as bind_refusal}
@@ -31,15 +31,10 @@ refused refusal = plain (Refused refusal) None
 abbrev pub out_of_memory : Report
 out_of_memory = plain NoMemory None
 
--- what a rule of the link gives
-abbrev pub link_report : Result Answer LinkFault → Report
-link_report (Ok answer) = record (done (Some (link_note answer.note))) { packets = answer.packets }
-link_report (Err fault) = refused (link_refusal fault)
-
 -- what a call of the link answers
 abbrev pub answer_report : Result Answer (Failure LinkFault) → Report
-answer_report (Ok answer) = link_report (Ok answer)
-answer_report (Err (refused_by fault)) = link_report (Err fault)
+answer_report (Ok answer) = record (done (Some (link_note answer.note))) { packets = answer.packets }
+answer_report (Err (refused_by fault)) = refused (link_refusal fault)
 answer_report (Err no_memory) = out_of_memory
 
 -- what making a bind answers

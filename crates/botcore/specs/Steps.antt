@@ -1,5 +1,6 @@
 -- One step of a bot: what one event makes it report, and the bot that it leaves.
-use Rattle.std.specs.Prelude.{◌≡◌, ℕ, ◌==◌, nat_le, Bool, true, false, List, [], ◌∷◌, ◌++◌, length, map, find, Option, Some, None, if◌then◌else◌}
+use Rattle.std.specs.Prelude.{◌≡◌, ℕ, ◌==◌, nat_le, Bool, true, false, List, [], ◌∷◌, ◌++◌, length, map, find, Option, Some, None, Result, Ok, Err, if◌then◌else◌}
+use Rattle.bytetext.specs.declared.failure.Failure.{Failure}
 use Rattle.ircline.specs.declared.line.Line.TheVariants.{Message as a_message, Bad as a_bad_line}
 use Rattle.ircline.specs.declared.message.Message.{Message}
 use Rattle.chanstate.specs.Events.{events_of}
@@ -15,14 +16,21 @@ use Rattle.bindtable.specs.declared.fault.BindFault.{BindFault}
 use Rattle.bindtable.specs.declared.fault.BindFault.TheVariants.{NoSuchBind}
 use Rattle.bindtable.specs.Tables.{Table, Asked, refusal, number_of, bound, is_such, without_such}
 use Rattle.sharewire.specs.declared.packet.Packet.{Packet}
-use Rattle.sharelink.specs.declared.answer.Note.TheVariants.{Text as told_text}
-use Rattle.sharelink.specs.Meets.{Row, AnswerTakesMemory}
+use Rattle.botjournal.specs.Ledger.{Failures}
+use Rattle.protocol.specs.Bots.{How, Works, Row}
+use Rattle.protocol.specs.Network.Event.{Pump as pumps, Compact as compacts}
+use Rattle.userfile.specs.declared.change.Change.{Change}
+use Rattle.linkcalls.specs.declared.answer.Answer.{Answer}
+use Rattle.linkcalls.specs.declared.error.LinkFault.{LinkFault}
+use Rattle.linkcalls.specs.declared.note.Note.TheVariants.{Text as told_text}
+use Rattle.linkcalls.specs.Shapes.{HasGoodRecords}
+use Rattle.linknet.specs.Ends.{End as LinkEnd}
+use Rattle.botlink.specs.Links.{BotEnd, did, took, Calls, CallsRestart, Asks}
 use Rattle.botcore.specs.declared.event.Event.{Event}
-use Rattle.botcore.specs.declared.event.Event.TheVariants.{Connect, Line, Ask, Pump, Receive, Clock, Bind, Unbind}
+use Rattle.botcore.specs.declared.event.Event.TheVariants.{Connect, Line, Ask, Pump, Receive, Clock, Bind, Unbind, Compact, Restart}
 use Rattle.botcore.specs.declared.event.NewBind.{NewBind}
 use Rattle.botcore.specs.declared.event.OldBind.{OldBind}
 use Rattle.botcore.specs.declared.fault.Refusal.TheVariants.{Bind as bind_refusal, Clock as clock_refusal}
-use Rattle.botcore.specs.declared.link.Link.{Link}
 use Rattle.botcore.specs.declared.report.End.{End}
 use Rattle.botcore.specs.declared.report.End.TheVariants.{Done, Refused, NoMemory}
 use Rattle.botcalls.specs.declared.made_call.MadeCall.{MadeCall}
@@ -31,7 +39,7 @@ use Rattle.botcalls.specs.declared.occasion.Occasion.TheVariants.{Heard, Said}
 use Rattle.botcore.specs.declared.report.Note.{Note}
 use Rattle.botcore.specs.declared.report.Note.TheVariants.{Link as link_note, Bound, Unbound, Bad}
 use Rattle.botcore.specs.declared.report.Report.{Report}
-use Rattle.botcore.specs.Bots.{Bot, bot_setting}
+use Rattle.botcore.specs.Bots.{Bot, bot_setting, restarted, with_failures}
 use Rattle.botcalls.specs.Calls.{Entry, Telling, calls_in, unbound_in}
 use Rattle.botcalls.specs.Dispatching.{told_of, is_logged}
 use Rattle.botcore.specs.Acting.{faults_of}
@@ -41,9 +49,8 @@ use Rattle.botcore.specs.Lines.{acting_of, acting_after, Finish, finish_text, fi
 use Rattle.botcore.specs.Putting.{put_all, put_faults}
 use Rattle.outqueue.specs.Sending.{idle}
 use Rattle.botcore.specs.Shown.{AreTaken}
-use Rattle.botcore.specs.Links.{link_asked, link_pumped, link_received}
 use Rattle.botcalls.specs.Made.{entry_of, AllKept}
-use Rattle.botcore.specs.Reports.{done, refused, out_of_memory, link_report}
+use Rattle.botcore.specs.Reports.{done, refused, out_of_memory, answer_report}
 
 -- ---- events that call nothing
 
@@ -62,10 +69,6 @@ connect_due old = record {
     welcomed = false;
   };
 }
-
--- a rule of the link
-abbrev pub link_due : Bot → Row Link → Due
-link_due old row = record { report = link_report row.answer; after = record old { link = row.after } }
 
 -- a bind that is made, unless the table refuses it
 abbrev pub asked_of : NewBind → Asked
@@ -94,15 +97,40 @@ Gives Done Grows old due report new = (report ≡ due.report) × (new ≡ due.af
 Gives (Refused why) Grows old due report new = (report ≡ due.report) × (new ≡ due.after)
 Gives NoMemory Grows old due report new = Grows × (report ≡ out_of_memory) × (new ≡ old)
 
-abbrev pub GivesRow : Bot → Row Link → Report → Bot → Type 0
-GivesRow old row report new = Gives report.end (AnswerTakesMemory row.answer) old (link_due old row) report new
-
 abbrev pub GivesBind : Bot → Asked → Report → Bot → Type 0
 GivesBind old asked report new =
     Gives report.end (refusal old.binds asked ≡ None) old (bind_due old asked (refusal old.binds asked)) report new
 
 abbrev pub GivesUnbind : Bot → OldBind → Report → Bot → Type 0
 GivesUnbind old gone report new = Gives report.end ⊥ old (unbind_due old gone (bind_to_go old.binds gone)) report new
+
+-- ---- calls of the link
+
+-- The link was called: its end of it met the rule, the answer is reported, and the bot is left with that end.
+pub record GivesCall (Met : Result Answer (Failure LinkFault) → BotEnd → Type 0)
+    (left : Result Answer (Failure LinkFault) → BotEnd → Bot) (told : Report) (new : Bot) : Type 0 where
+  pub answer : Result Answer (Failure LinkFault)
+  pub met : Met answer new.link
+  pub report : told ≡ answer_report answer
+  pub after : new ≡ left answer new.link
+
+-- nothing but the end of the link is another then
+abbrev pub relinked : Bot → Result Answer (Failure LinkFault) → BotEnd → Bot
+relinked old answer link = record old { link = link }
+
+abbrev pub GivesAsk : Bot → Change → Report → Bot → Type 0
+GivesAsk old change report new = GivesCall (Asks old.link change) (relinked old) report new
+
+abbrev pub GivesRow : Bot → (How → Row LinkEnd) → Report → Bot → Type 0
+GivesRow old row report new = GivesCall (Calls old.link row) (relinked old) report new
+
+-- A restart loses all but the binds and what the journal has; one that fails loses nothing, and its end of the link is down.
+abbrev pub after_restart : Bot → Result Answer (Failure LinkFault) → BotEnd → Bot
+after_restart old (Ok answer) link = restarted old link
+after_restart old (Err why) link = record old { link = link }
+
+abbrev pub GivesRestart : Bot → Report → Bot → Type 0
+GivesRestart old report new = GivesCall (CallsRestart old.link) (after_restart old) report new
 
 -- ---- events that call procs
 
@@ -161,11 +189,13 @@ TakesText code_of may names old saying report new =
     TakesCalls report.end code_of may (told_of (bot_setting code_of names old) (said_occasions saying)) old old
     (Some (text_note saying)) (finish_text old) report new
 
--- a packet is one call of the link, and its text, if it brings one to this bot, is told
+-- a packet is one call of the link, and its text, if it brings one to this bot, is told; what a text does doesn't depend on how
+-- often the disks have failed
 abbrev pub TakesPacket : Option Saying → (List ℕ → Call → Code) → (List ℕ → Call → List Action → Type 0) → List (List ℕ)
     → Bot → Packet → Report → Bot → Type 0
-TakesPacket None code_of may names old packet report new = GivesRow old (link_received old.link packet) report new
-TakesPacket (Some saying) code_of may names old packet report new = TakesText code_of may names old saying report new
+TakesPacket None code_of may names old packet report new = GivesRow old (took old.link packet) report new
+TakesPacket (Some saying) code_of may names old packet report new =
+    (failures : Failures) × TakesText code_of may names (with_failures old failures) saying report new
 
 -- ---- readings of the clock
 
@@ -202,16 +232,31 @@ TakesReading None code_of may names old now report new = TakesMoment (is_stale o
 
 -- ---- any event
 
+-- a packet that comes has records of good shape
+abbrev pub IsGoodEvent : Event → Type 0
+IsGoodEvent Connect = Unit {0}
+IsGoodEvent (Line line) = Unit {0}
+IsGoodEvent (Ask change) = Unit {0}
+IsGoodEvent Pump = Unit {0}
+IsGoodEvent (Receive packet) = HasGoodRecords packet
+IsGoodEvent (Clock now) = Unit {0}
+IsGoodEvent (Bind asked) = Unit {0}
+IsGoodEvent (Unbind gone) = Unit {0}
+IsGoodEvent Compact = Unit {0}
+IsGoodEvent Restart = Unit {0}
+
 -- one step with a store of these names, from old to new
 abbrev pub TakesStep : (List ℕ → Call → Code) → (List ℕ → Call → List Action → Type 0) → List (List ℕ)
     → Bot → Event → Report → Bot → Type 0
 TakesStep code_of may names old Connect report new = Gives report.end (Unit {0}) old (connect_due old) report new
 TakesStep code_of may names old (Line (a_message message)) report new = TakesMessage code_of may names old message report new
 TakesStep code_of may names old (Line (a_bad_line fault)) report new = (report ≡ done (Some (Bad fault))) × (new ≡ old)
-TakesStep code_of may names old (Ask change) report new = GivesRow old (link_asked old.link change) report new
-TakesStep code_of may names old Pump report new = GivesRow old (link_pumped old.link) report new
+TakesStep code_of may names old (Ask change) report new = GivesAsk old change report new
+TakesStep code_of may names old Pump report new = GivesRow old (did old.link pumps) report new
 TakesStep code_of may names old (Receive packet) report new =
-    TakesPacket (saying_of (link_received old.link packet).answer) code_of may names old packet report new
+    TakesPacket (saying_of (took old.link packet Works).told) code_of may names old packet report new
 TakesStep code_of may names old (Clock now) report new = TakesReading (reading_fault now) code_of may names old now report new
 TakesStep code_of may names old (Bind asked) report new = GivesBind old (asked_of asked) report new
 TakesStep code_of may names old (Unbind gone) report new = GivesUnbind old gone report new
+TakesStep code_of may names old Compact report new = GivesRow old (did old.link compacts) report new
+TakesStep code_of may names old Restart report new = GivesRestart old report new

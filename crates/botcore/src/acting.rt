@@ -1,17 +1,18 @@
 // What the actions of calls do.
 
 use crate::fault::{ActionFault, Fault};
-use crate::link::Link;
 use crate::putting::put;
 use crate::report::Faults;
 use botcalls::MadeCall;
+use botlink::BotLink;
 use bottimers::{TimerKind, Timers};
 use bytetext::{Failure, NoMemory, Seq, TryCopy};
+use linkcalls::Outgoings;
 use outqueue::Queues;
 use procstore::{Action, BotWish, PutWish, TimerWish};
-use sharelink::Outgoings;
 use std::alloc::Global;
 use std::marker::Model;
+use storage::Disk;
 use userfile::Change;
 
 // What actions have changed so far beside the link, and what went wrong.
@@ -32,7 +33,7 @@ pub(crate) struct Doing {
 impl Model for Doing {
     ghost use Rattle.std.specs.Prelude.{◌≤◌, length};
     ghost use Rattle.bottimers.specs.Held.{IsNotBelow};
-    ghost use Rattle.sharelink.specs.declared.TheConstants.{MAX_TEXTS};
+    ghost use Rattle.linkcalls.specs.declared.TheConstants.{MAX_TEXTS};
     ghost use Rattle.botcore.specs.Progress.{Progress};
 
     ghost Value = { Progress };
@@ -46,9 +47,9 @@ impl Doing {
     ghost use Rattle.std.specs.Prelude.{◌≡◌, ◌++◌, ◌∷◌, [], length, OnOk};
     ghost use Rattle.bottimers.specs.Held.{IsNotBelow, holds};
     ghost use Rattle.botcore.specs.declared.fault.Fault.TheVariants.{Action as action_fault};
-    ghost use Rattle.botcore.specs.declared.link.Link.{Link};
+    ghost use Rattle.botlink.specs.Links.{BotEnd, asked};
     ghost use Rattle.botcore.specs.Acting.{acted, actions_of, asked_to, killed_if, put_unless, sent_if, timer_made};
-    ghost use Rattle.botcore.specs.Links.{link_asked, link_text};
+    ghost use Rattle.botcore.specs.Links.{link_text};
     ghost use Rattle.botcore.specs.Putting.{HasMoreLines};
     ghost use Rattle.outqueue.specs.Refusals.{refusal};
     ghost use Rattle.botcore.specs.Progress.{HasMoreAsks, Leaves, LeavesAll, acting_at};
@@ -75,10 +76,10 @@ impl Doing {
 
     // Does all that calls ask for, in their order, and tells what is refused. Out of memory some of it is done, and asks and
     // lines that came of it can be taken back.
-    pub(crate) fn act_for(
+    pub(crate) fn act_for<D: Disk>(
         &mut self,
         alloc: Global,
-        link: &mut Link,
+        link: &mut BotLink<D>,
         calls: &[MadeCall],
     ) -> Result<(), NoMemory>
         ensures done { OnOk result (LeavesAll link.old self.old (actions_of calls.now) link.new self.new) }
@@ -92,10 +93,10 @@ impl Doing {
     }
 
     // Does these actions, in order.
-    fn act_all(
+    fn act_all<D: Disk>(
         &mut self,
         alloc: Global,
-        link: &mut Link,
+        link: &mut BotLink<D>,
         actions: &[Action],
     ) -> Result<(), NoMemory>
         ensures done { OnOk result (LeavesAll link.old self.old actions.now link.new self.new) }
@@ -110,7 +111,12 @@ impl Doing {
 
     // Does an action, or tells why not.
     #[tactic(auto, using(crate::proofs::AskLemmas::HasMoreAsks_refl, crate::proofs::PutLemmas::HasMoreLines_same))]
-    fn act(&mut self, alloc: Global, link: &mut Link, action: &Action) -> Result<(), NoMemory>
+    fn act<D: Disk>(
+        &mut self,
+        alloc: Global,
+        link: &mut BotLink<D>,
+        action: &Action,
+    ) -> Result<(), NoMemory>
         ensures done { OnOk result (Leaves self.old (acted (acting_at link.old self.old) action.now) link.new self.new) }
         ensures kept { HasMoreAsks link.old link.new }
         ensures lines { HasMoreLines self.old.queues self.new.queues }
@@ -127,9 +133,14 @@ impl Doing {
 
     // Lets a change wait for a pump, or tells why not.
     #[tactic(auto, using(crate::proofs::AskLemmas::HasMoreAsks_refl))]
-    fn ask(&mut self, alloc: Global, link: &mut Link, change: &Change) -> Result<(), NoMemory>
+    fn ask<D: Disk>(
+        &mut self,
+        alloc: Global,
+        link: &mut BotLink<D>,
+        change: &Change,
+    ) -> Result<(), NoMemory>
         ensures done { OnOk result (Leaves self.old
-            (asked_to (acting_at link.old self.old) (link_asked link.old change.now)) link.new self.new) }
+            (asked_to (acting_at link.old self.old) (asked link.old change.now)) link.new self.new) }
         ensures kept { HasMoreAsks link.old link.new }
         ensures queues { self.new.queues ≡ self.old.queues }
     {
@@ -148,7 +159,7 @@ impl Doing {
         kind: TimerKind,
         wish: &TimerWish,
     ) -> Result<(), NoMemory>
-        ensures done { OnOk result ((link : Link) →
+        ensures done { OnOk result ((link : BotEnd) →
             Leaves self.old (timer_made kind (acting_at link self.old) wish.now) link self.new) }
         ensures queues { self.new.queues ≡ self.old.queues }
     {
@@ -165,7 +176,7 @@ impl Doing {
 
     // Takes a timer away, or tells why not.
     fn kill_timer(&mut self, id: u32) -> Result<(), NoMemory>
-        ensures done { OnOk result ((link : Link) →
+        ensures done { OnOk result ((link : BotEnd) →
             Leaves self.old (killed_if (holds self.old.timers id) (acting_at link self.old) id) link self.new) }
         ensures queues { self.new.queues ≡ self.old.queues }
     {
@@ -176,7 +187,12 @@ impl Doing {
     }
 
     // Lets a text go out, or tells why not.
-    fn send_text(&mut self, alloc: Global, link: &Link, wish: &BotWish) -> Result<(), NoMemory>
+    fn send_text<D: Disk>(
+        &mut self,
+        alloc: Global,
+        link: &BotLink<D>,
+        wish: &BotWish,
+    ) -> Result<(), NoMemory>
         ensures done { OnOk result (Leaves self.old (sent_if
             (link_text link.now wish.now.to wish.now.text (length self.old.sent)) (acting_at link.now self.old)) link.now self.new) }
         ensures queues { self.new.queues ≡ self.old.queues }
@@ -190,7 +206,7 @@ impl Doing {
 
     // Puts a line into its queue, or tells why not.
     fn put(&mut self, alloc: Global, wish: &PutWish) -> Result<(), NoMemory>
-        ensures done { OnOk result ((link : Link) → Leaves self.old (put_unless
+        ensures done { OnOk result ((link : BotEnd) → Leaves self.old (put_unless
             (refusal self.old.queues wish.now.queue wish.now.line) (acting_at link self.old) wish.now) link self.new) }
         ensures lines { HasMoreLines self.old.queues self.new.queues }
     {

@@ -14,8 +14,9 @@ use ircline::{Message, source};
 use outqueue::Queue;
 use procstore::PutWish;
 use std::alloc::Global;
+use storage::Disk;
 
-impl Bot {
+impl<D: Disk> Bot<D> {
     ghost use Rattle.std.specs.Prelude.{◌≡◌, [], IfOk, IsOk};
     ghost use Rattle.botcore.specs.Automatic.{automatic_lines, watched_in};
     ghost use Rattle.botcore.specs.Links.{link_records};
@@ -40,7 +41,14 @@ impl Bot {
             Cue::Join => {
                 let from = source(message.prefix.as_bytes());
                 let now = self.clock.last().unwrap_or(0);
-                on_join(alloc, from, params, &self.channels, self.userfile(), now)
+                on_join(
+                    alloc,
+                    from,
+                    params,
+                    self.channels.current(),
+                    self.userfile(),
+                    now,
+                )
             }
             Cue::RplWelcome => join_all(alloc, params, self.config.channels.as_slice()),
             Cue::ErrNicknameInUse => other_nick(alloc, welcomed, params),

@@ -1,24 +1,22 @@
 // One bot.
 use crate::config::Config;
-use crate::fault::BotError;
-use crate::link::Link;
+use crate::presence::Presence;
 use bindtable::BindTable;
+use botlink::BotLink;
 use bottimers::{Clock, Timers};
-use bytetext::{Failure, NoMemory, TryCopy};
-use chanstate::ChanState;
 use outqueue::Queues;
-use std::alloc::Global;
 use std::marker::Model;
+use storage::Disk;
 use userfile::Userfile;
 
-/// A bot: its end of the sharing link, its binds, the channels that it is on, its clock, its timers, and its lines for the
+/// A bot: its end of the sharing link over a journal on two disks, its binds, the channels that it is on, its clock, its timers, and its lines for the
 /// server.
 #[derive(Drop)]
-pub struct Bot {
+pub struct Bot<D: Disk> {
     pub(crate) config: Config,
-    pub(crate) link: Link,
+    pub(crate) link: BotLink<D>,
     pub(crate) binds: BindTable,
-    pub(crate) channels: ChanState,
+    pub(crate) channels: Presence,
     pub(crate) clock: Clock,
     pub(crate) timers: Timers,
     pub(crate) queues: Queues,
@@ -26,7 +24,7 @@ pub struct Bot {
     pub(crate) welcomed: bool,
 }
 
-impl Model for Bot {
+impl<D: Disk> Model for Bot<D> {
     ghost use Rattle.botcore.specs.Bots.{Bot};
 
     ghost Value = { Bot };
@@ -35,7 +33,7 @@ impl Model for Bot {
       config = b.config;
       link = b.link;
       binds = b.binds;
-      channels = b.channels;
+      channels = b.channels.current;
       clock = b.clock;
       timers = b.timers;
       queues = b.queues;
@@ -46,48 +44,18 @@ impl Model for Bot {
     ghost use Rattle.std.specs.Prelude.{◌≡◌};
     ghost use Rattle.bottimers.specs.Civil.{IsOffset};
     ghost use Rattle.outqueue.specs.Sending.{no_room};
+    ghost use Rattle.chanstate.specs.Views.{connected};
 
-    // No timer has seen a second that the clock has not, the clock has an offset of less than a day, and no room is kept for
-    // lines to come.
-    ghost invariant = { λ b. IsReached b.timers.last b.clock × IsOffset b.config.offset × (b.queues.room ≡ no_room) };
+    // No timer has seen a second that the clock has not, the clock has an offset of less than a day, no room is kept for
+    // lines to come, and what it goes back to when it leaves all channels is under its configuration's nick.
+    ghost invariant = { λ b. IsReached b.timers.last b.clock × IsOffset b.config.offset × (b.queues.room ≡ no_room)
+        × (b.channels.first ≡ connected b.config.nick) };
 }
 
-impl Bot {
-    ghost use Rattle.std.specs.Prelude.{◌≡◌, IfOk, OnOk, IfErr};
-    ghost use Rattle.botcore.specs.Configs.{IsGood};
+impl<D: Disk> Bot<D> {
+    ghost use Rattle.std.specs.Prelude.{◌≡◌};
+    ghost use Rattle.linknet.specs.Ends.{end_is_down};
     ghost use Rattle.botcore.specs.Links.{link_records, link_version};
-    ghost use Rattle.botcore.specs.Bots.{new_bot, IsWhyNot};
-
-    /// A bot at version 0, without binds, that is on no channel.
-    ///
-    /// # Errors
-    /// `BadConfig` (G1) where the configuration breaks a rule. `NoMemory` where it breaks none and room for the nick is
-    /// refused.
-    pub fn new(alloc: Global, config: Config) -> Result<Bot, BotError>
-        ensures made { IfOk result (λ bot. bot ≡ new_bot config) }
-        ensures good { OnOk result (IsGood config) }
-        ensures why { IfErr result (λ why. IsWhyNot config why) }
-    {
-        if let Some(fault) = config.refusal() {
-            return Err(Failure::Refused(fault));
-        }
-        let channels = match ChanState::new(alloc, config.nick.as_bytes()) {
-            Ok(channels) => channels,
-            Err(NoMemory) => return Err(Failure::NoMemory),
-        };
-        let link = Link::new(alloc, config.number, config.leaves);
-        let binds = BindTable::new(alloc);
-        Ok(Bot {
-            config,
-            link,
-            binds,
-            channels,
-            clock: Clock::new(),
-            timers: Timers::new(alloc),
-            queues: Queues::new(alloc),
-            welcomed: false,
-        })
-    }
 
     /// What it was told before it was made.
     pub fn config(&self) -> &Config
@@ -96,7 +64,7 @@ impl Bot {
         &self.config
     }
 
-    /// The version of its userfile: how many changes the hub has accepted, or the leaf has applied.
+    /// The version of its userfile: how many changes the hub has accepted, or the number of the last one that the leaf holds.
     pub fn version(&self) -> u32
         ensures { result ≡ link_version self.now.link }
     {
@@ -109,26 +77,12 @@ impl Bot {
     {
         self.link.userfile()
     }
-}
 
-impl TryCopy for Bot {
-    fn copy(&self, alloc: Global) -> Result<Bot, NoMemory> {
-        let config = self.config.copy(alloc)?;
-        let link = self.link.copy(alloc)?;
-        let binds = self.binds.copy(alloc)?;
-        let channels = self.channels.copy(alloc)?;
-        let clock = self.clock.copy(alloc)?;
-        let timers = self.timers.copy(alloc)?;
-        let queues = self.queues.copy(alloc)?;
-        Ok(Bot {
-            config,
-            link,
-            binds,
-            channels,
-            clock,
-            timers,
-            queues,
-            welcomed: self.welcomed,
-        })
+    /// Whether a disk failed, or a restart did not end, since its journal was last opened. Until a restart its end of the link
+    /// takes nothing: no ask, no pump, no packet and no compaction. Lines, readings and binds go on.
+    pub fn is_down(&self) -> bool
+        ensures { result ≡ end_is_down self.now.link.end }
+    {
+        self.link.is_down()
     }
 }

@@ -10,11 +10,12 @@ use crate::report::Faults;
 use botcalls::{Dispatch, MadeCall, Occasion, Scene, Unbound, call_procs};
 use bottimers::Timers;
 use bytetext::{NoMemory, Seq, Texts, TryCopy};
+use linkcalls::Outgoings;
 use outqueue::Queues;
 use procstore::{ProcStore, Promise, Run};
-use sharelink::Outgoings;
 use std::alloc::Global;
 use std::mem;
+use storage::Disk;
 
 // What actions leave, beside the link and the queues.
 #[derive(Drop)]
@@ -38,10 +39,10 @@ pub(crate) struct Told {
     pub(crate) faults: Faults,
 }
 
-impl Bot {
+impl<D: Disk> Bot<D> {
     ghost use Rattle.std.specs.Prelude.{◌≡◌, ◌≤◌, ◌++◌, length, unwrap_or, IfOk, IfSome, OnOk};
     ghost use Rattle.botcore.specs.Rising.{IsReached};
-    ghost use Rattle.sharelink.specs.declared.TheConstants.{MAX_TEXTS};
+    ghost use Rattle.linkcalls.specs.declared.TheConstants.{MAX_TEXTS};
     ghost use Rattle.botcore.specs.Acting.{action_faults, actions_of, faults_of};
     ghost use Rattle.botcore.specs.Bots.{bot_setting};
     ghost use Rattle.botcalls.specs.Dispatched.{IsDispatched};

@@ -2,14 +2,15 @@
 ghost use Rattle.std.specs.Prelude.{◌≡◌, IfSome, IfNone, true};
 ghost use Rattle.std.specs.List.{list_all};
 ghost use Rattle.rfccase.specs.Channels.{is_channel_name};
+ghost use Rattle.botcore.specs.declared.fault.BotFault.TheVariants.{BadConfig as bad_config};
 ghost use Rattle.botcore.specs.Configs.{IsGood, is_nick, is_nick_byte};
 
 use crate::fault::BotFault;
 use crate::limits::MAX_NICK;
 use bottimers::MAX_OFFSET;
 use bytetext::{NoMemory, Text, Texts, TryCopy};
+use linkcalls::MAX_LEAVES;
 use rfccase::is_channel_name;
-use sharelink::MAX_LEAVES;
 use std::alloc::Global;
 
 /// What a bot is told before it is made.
@@ -34,6 +35,7 @@ impl Config {
     pub fn refusal(&self) -> Option<BotFault>
         ensures good { IfNone result (IsGood self.now) }
         ensures bad { IfSome result (λ _. ¬ IsGood self.now) }
+        ensures fault { IfSome result (λ fault. fault ≡ bad_config) }
     {
         if self.leaves > MAX_LEAVES || self.number > self.leaves {
             return Some(BotFault::BadConfig);

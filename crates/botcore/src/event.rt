@@ -2,7 +2,7 @@
 use bindtable::BindKind;
 use bytetext::{NoMemory, Text, TryCopy};
 use ircline::Line;
-use sharelink::Packet;
+use linkcalls::Packet;
 use std::alloc::Global;
 use userfile::Change;
 
@@ -17,7 +17,7 @@ pub enum Event {
     Ask(Change),
     /// The next piece of the link's work is to be done.
     Pump,
-    /// A packet comes over the link.
+    /// A packet comes over the link. The records of a part are of good shape, as those that are read are.
     Receive(Packet),
     /// The clock reads this many seconds since 1970-01-01 00:00 UTC.
     Clock(u64),
@@ -25,6 +25,10 @@ pub enum Event {
     Bind(NewBind),
     /// A bind is to be taken away.
     Unbind(OldBind),
+    /// The journal is to have the state alone, in its next generation.
+    Compact,
+    /// The bot ends, its disks crash, and it begins again with what its journal has.
+    Restart,
 }
 
 impl TryCopy for Event {
@@ -38,6 +42,8 @@ impl TryCopy for Event {
             Event::Clock(now) => Ok(Event::Clock(*now)),
             Event::Bind(asked) => Ok(Event::Bind(asked.copy(alloc)?)),
             Event::Unbind(gone) => Ok(Event::Unbind(gone.copy(alloc)?)),
+            Event::Compact => Ok(Event::Compact),
+            Event::Restart => Ok(Event::Restart),
         }
     }
 }

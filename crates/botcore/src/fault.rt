@@ -2,14 +2,16 @@
 ghost use Rattle.std.specs.Prelude.{◌≡◌};
 ghost use Rattle.std.specs.Option.{option_copied};
 ghost use Rattle.botcore.specs.Configs.{code_of};
+ghost use Rattle.botcore.specs.Making.{of_journal};
 ghost use Rattle.botcore.specs.Codes.{action_code, refusal_code, fault_word, fault_proc};
 
 use bindtable::BindFault;
 use botcalls::Unbound;
 use bottimers::ClockFault;
+use bytejournal::{JournalError, JournalFault};
 use bytetext::{Failure, NoMemory, TryCopy};
+use linkcalls::LinkFault;
 use outqueue::QueueFault;
-use sharelink::LinkFault;
 use std::alloc::Global;
 use thiserror::Error;
 
@@ -19,6 +21,9 @@ pub enum BotFault {
     /// G1: the configuration breaks one of the rules that [`Config`](crate::Config) states.
     #[error("mend the configuration: number, leaves, nick, channels or offset is out of its range")]
     BadConfig,
+    /// J1 where a disk failed, J2 where the disks hold no journal, or not this bot's.
+    #[error("{0}")]
+    Journal(JournalFault),
 }
 
 impl BotFault {
@@ -28,6 +33,7 @@ impl BotFault {
     {
         match self {
             BotFault::BadConfig => "G1",
+            BotFault::Journal(fault) => fault.code(),
         }
     }
 }
@@ -35,10 +41,20 @@ impl BotFault {
 /// Why a bot was not made: a fault, or out of memory where there is none.
 pub type BotError = Failure<BotFault>;
 
+// The same error, of a bot.
+pub(crate) fn of_journal(error: JournalError) -> BotError
+    ensures { result ≡ of_journal error }
+{
+    match error {
+        Failure::Refused(fault) => Failure::Refused(BotFault::Journal(fault)),
+        Failure::NoMemory => Failure::NoMemory,
+    }
+}
+
 /// Why a step is refused.
 #[derive(Clone, Copy, Debug, PartialEq, Eq, Error)]
 pub enum Refusal {
-    /// The link refuses an ask, a pump or a packet.
+    /// The link refuses an ask, a pump, a packet, a compaction or a restart.
     #[error("{0}")]
     Link(LinkFault),
     /// The table of binds refuses to make a bind or to take one away.

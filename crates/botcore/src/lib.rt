@@ -1,17 +1,18 @@
 //! One bot: what it is told, which procs that calls, and what it makes of their answers.
 //!
-//! A [`Config`] says who a bot is. [`Bot::new`] makes it, and [`Bot::step`] does one step: it takes an [`Event`] and
-//! gives a [`Report`]. A message of the server, a text of another bot and a reading of the clock call procs of the store
-//! that the caller lends; every other event calls none.
+//! A [`Config`] says who a bot is. [`Bot::create`] makes it over a journal on two disks, [`Bot::open`] finds it on its
+//! disks again, and [`Bot::step`] does one step: it takes an [`Event`] and gives a [`Report`]. A message of the server, a
+//! text of another bot and a reading of the clock call procs of the store that the caller lends; every other event calls
+//! none.
 //!
 //! What a step may report and leave is stated whole in `specs/Steps.antt`. What happens is in `specs/Happenings.antt`, its
 //! calls are those of `botcalls`, each with a reply that keeps its proc's promise, and what their actions do
 //! is in `specs/Acting.antt`. Lines for the server wait in queues: those that procs put, and those that the bot puts by
 //! itself (`specs/Automatic.antt`). A reading of the clock reports the lines that may go. A step that runs out of memory
-//! leaves the bot as it was.
+//! leaves the bot as it was; a restart that does leaves its end of the link down.
 //!
 //! ```text
-//! let mut bot = Bot::new(alloc, config)?;
+//! let mut bot = Bot::create(alloc, config, first, second)?;
 //! let asked = NewBind { kind: BindKind::Msg, flags, mask, proc };
 //! bot.step(alloc, &store, Event::Bind(asked));            // Done, Bound(1)
 //! let line = read_line(alloc, b":a!b@c PRIVMSG egg0 :hi dave")?;
@@ -32,8 +33,9 @@ mod fault;
 mod joining;
 mod limits;
 mod line;
-mod link;
+mod making;
 mod marks;
+mod presence;
 mod putting;
 mod reading;
 mod report;
@@ -47,5 +49,5 @@ pub use crate::config::Config;
 pub use crate::event::{Event, NewBind, OldBind};
 pub use crate::fault::{ActionFault, BotError, BotFault, Fault, Refusal};
 pub use crate::limits::MAX_NICK;
-pub use crate::link::Link;
+pub use crate::making::Returned;
 pub use crate::report::{End, Faults, Note, Report};

@@ -15,11 +15,12 @@ use chanstate::{ChanState, events};
 use ircline::Message;
 use procstore::{ProcStore, Promise, PutWish, Run};
 use std::alloc::Global;
+use storage::Disk;
 
-impl Bot {
+impl<D: Disk> Bot<D> {
     ghost use Rattle.std.specs.Prelude.{◌≡◌, ◌≤◌, ◌++◌, [], length, map, IfOk, OnOk, OnErr};
     ghost use Rattle.chanstate.specs.Events.{events_of};
-    ghost use Rattle.sharelink.specs.declared.TheConstants.{MAX_TEXTS};
+    ghost use Rattle.linkcalls.specs.declared.TheConstants.{MAX_TEXTS};
     ghost use Rattle.botcalls.specs.declared.occasion.Occasion.TheVariants.{Heard as heard_event};
     ghost use Rattle.botcore.specs.Acting.{faults_of};
     ghost use Rattle.botcore.specs.Bots.{bot_setting};
@@ -61,7 +62,7 @@ impl Bot {
         ensures { IsDispatched (bot_setting P.code_of store.now self.now) P.may
             (map (λ e. heard_event e) (events_of message.now self.now.channels)) result }
     {
-        match heard_of(alloc, message, &self.channels) {
+        match heard_of(alloc, message, self.channels.current()) {
             Ok(occasions) => self.call_procs(alloc, store, occasions.as_slice()),
             Err(NoMemory) => Err(Dispatch::new(alloc)),
         }
@@ -193,7 +194,7 @@ impl Bot {
         let (calls, unbound) = made.into_parts();
         match self.settle(alloc, calls.as_slice(), unbound) {
             Ok(told) => {
-                let note = Note::Link(sharelink::Note::Text { from, text });
+                let note = Note::Link(linkcalls::Note::Text { from, text });
                 Report::told(Some(note), calls, told.packets, told.lines, told.faults)
             }
             Err(NoMemory) => Report::cut_short(alloc, calls),

@@ -1,6 +1,7 @@
 // How far a bot's asks and lines had come, so that those that came since can be taken back.
 use crate::bot::Bot;
 use outqueue::Counts;
+use storage::Disk;
 
 // How many asks and how many lines wait.
 #[derive(Clone, Copy)]
@@ -11,7 +12,7 @@ pub(crate) struct Marks {
     lines: Counts,
 }
 
-impl Bot {
+impl<D: Disk> Bot<D> {
     ghost use Rattle.std.specs.Prelude.{◌≡◌};
     ghost use Rattle.outqueue.specs.Sending.{counts_of, no_room};
     ghost use Rattle.botcore.specs.Links.{ask_count};

@@ -13,6 +13,7 @@ use bytetext::{MOMENTS_END, NoMemory, Seq, Texts, TryCopy};
 use procstore::{ProcStore, Promise, Run};
 use std::alloc::Global;
 use std::mem;
+use storage::Disk;
 
 // What the seconds of a reading bring, and the clock and the timers after them.
 #[derive(Drop)]
@@ -22,12 +23,12 @@ struct Ran {
     occasions: Vec<Occasion>,
 }
 
-impl Bot {
+impl<D: Disk> Bot<D> {
     ghost use Rattle.std.specs.Prelude.{◌≡◌, ◌≤◌, ◌<◌, [], false, Some, length, IfOk, IsOk, OnOk, OnErr};
     ghost use Rattle.bytetext.specs.declared.moment.TheConstants.{MOMENTS_END as end_of_moments};
     ghost use Rattle.botcore.specs.Rising.{IsReached};
     ghost use Rattle.bottimers.specs.Seconds.{reading_fault, seconds_run};
-    ghost use Rattle.sharelink.specs.declared.TheConstants.{MAX_TEXTS};
+    ghost use Rattle.linkcalls.specs.declared.TheConstants.{MAX_TEXTS};
     ghost use Rattle.botcore.specs.Acting.{faults_of};
     ghost use Rattle.botcore.specs.Happenings.{seconds_of};
     ghost use Rattle.botcore.specs.Lines.{acting_of, acting_after, finish_reading};

@@ -8,7 +8,7 @@ use crate::fault::{Fault, Refusal};
 use bindtable::{BindError, BindFault};
 use botcalls::{MadeCalls, is_logged};
 use bytetext::{Failure, NoMemory, Seq, Texts, TryCopy};
-use sharelink::{Answer, LinkError, Outgoings};
+use linkcalls::{Answer, LinkError, Outgoings};
 use std::alloc::Global;
 
 /// How a step ends.
@@ -18,7 +18,7 @@ pub enum End {
     Done,
     /// A rule stands against it.
     Refused(Refusal),
-    /// A growth was refused, and the bot is as it was.
+    /// A growth was refused, and the bot is as it was; its end of the link is down where it was to restart.
     NoMemory,
 }
 
@@ -26,7 +26,7 @@ pub enum End {
 #[derive(Debug, Drop)]
 pub enum Note {
     /// What came of a call of the link.
-    Link(sharelink::Note),
+    Link(linkcalls::Note),
     /// The bind has this number.
     Bound(u32),
     /// The bind of this number is gone.

@@ -4,23 +4,28 @@ use crate::bot::Bot;
 use crate::event::{Event, NewBind, OldBind};
 use crate::putting::put_all;
 use crate::report::{Faults, Note, Report};
+use bottimers::{Clock, Timers};
 use bytetext::{NoMemory, Seq};
-use chanstate::ChanState;
 use ircline::Line;
+use linkcalls::{Answer, Packet};
 use outqueue::Queues;
 use procstore::{ProcStore, Promise, Run};
-use sharelink::{Answer, Packet};
 use std::alloc::Global;
+use storage::Disk;
 use userfile::Change;
 
-impl Bot {
-    ghost use Rattle.std.specs.Prelude.{◌≡◌, ◌≤◌, [], Some, None, Ok, length, IfOk, OnOk, OnErr};
+impl<D: Disk> Bot<D> {
+    ghost use Rattle.std.specs.Prelude.{◌≡◌, ◌≤◌, ◌+◌, [], Some, None, Ok, length, IfOk, OnOk, OnErr};
     ghost use Rattle.botcore.specs.Happenings.{Saying, saying_in};
     ghost use Rattle.botcore.specs.Reports.{answer_report};
-    ghost use Rattle.sharelink.specs.declared.TheConstants.{MAX_LEAVES, MAX_TEXTS};
-    ghost use Rattle.botcore.specs.Links.{link_asked, link_pumped, link_received};
-    ghost use Rattle.botcore.specs.Steps.{TakesStep, TakesText};
-    ghost use Rattle.botcore.specs.Steps.{Gives, GivesRow, GivesBind, GivesUnbind, connect_due, asked_of};
+    ghost use Rattle.linkcalls.specs.declared.TheConstants.{MAX_LEAVES, MAX_TEXTS};
+    ghost use Rattle.linkcalls.specs.Calls.{note_of};
+    ghost use Rattle.linkcalls.specs.Shapes.{AreGood, HasGoodRecords};
+    ghost use Rattle.protocol.specs.Network.Event.{Pump as pumps, Compact as compacts};
+    ghost use Rattle.botlink.specs.Links.{did};
+    ghost use Rattle.botcore.specs.Bots.{restarted};
+    ghost use Rattle.botcore.specs.Steps.{TakesStep, TakesText, IsGoodEvent};
+    ghost use Rattle.botcore.specs.Steps.{Gives, GivesAsk, GivesRow, GivesRestart, GivesBind, GivesUnbind, connect_due, asked_of};
 
     /// Does one step: the bot is told this event, and reports what came of it.
     ///
@@ -32,17 +37,26 @@ impl Bot {
     /// the last, ends with the lines that may go then. Each other event is one call of the link or of the table of binds, or
     /// a connect, and calls nothing.
     ///
-    /// The report ends `NoMemory` where a growth was refused: then the bot is as it was, and the calls that were made
-    /// are the first of those that would be made. A line that is no message, a reading that is refused or not above the
-    /// last, a bind that is taken away, and each call of the link that takes no memory never end so.
+    /// A restart crashes the disks and opens the journal again. It loses the asks that wait, the channels, the clock, the
+    /// timers and the lines for the server, and the next timer has the id 1; the binds stay, and their numbers go on. Where
+    /// it is refused or memory runs out, the bot's end of the link is down, and all else stays. It is down as well after a
+    /// disk failed while the journal was written (S5). While it is down, asks, pumps, packets and compactions are refused
+    /// (S2), and so is what procs ask for and tell other bots; all else goes on.
+    ///
+    /// The report ends `NoMemory` where a growth was refused: then the bot is as it was, but for a restart, and the calls
+    /// that were made are the first of those that would be made. A line that is no message, a reading that is refused or not
+    /// above the last, a bind that is taken away, and each call of the link that takes no memory never end so. At most 1,001
+    /// packets are to be sent.
     pub fn step<P: Promise, B: Run>(
         &mut self,
         alloc: Global,
         store: &ProcStore<P, B>,
         event: Event,
     ) -> Report
+        requires good { IsGoodEvent event }
         ensures takes { TakesStep P.code_of P.may store.now self.old event result self.new }
-        ensures few { length result.packets ≤ MAX_LEAVES }
+        ensures few { length result.packets ≤ MAX_LEAVES + 1 }
+        ensures good_records { AreGood result.packets }
     {
         match event {
             Event::Connect => self.connect(alloc),
@@ -53,6 +67,8 @@ impl Bot {
             Event::Clock(now) => self.read_clock(alloc, store, now),
             Event::Bind(asked) => self.bind(alloc, &asked),
             Event::Unbind(gone) => self.unbind(alloc, &gone),
+            Event::Compact => self.compact(alloc),
+            Event::Restart => self.restart(alloc),
         }
     }
 
@@ -77,12 +93,11 @@ impl Bot {
         ensures ok { OnOk result (self.new ≡ (connect_due self.old).after) }
         ensures err { OnErr result (self.new ≡ self.old) }
     {
-        let channels = ChanState::new(alloc, self.config.nick.as_bytes())?;
         let wishes = greeting(alloc, &self.config)?;
         let mut queues = Queues::new(alloc);
         let mut faults = Seq::empty(alloc);
         put_all(&mut queues, &mut faults, wishes)?;
-        self.channels = channels;
+        self.channels.leave_all();
         self.queues = queues;
         self.welcomed = false;
         Ok(faults)
@@ -97,6 +112,7 @@ impl Bot {
     ) -> Report
         ensures takes { TakesStep P.code_of P.may store.now self.old (Event.Line line.now) result self.new }
         ensures few { length result.packets ≤ MAX_TEXTS }
+        ensures good_records { AreGood result.packets }
     {
         match line {
             Line::Message(message) => self.hear(alloc, store, message),
@@ -106,8 +122,9 @@ impl Bot {
 
     // A change is asked for.
     fn ask(&mut self, alloc: Global, change: Change) -> Report
-        ensures row { GivesRow self.old (link_asked self.old.link change) result self.new }
-        ensures few { length result.packets ≤ MAX_LEAVES }
+        ensures takes { GivesAsk self.old change result self.new }
+        ensures few { length result.packets ≤ MAX_LEAVES + 1 }
+        ensures good_records { AreGood result.packets }
     {
         let answer = self.link.ask(alloc, change);
         Report::of_answer(alloc, answer)
@@ -115,11 +132,48 @@ impl Bot {
 
     // The next piece of the link's work.
     fn pump(&mut self, alloc: Global) -> Report
-        ensures row { GivesRow self.old (link_pumped self.old.link) result self.new }
-        ensures few { length result.packets ≤ MAX_LEAVES }
+        ensures takes { GivesRow self.old (did self.old.link pumps) result self.new }
+        ensures few { length result.packets ≤ MAX_LEAVES + 1 }
+        ensures good_records { AreGood result.packets }
     {
         let answer = self.link.pump(alloc);
         Report::of_answer(alloc, answer)
+    }
+
+    // The journal is to have the state alone.
+    fn compact(&mut self, alloc: Global) -> Report
+        ensures takes { GivesRow self.old (did self.old.link compacts) result self.new }
+        ensures few { length result.packets ≤ MAX_LEAVES + 1 }
+        ensures good_records { AreGood result.packets }
+    {
+        let answer = self.link.compact(alloc);
+        Report::of_answer(alloc, answer)
+    }
+
+    // The journal is opened again, and then the bot begins anew.
+    fn restart(&mut self, alloc: Global) -> Report
+        ensures takes { GivesRestart self.old result self.new }
+        ensures few { length result.packets ≤ MAX_LEAVES + 1 }
+        ensures good_records { AreGood result.packets }
+    {
+        match self.link.restart(alloc) {
+            Ok(answer) => {
+                self.lose(alloc);
+                Report::of_answer(alloc, Ok(answer))
+            }
+            Err(why) => Report::of_answer(alloc, Err(why)),
+        }
+    }
+
+    // Loses all but its binds and its end of the link. Takes no memory.
+    fn lose(&mut self, alloc: Global)
+        ensures { self.new ≡ restarted self.old self.old.link }
+    {
+        self.channels.leave_all();
+        self.clock = Clock::new();
+        self.timers = Timers::new(alloc);
+        self.queues = Queues::new(alloc);
+        self.welcomed = false;
     }
 
     // A packet comes.
@@ -129,8 +183,10 @@ impl Bot {
         store: &ProcStore<P, B>,
         packet: &Packet,
     ) -> Report
+        requires { HasGoodRecords packet.now }
         ensures takes { TakesStep P.code_of P.may store.now self.old (Event.Receive packet.now) result self.new }
-        ensures few { length result.packets ≤ MAX_LEAVES }
+        ensures few { length result.packets ≤ MAX_LEAVES + 1 }
+        ensures good_records { AreGood result.packets }
     {
         match self.link.receive(alloc, packet) {
             Ok(answer) => self.take_answer(alloc, store, answer),
@@ -145,16 +201,16 @@ impl Bot {
         store: &ProcStore<P, B>,
         answer: Answer,
     ) -> Report
-        requires { length answer.packets ≤ MAX_LEAVES }
-        ensures text { (saying : Saying) → saying_in answer.note ≡ Some saying
+        requires { length answer.packets ≤ MAX_LEAVES + 1 }
+        ensures text { (saying : Saying) → saying_in (note_of answer.note) ≡ Some saying
             → TakesText P.code_of P.may store.now self.old saying result self.new }
-        ensures report { saying_in answer.note ≡ None → result ≡ answer_report (Ok answer) }
-        ensures same { saying_in answer.note ≡ None → self.new ≡ self.old }
-        ensures few { length result.packets ≤ MAX_LEAVES }
+        ensures report { saying_in (note_of answer.note) ≡ None → result ≡ answer_report (Ok answer) }
+        ensures same { saying_in (note_of answer.note) ≡ None → self.new ≡ self.old }
+        ensures few { length result.packets ≤ MAX_LEAVES + 1 }
     {
         let Answer { note, packets } = answer;
         match note {
-            sharelink::Note::Text { from, text } => self.hear_text(alloc, store, from, text),
+            linkcalls::Note::Text { from, text } => self.hear_text(alloc, store, from, text),
             note => Report::of_answer(alloc, Ok(Answer { note, packets })),
         }
     }

@@ -6,7 +6,7 @@ use Rattle.ircline.specs.Stream.{lines_of, held_of}
 use Rattle.procstore.specs.declared.action.Action.{Action}
 use Rattle.procstore.specs.declared.call.Call.{Call}
 use Rattle.procstore.specs.declared.reply.Code.{Code}
-use Rattle.sharelink.specs.declared.answer.Outgoing.{Outgoing}
+use Rattle.linkcalls.specs.declared.answer.Outgoing.{Outgoing}
 use Rattle.botcore.specs.declared.event.Event.{Event}
 use Rattle.botcore.specs.declared.event.Event.TheVariants.{Line}
 use Rattle.botcore.specs.declared.report.End.TheVariants.{NoMemory}

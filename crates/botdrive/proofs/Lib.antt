@@ -1,3 +1,4 @@
 pub mod DriveLemmas
 pub mod DrivingLemmas
 pub mod OutputLemmas
+pub mod PacketLemmas

@@ -7,7 +7,7 @@ use Rattle.ircline.specs.Stream.{lines_of, held_of}
 use Rattle.procstore.specs.declared.action.Action.{Action}
 use Rattle.procstore.specs.declared.call.Call.{Call}
 use Rattle.procstore.specs.declared.reply.Code.{Code}
-use Rattle.sharelink.specs.declared.answer.Outgoing.{Outgoing}
+use Rattle.linkcalls.specs.declared.answer.Outgoing.{Outgoing}
 use Rattle.botdrive.specs.declared.driving.DriveEnd.{DriveEnd}
 use Rattle.botdrive.specs.declared.driving.DriveEnd.TheVariants.{Done, Read, Write, NoMemory}
 use Rattle.botdrive.specs.declared.driving.DriveReport.{DriveReport}

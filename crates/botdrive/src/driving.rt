@@ -3,6 +3,7 @@ ghost use Rattle.std.specs.Prelude.{◌≡◌, ◌<◌, true, false, Some, OnOk,
 ghost use Rattle.bytetext.specs.declared.moment.TheConstants.{MOMENTS_END};
 ghost use Rattle.botdrive.specs.Driving.{Drives, DrivesTo, TakesAll, TakesSome, course_at};
 ghost use Rattle.botdrive.specs.Outboxes.{course_of};
+ghost use Rattle.linkcalls.specs.Shapes.{AreGood};
 
 use crate::hearing::hear_all;
 use crate::input::{Input, Memory};
@@ -11,10 +12,11 @@ use crate::output::write_out;
 use botcore::Bot;
 use bytetext::{NoMemory, Seq};
 use ircline::LineReader;
+use linkcalls::Outgoings;
 use procstore::{ProcStore, Promise, Run};
-use sharelink::Outgoings;
 use std::alloc::Global;
 use std::io::{Read, Write};
+use storage::Disk;
 
 /// How a drive ends.
 #[derive(Clone, Copy, Debug, PartialEq, Eq)]
@@ -35,7 +37,7 @@ pub enum DriveEnd {
 pub struct DriveReport {
     /// How it ended.
     pub end: DriveEnd,
-    /// The packets of the steps that it made, in order, to be sent over the link.
+    /// The packets of the steps that it made, in order, to be sent over the link: texts, so that no record is in them.
     pub packets: Outgoings,
 }
 
@@ -58,9 +60,9 @@ pub struct DriveReport {
 /// let report = drive(alloc, &mut bot, &store, &mut lines, &mut reader, &mut writer, now);
 /// for packet in report.packets.into_vec() { .. }             // to the other bots
 /// ```
-pub fn drive<P: Promise, B: Run, R: Read, W: Write>(
+pub fn drive<P: Promise, D: Disk, B: Run, R: Read, W: Write>(
     alloc: Global,
-    bot: &mut Bot,
+    bot: &mut Bot<D>,
     store: &ProcStore<P, B>,
     lines: &mut LineReader,
     reader: &mut R,
@@ -68,19 +70,20 @@ pub fn drive<P: Promise, B: Run, R: Read, W: Write>(
     now: u64,
 ) -> DriveReport
     requires { now < MOMENTS_END }
-    ensures { Drives true P.code_of P.may store.now now
+    ensures drives { Drives true P.code_of P.may store.now now
         (record { bot = bot.old; held = lines.old; left = R.remaining reader.old; written = W.contents writer.old })
         result
         (record { bot = bot.new; held = lines.new; left = R.remaining reader.new; written = W.contents writer.new }) }
+    ensures good { AreGood result.packets }
 {
     drive_over(alloc, bot, store, lines, reader, writer, now)
 }
 
 /// Drives a bot over bytes that are all there, of which the first are taken: it ends `Done` only where none is left, or
 /// 1,000 or more were taken, and never `Read`. Otherwise as [`drive`], for the moment `now` too.
-pub fn drive_bytes<P: Promise, B: Run, W: Write>(
+pub fn drive_bytes<P: Promise, D: Disk, B: Run, W: Write>(
     alloc: Global,
-    bot: &mut Bot,
+    bot: &mut Bot<D>,
     store: &ProcStore<P, B>,
     lines: &mut LineReader,
     bytes: &mut &[u8],
@@ -88,10 +91,11 @@ pub fn drive_bytes<P: Promise, B: Run, W: Write>(
     now: u64,
 ) -> DriveReport
     requires { now < MOMENTS_END }
-    ensures { Drives false P.code_of P.may store.now now
+    ensures drives { Drives false P.code_of P.may store.now now
         (record { bot = bot.old; held = lines.old; left = Some bytes.old.now; written = W.contents writer.old })
         result
         (record { bot = bot.new; held = lines.new; left = Some bytes.new.now; written = W.contents writer.new }) }
+    ensures good { AreGood result.packets }
 {
     let mut memory = Memory { bytes: *bytes };
     let report = drive_over(alloc, bot, store, lines, &mut memory, writer, now);
@@ -100,19 +104,20 @@ pub fn drive_bytes<P: Promise, B: Run, W: Write>(
 }
 
 // Drives a bot over any input.
-fn drive_over<P: Promise, B: Run, I: Input, W: Write>(
+fn drive_over<P: Promise, D: Disk, B: Run, I: Input, W: Write>(
     alloc: Global,
-    bot: &mut Bot,
+    bot: &mut Bot<D>,
     store: &ProcStore<P, B>,
     lines: &mut LineReader,
     input: &mut I,
     writer: &mut W,
     now: u64,
 ) -> DriveReport
-    ensures { Drives I.stalls P.code_of P.may store.now now
+    ensures drives { Drives I.stalls P.code_of P.may store.now now
         (record { bot = bot.old; held = lines.old; left = I.left input.old; written = W.contents writer.old })
         result
         (record { bot = bot.new; held = lines.new; left = I.left input.new; written = W.contents writer.new }) }
+    ensures good { AreGood result.packets }
 {
     let mut outbox = Outbox::new(alloc);
     let end = drive_with(alloc, bot, store, lines, input, writer, now, &mut outbox);
@@ -123,9 +128,9 @@ fn drive_over<P: Promise, B: Run, I: Input, W: Write>(
 }
 
 // Drives a bot with an empty outbox.
-fn drive_with<P: Promise, B: Run, I: Input, W: Write>(
+fn drive_with<P: Promise, D: Disk, B: Run, I: Input, W: Write>(
     alloc: Global,
-    bot: &mut Bot,
+    bot: &mut Bot<D>,
     store: &ProcStore<P, B>,
     lines: &mut LineReader,
     input: &mut I,
@@ -149,9 +154,9 @@ fn drive_with<P: Promise, B: Run, I: Input, W: Write>(
 }
 
 // Takes in what has come, and reads the clock.
-fn take_in<P: Promise, B: Run, I: Input>(
+fn take_in<P: Promise, D: Disk, B: Run, I: Input>(
     alloc: Global,
-    bot: &mut Bot,
+    bot: &mut Bot<D>,
     store: &ProcStore<P, B>,
     lines: &mut LineReader,
     input: &mut I,

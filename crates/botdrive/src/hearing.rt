@@ -11,6 +11,7 @@ use bytetext::NoMemory;
 use ircline::LineReader;
 use procstore::{ProcStore, Promise, Run};
 use std::alloc::Global;
+use storage::Disk;
 
 // How often a drive reads at most.
 const MAX_READS: usize = 1000;
@@ -19,9 +20,9 @@ const MAX_READS: usize = 1000;
 const PIECE: usize = 4096;
 
 // Reads all that there is now, or 1,000 pieces of it, and makes a step of each line that they end.
-pub(crate) fn hear_all<P: Promise, B: Run, I: Input>(
+pub(crate) fn hear_all<P: Promise, D: Disk, B: Run, I: Input>(
     alloc: Global,
-    bot: &mut Bot,
+    bot: &mut Bot<D>,
     store: &ProcStore<P, B>,
     lines: &mut LineReader,
     input: &mut I,
@@ -45,9 +46,9 @@ pub(crate) fn hear_all<P: Promise, B: Run, I: Input>(
 }
 
 // Reads a piece, and makes a step of each line that it ends. Whether there may be more.
-fn hear_piece<P: Promise, B: Run, I: Input>(
+fn hear_piece<P: Promise, D: Disk, B: Run, I: Input>(
     alloc: Global,
-    bot: &mut Bot,
+    bot: &mut Bot<D>,
     store: &ProcStore<P, B>,
     lines: &mut LineReader,
     input: &mut I,
@@ -74,9 +75,9 @@ fn hear_piece<P: Promise, B: Run, I: Input>(
 }
 
 // Takes bytes in, and makes a step of each line that they end.
-fn hear_bytes<P: Promise, B: Run>(
+fn hear_bytes<P: Promise, D: Disk, B: Run>(
     alloc: Global,
-    bot: &mut Bot,
+    bot: &mut Bot<D>,
     store: &ProcStore<P, B>,
     lines: &mut LineReader,
     bytes: &[u8],

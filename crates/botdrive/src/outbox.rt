@@ -1,7 +1,7 @@
 // What the steps of a drive have to send, and the steps that put it there.
 ghost use Rattle.std.specs.Prelude.{◌≡◌, ◌≢◌, ◌≤◌, ◌<◌, ◌+◌, ◌++◌, ◌∷◌, [], length, OnOk, OnErr, IfErr, vec_len, vec_capacity};
 ghost use Rattle.std.specs.List.{flat_map};
-ghost use Rattle.sharelink.specs.declared.TheConstants.{MAX_TEXTS as most_texts};
+ghost use Rattle.linkcalls.specs.declared.TheConstants.{MAX_TEXTS as most_texts};
 ghost use Rattle.botcore.specs.declared.event.Event.TheVariants.{Line as line_event, Clock as clock_event};
 ghost use Rattle.botcore.specs.declared.report.End.TheVariants.{NoMemory as ends_no_memory};
 ghost use Rattle.botdrive.specs.Driving.{Makes, MakesFirst, line_events, text_of};
@@ -10,9 +10,10 @@ ghost use Rattle.botdrive.specs.Outboxes.{course_of};
 use botcore::{Bot, End, Report};
 use bytetext::{NoMemory, Texts};
 use ircline::Line;
+use linkcalls::{MAX_TEXTS, Outgoing, Outgoings};
 use procstore::{ProcStore, Promise, Run};
-use sharelink::{MAX_TEXTS, Outgoing, Outgoings};
 use std::alloc::Global;
+use storage::Disk;
 
 // What steps have to send: packets over the link, and lines to the server, of each step that has some.
 #[derive(Drop)]
@@ -83,9 +84,9 @@ impl Outbox {
 }
 
 // Makes a step of a line. Out of memory the bot is as it was.
-fn step_line<P: Promise, B: Run>(
+fn step_line<P: Promise, D: Disk, B: Run>(
     alloc: Global,
-    bot: &mut Bot,
+    bot: &mut Bot<D>,
     store: &ProcStore<P, B>,
     line: &Line,
     outbox: &mut Outbox,
@@ -100,9 +101,9 @@ fn step_line<P: Promise, B: Run>(
 }
 
 // Makes a step of a reading of the clock. Out of memory the bot is as it was.
-pub(crate) fn step_clock<P: Promise, B: Run>(
+pub(crate) fn step_clock<P: Promise, D: Disk, B: Run>(
     alloc: Global,
-    bot: &mut Bot,
+    bot: &mut Bot<D>,
     store: &ProcStore<P, B>,
     now: u64,
     outbox: &mut Outbox,
@@ -117,9 +118,9 @@ pub(crate) fn step_clock<P: Promise, B: Run>(
 }
 
 // Makes a step of each line, in order. Out of memory the first of them are made.
-pub(crate) fn step_lines<P: Promise, B: Run>(
+pub(crate) fn step_lines<P: Promise, D: Disk, B: Run>(
     alloc: Global,
-    bot: &mut Bot,
+    bot: &mut Bot<D>,
     store: &ProcStore<P, B>,
     lines: &[Line],
     outbox: &mut Outbox,

@@ -1,167 +1,196 @@
--- What a step of one bot leaves of its link, whatever it is told.
-use Rattle.std.proofs.Common.{◌≡◌, ◌≢◌, ℕ, Bool, true, false, List, [], Option, None, Some, refl, ap, sym, subst, arith}
+-- What a step of one bot leaves of its end of the link, whatever it is told.
+use Rattle.std.proofs.Common.{◌≡◌, inl, ℕ, Bool, true, false, List, ◌++◌, slice_set, Option, None, Some, refl, ap, sym, subst, ◌∙◌}
 use Rattle.bottimers.specs.declared.fault.ClockFault.{ClockFault}
 use Rattle.bottimers.specs.Seconds.{reading_fault}
 use Rattle.ircline.specs.declared.line.Line.TheVariants.{Message as a_message, Bad as a_bad_line}
 use Rattle.sharewire.specs.declared.packet.Packet.{Packet}
-use Rattle.sharelink.specs.Meets.{Row, AnswerTakesMemory}
-use Rattle.sharelink.specs.declared.accepted.AcceptedChange.{AcceptedChange}
-use Rattle.sharelink.specs.declared.error.LinkFault.TheVariants.{Diverged}
 use Rattle.procstore.specs.declared.action.Action.{Action}
 use Rattle.procstore.specs.declared.call.Call.{Call}
 use Rattle.procstore.specs.declared.reply.Code.{Code}
 use Rattle.bindtable.specs.declared.bind.Bind.{Bind as HeldBind}
 use Rattle.bindtable.specs.declared.fault.BindFault.{BindFault}
 use Rattle.bindtable.specs.Tables.{Asked, refusal}
+use Rattle.protocol.specs.Numbers.{item_at}
+use Rattle.protocol.specs.Packets.{Sent, AcceptedChange, from_wire}
+use Rattle.protocol.specs.Bots.{How, Works, Row}
+use Rattle.protocol.specs.History.{History}
+use Rattle.protocol.specs.Truth.{IsKeptAnswer, AllOutgoing}
+use Rattle.protocol.specs.Network.{posted}
+use Rattle.protocol.specs.Network.Event.{Ask as asks, Pump as pumps, Compact as compacts, Restart as restarts}
+use Rattle.linknet.specs.Ends.{End as LinkEnd, end_received}
+use Rattle.linknet.specs.Nets.{IsMoment, RowFollows}
+use Rattle.linknet.proofs.Goes.{received_goes}
+use Rattle.linkcalls.specs.declared.answer.Outgoing.{Outgoing}
+use Rattle.linkcalls.specs.Calls.{outgoings_of}
+use Rattle.botlink.specs.Links.{BotEnd, did, took, Calls}
 use Rattle.botcore.specs.declared.event.Event.{Event}
-use Rattle.botcore.specs.declared.event.Event.TheVariants.{Connect, Line, Ask, Pump, Receive, Clock, Bind, Unbind}
+use Rattle.botcore.specs.declared.event.Event.TheVariants.{Connect, Line, Ask, Pump, Receive, Clock, Bind, Unbind, Compact, Restart}
 use Rattle.botcore.specs.declared.event.OldBind.{OldBind}
-use Rattle.botcore.specs.declared.fault.Refusal.TheVariants.{Link as link_refusal}
-use Rattle.botcore.specs.declared.link.Link.{Link}
 use Rattle.botcalls.specs.declared.made_call.MadeCall.{MadeCall}
 use Rattle.botcore.specs.declared.report.End.{End}
 use Rattle.botcore.specs.declared.report.End.TheVariants.{Done, Refused, NoMemory}
 use Rattle.botcore.specs.declared.report.Note.{Note}
 use Rattle.botcore.specs.declared.report.Report.{Report}
-use Rattle.botcore.specs.Bots.{Bot}
+use Rattle.botcore.specs.Bots.{Bot, with_failures}
 use Rattle.botcalls.specs.Calls.{Telling}
 use Rattle.botcore.specs.Acting.{actions_of}
 use Rattle.botcore.specs.Happenings.{Saying, saying_of}
 use Rattle.botcore.specs.Lines.{acting_of, acting_after, Finish, finish_text, finish_line, finish_reading}
-use Rattle.botcore.specs.Links.{link_version, link_asked, link_pumped, link_received}
 use Rattle.botcore.specs.Reports.{plain, out_of_memory}
-use Rattle.botcore.specs.Steps.{Due, connect_due, link_due, bind_due, unbind_due, bind_to_go, asked_of, Gives, TakesCalls, text_note, TakesPacket}
+use Rattle.botcore.specs.Steps.{Due, connect_due, bind_due, unbind_due, bind_to_go, asked_of, Gives, GivesCall, TakesCalls, text_note, TakesPacket}
 use Rattle.botcore.specs.Steps.{is_stale, run_to, TakesMoment, TakesReading, TakesStep}
-use Rattle.botworld.specs.Network.{IsLinkAt, IsTrueChange, AllTaken, GrowsByNote}
-use Rattle.botworld.proofs.Links.{LinkGoes, keeps, RowGoes, link_asks, link_pumps, link_receives, ActsKept, acts_keep}
+use Rattle.botworld.specs.Network.{IsFineReport, GrowsByNote}
+use Rattle.botworld.proofs.BotEnds.{IsAmong, LinkGoes, Goes, stays, calls_go, ask_goes, restart_goes, did_row}
+use Rattle.botworld.proofs.Acts.{none_go, acts_go}
 
-abbrev pub BotGoes : List AcceptedChange → ℕ → ℕ → Bot → Report → Bot → Type 0
-BotGoes all bots place old report new = LinkGoes all bots place old.link report.end report.note report.packets new.link
+-- ---- one bot
 
--- a packet that a bot is told is true
-abbrev pub IsTrueEvent : List AcceptedChange → Event → Type 0
-IsTrueEvent all (Receive packet) = IsTrueChange all packet
-IsTrueEvent all other = Unit {0}
+-- a packet that a bot is told was sent to it
+abbrev pub WasSentTo : List Sent → ℕ → Event → Type 0
+WasSentTo sent place (Receive packet) =
+    (number from : ℕ) × (item_at sent number ≡ Some (record { from = from; to = place; packet = from_wire packet }))
+WasSentTo sent place other = Unit {0}
 
--- nothing is sent, and the link stays
-put_goes : (all : List AcceptedChange) (bots place : ℕ) (old : Bot) (end : End) (note : Option Note) (new : Bot) → IsLinkAt all bots place old.link
-    → AllTaken all
-    → GrowsByNote place note all all → end ≢ Refused (link_refusal Diverged) → new.link ≡ old.link → BotGoes all bots place old (plain end note) new
-put_goes all bots place old end note new at taken grows other same =
-    subst (λ (l : Link). LinkGoes all bots place old.link end note [] l) (sym same)
-    (keeps all bots place old.link end note [] old.link at taken tt (omega arith) grows other)
+module _ (code_of : List ℕ → Call → Code) (may : List ℕ → Call → List Action → Type 0) (names : List (List ℕ))
+    (h : History) (all : List LinkEnd) (sent : List Sent) (place : ℕ) (old : Bot) (among : IsAmong h all sent place old.link) where
+  abbrev BotGoes : Report → Bot → Type 0
+  BotGoes report new = Goes h all sent place old.link among report new.link
 
-short_goes : (all : List AcceptedChange) (bots place : ℕ) (old : Bot) → IsLinkAt all bots place old.link → AllTaken all
-    → BotGoes all bots place old out_of_memory old
-short_goes all bots place old at taken = put_goes all bots place old NoMemory None old at taken refl (λ e. cc) refl
+  -- nothing is sent, and the end of the link stays
+  put_goes : (end : End) (note : Option Note) (new : Bot) → IsFineReport end note
+      → GrowsByNote place note h.hub.kept.accepted h.hub.kept.accepted → new.link ≡ old.link → BotGoes (plain end note) new
+  put_goes end note new fine grows same =
+      stays h all sent place old.link among end note new.link fine grows (ap (λ (b : BotEnd). b.end) same) (ap (λ (b : BotEnd). b.number) same)
+      (ap (λ (b : BotEnd). b.leaves) same)
 
-same_goes : (all : List AcceptedChange) (bots place : ℕ) (old : Bot) (r : Report) (b : Bot) (report : Report) (new : Bot)
-    → report ≡ r → new ≡ b → BotGoes all bots place old r b → BotGoes all bots place old report new
-same_goes all bots place old r b report new e f goes =
-    subst (λ (z : Report). BotGoes all bots place old z new) (sym e) (subst (λ (z : Bot). BotGoes all bots place old r z) (sym f) goes)
+  same_goes : (r : Report) (b : Bot) (report : Report) (new : Bot) → report ≡ r → new ≡ b → BotGoes r b → BotGoes report new
+  same_goes r b report new e f goes =
+      subst (λ (z : Report). BotGoes z new) (sym e) (subst (λ (z : Bot). BotGoes r z) (sym f) goes)
 
--- what is due goes so, or memory ran out
-gives_goes : (all : List AcceptedChange) (bots place : ℕ) (old : Bot) → IsLinkAt all bots place old.link → AllTaken all
-    → (Grows : Type 0) (due : Due) (report : Report) (new : Bot) → BotGoes all bots place old due.report due.after
-    → (end : End) → Gives end Grows old due report new → BotGoes all bots place old report new
-gives_goes all bots place old at taken Grows due report new goes Done g = same_goes all bots place old _ _ report new g.0 g.1 goes
-gives_goes all bots place old at taken Grows due report new goes (Refused why) g = same_goes all bots place old _ _ report new g.0 g.1 goes
-gives_goes all bots place old at taken Grows due report new goes NoMemory g =
-    same_goes all bots place old _ _ report new g.1 g.2 (short_goes all bots place old at taken)
+  short_goes : BotGoes out_of_memory old
+  short_goes = put_goes NoMemory None old (record { undiverged = λ e. cc; no_gap = λ e. cc }) refl refl
 
--- a call of the link
-row_goes : (all : List AcceptedChange) (bots place : ℕ) (old : Bot) → IsLinkAt all bots place old.link → AllTaken all
-    → (row : Row Link) (report : Report) (new : Bot)
-    → RowGoes all bots place old.link row → Gives report.end (AnswerTakesMemory row.answer) old (link_due old row) report new
-    → BotGoes all bots place old report new
-row_goes all bots place old at taken row report new goes g =
-    gives_goes all bots place old at taken (AnswerTakesMemory row.answer) (link_due old row) report new goes report.end g
+  -- what is due goes so, or memory ran out
+  gives_goes : (Grows : Type 0) (due : Due) (report : Report) (new : Bot) → BotGoes due.report due.after
+      → (end : End) → Gives end Grows old due report new → BotGoes report new
+  gives_goes Grows due report new goes Done g = same_goes _ _ report new g.0 g.1 goes
+  gives_goes Grows due report new goes (Refused why) g = same_goes _ _ report new g.0 g.1 goes
+  gives_goes Grows due report new goes NoMemory g = same_goes _ _ report new g.1 g.2 short_goes
 
--- a call of the table of binds
-bind_goes : (all : List AcceptedChange) (bots place : ℕ) (old : Bot) → IsLinkAt all bots place old.link → AllTaken all → (asked : Asked) (r : Option BindFault)
-    → BotGoes all bots place old (bind_due old asked r).report (bind_due old asked r).after
-bind_goes all bots place old at taken asked None = put_goes all bots place old Done _ (bind_due old asked None).after at taken refl (λ e. cc) refl
-bind_goes all bots place old at taken asked (Some fault) = put_goes all bots place old (Refused _) None old at taken refl (λ e. cc) refl
+  -- a call of the link
+  call_goes : (row : How → Row LinkEnd) → ((how : How) → RowFollows h all sent place (row how))
+      → {left : _} (report : Report) (new : Bot) → GivesCall (Calls old.link row) left report new → BotGoes report new
+  call_goes row goes report new g =
+      subst (λ (r : Report). BotGoes r new) (sym g.report) (calls_go h all sent place old.link among row g.answer new.link goes g.met)
 
-unbind_goes : (all : List AcceptedChange) (bots place : ℕ) (old : Bot) → IsLinkAt all bots place old.link → AllTaken all
-    → (gone : OldBind) (r : Option HeldBind)
-    → BotGoes all bots place old (unbind_due old gone r).report (unbind_due old gone r).after
-unbind_goes all bots place old at taken gone None = put_goes all bots place old (Refused _) None old at taken refl (λ e. cc) refl
-unbind_goes all bots place old at taken gone (Some bind) =
-    put_goes all bots place old Done _ (unbind_due old gone (Some bind)).after at taken refl (λ e. cc) refl
+  -- a call of the table of binds
+  bind_goes : (asked : Asked) (r : Option BindFault) → BotGoes (bind_due old asked r).report (bind_due old asked r).after
+  bind_goes asked None =
+      put_goes Done _ (bind_due old asked None).after (record { undiverged = λ e. cc; no_gap = λ e. cc }) refl refl
+  bind_goes asked (Some fault) = put_goes (Refused _) None old (record { undiverged = λ e. cc; no_gap = λ e. cc }) refl refl
 
--- calls, whose actions are done from a bot with this link on: what goes out are texts
-calls_goes : (code_of : List ℕ → Call → Code) (may : List ℕ → Call → List Action → Type 0) (told : List Telling)
-    (all : List AcceptedChange) (bots place : ℕ) (old start : Bot) (note : Option Note) (finish : List MadeCall → Finish) (report : Report) (new : Bot)
-    → IsLinkAt all bots place old.link → AllTaken all → start.link ≡ old.link → ((calls : List MadeCall) → (finish calls).after.link ≡ (acting_after start calls).link)
-    → GrowsByNote place note all all → (end : End) → report.end ≡ end → TakesCalls end code_of may told old start note finish report new
-    → BotGoes all bots place old report new
-calls_goes code_of may told all bots place old start note finish report new at taken starts ends grows Done e h =
-    let first : ActsKept all bots place (link_version old.link) (acting_of start) = record {
-      link = subst (IsLinkAt all bots place) (sym starts) at;
-      shown = ap link_version starts;
-      truth = tt;
-    } in
-    let kept = acts_keep all bots place (link_version old.link) (acting_of start) (actions_of report.calls) first in
-    let same = ends report.calls in
-    rw (e, h.note, h.packets, h.after)
-    (keeps all bots place old.link Done note (acting_after start report.calls).sent (finish report.calls).after.link
-    (subst (IsLinkAt all bots place) (sym same) kept.link) taken kept.truth (omega (arith, ap link_version same, kept.shown)) grows (λ e. cc))
-calls_goes code_of may told all bots place old start note finish report new at taken starts ends grows (Refused why) e h = absurd h
-calls_goes code_of may told all bots place old start note finish report new at taken starts ends grows NoMemory e h =
-    rw (e, h.note, h.packets, h.after) (short_goes all bots place old at taken)
+  unbind_goes : (gone : OldBind) (r : Option HeldBind) → BotGoes (unbind_due old gone r).report (unbind_due old gone r).after
+  unbind_goes gone None = put_goes (Refused _) None old (record { undiverged = λ e. cc; no_gap = λ e. cc }) refl refl
+  unbind_goes gone (Some bind) =
+      put_goes Done _ (unbind_due old gone (Some bind)).after (record { undiverged = λ e. cc; no_gap = λ e. cc }) refl refl
 
--- a packet: a call of the link, or a text that calls procs
-packet_goes : (code_of : List ℕ → Call → Code) (may : List ℕ → Call → List Action → Type 0) (names : List (List ℕ))
-    (all : List AcceptedChange) (bots place : ℕ) (old : Bot) (packet : Packet) (report : Report) (new : Bot)
-    → IsLinkAt all bots place old.link → AllTaken all → IsTrueChange all packet → (saying : Option Saying)
-    → TakesPacket saying code_of may names old packet report new → BotGoes all bots place old report new
-packet_goes code_of may names all bots place old packet report new at taken truth None t =
-    row_goes all bots place old at taken (link_received old.link packet) report new (link_receives all bots place old.link packet at taken truth) t
-packet_goes code_of may names all bots place old packet report new at taken truth (Some saying) t =
-    calls_goes code_of may _ all bots place old old (Some (text_note saying)) (finish_text old) report new at taken refl (λ calls. refl) refl
-    report.end refl t
+  -- a note of a step that accepts nothing
+  abbrev IsQuietNote : Option Note → Type 0
+  IsQuietNote note = (first now : List AcceptedChange) → now ≡ first → GrowsByNote place note first now
 
--- a reading of the clock
-moment_goes : (code_of : List ℕ → Call → Code) (may : List ℕ → Call → List Action → Type 0) (names : List (List ℕ))
-    (all : List AcceptedChange) (bots place : ℕ) (old : Bot) (now : ℕ) (report : Report) (new : Bot) → IsLinkAt all bots place old.link → AllTaken all
-    → (stale : Bool) → TakesMoment stale code_of may names old now report new → BotGoes all bots place old report new
-moment_goes code_of may names all bots place old now report new at taken true t =
-    same_goes all bots place old _ _ report new t.0 t.1 (put_goes all bots place old Done None old at taken refl (λ e. cc) refl)
-moment_goes code_of may names all bots place old now report new at taken false t =
-    calls_goes code_of may _ all bots place old (run_to old now) None (finish_reading (run_to old now) now) report new at taken refl (λ calls. refl) refl
-    report.end refl t.2
+  -- calls, whose actions are done from a bot with this end of the link on: what goes out are texts
+  calls_goes : (told : List Telling) (start before : Bot) (note : Option Note) (finish : List MadeCall → Finish) (report : Report) (new : Bot)
+      → start.link.end ≡ old.link.end → start.link.number ≡ old.link.number → start.link.leaves ≡ old.link.leaves
+      → before.link.end ≡ old.link.end → before.link.number ≡ old.link.number → before.link.leaves ≡ old.link.leaves
+      → ((calls : List MadeCall) → (finish calls).after.link ≡ (acting_after start calls).link)
+      → IsQuietNote note → IsFineReport Done note
+      → (end : End) → report.end ≡ end → TakesCalls end code_of may told before start note finish report new → BotGoes report new
+  calls_goes told start before came finish report new ends numbers leaves before_ends before_numbers before_leaves finishes quiet fine Done e c =
+      let first = none_go h all sent place old.link among (acting_of start) ends numbers leaves refl in
+      let acting = acting_after start report.calls in
+      let goes = acts_go h all sent place old.link among (acting_of start) (actions_of report.calls) first in
+      let same : new.link ≡ acting.link = ap (λ (b : Bot). b.link) c.after ∙ finishes report.calls in
+      record {
+        after = goes.after;
+        sound = subst (λ (os : List Outgoing). IsMoment (slice_set all place new.link.end) (sent ++ posted place (outgoings_of os)) goes.after)
+            (sym c.packets)
+            (subst (λ (b : BotEnd). IsMoment (slice_set all place b.end) (sent ++ posted place (outgoings_of acting.sent)) goes.after) (sym same)
+            goes.sound);
+        grows = goes.grows;
+        count = goes.count;
+        answers = subst (λ (os : List Outgoing). AllOutgoing (IsKeptAnswer goes.after.hub.kept) (outgoings_of os)) (sym c.packets) (goes.answers goes.after.hub.kept);
+        fine = subst (λ (x : End). IsFineReport x report.note) (sym e) (subst (IsFineReport Done) (sym c.note) fine);
+        accepted = subst (λ (n : Option Note). GrowsByNote place n h.hub.kept.accepted goes.after.hub.kept.accepted) (sym c.note)
+            (quiet h.hub.kept.accepted goes.after.hub.kept.accepted goes.accepted);
+        number = ap (λ (b : BotEnd). b.number) same ∙ goes.number;
+        leaves = ap (λ (b : BotEnd). b.leaves) same ∙ goes.leaves;
+      }
+  calls_goes told start before came finish report new ends numbers leaves before_ends before_numbers before_leaves finishes quiet fine (Refused why) e c =
+      absurd c
+  calls_goes told start before came finish report new ends numbers leaves before_ends before_numbers before_leaves finishes quiet fine NoMemory e c =
+      let short = stays h all sent place old.link among NoMemory None new.link (record { undiverged = λ e. cc; no_gap = λ e. cc }) refl
+      (ap (λ (b : Bot). b.link.end) c.after ∙ before_ends) (ap (λ (b : Bot). b.link.number) c.after ∙ before_numbers)
+      (ap (λ (b : Bot). b.link.leaves) c.after ∙ before_leaves) in
+      subst (λ (x : End). LinkGoes h all sent place old.link x report.note report.packets new.link) (sym e)
+      (subst (λ (n : Option Note). LinkGoes h all sent place old.link NoMemory n report.packets new.link) (sym c.note)
+      (subst (λ (os : List Outgoing). LinkGoes h all sent place old.link NoMemory None os new.link) (sym c.packets) short))
 
-reading_goes : (code_of : List ℕ → Call → Code) (may : List ℕ → Call → List Action → Type 0) (names : List (List ℕ))
-    (all : List AcceptedChange) (bots place : ℕ) (old : Bot) (now : ℕ) (report : Report) (new : Bot) → IsLinkAt all bots place old.link → AllTaken all
-    → (fault : Option ClockFault) → TakesReading fault code_of may names old now report new → BotGoes all bots place old report new
-reading_goes code_of may names all bots place old now report new at taken (Some fault) t =
-    same_goes all bots place old _ _ report new t.0 t.1 (put_goes all bots place old (Refused _) None old at taken refl (λ e. cc) refl)
-reading_goes code_of may names all bots place old now report new at taken None t =
-    moment_goes code_of may names all bots place old now report new at taken (is_stale old.clock now) t
+  no_note_is_quiet : IsQuietNote None
+  no_note_is_quiet first now same = same
 
-pub bot_goes : (code_of : List ℕ → Call → Code) (may : List ℕ → Call → List Action → Type 0) (names : List (List ℕ))
-    (all : List AcceptedChange) (bots place : ℕ) (old : Bot) (event : Event) (report : Report) (new : Bot)
-    → IsLinkAt all bots place old.link → AllTaken all → IsTrueEvent all event → TakesStep code_of may names old event report new
-    → BotGoes all bots place old report new
-bot_goes code_of may names all bots place old Connect report new at taken truth t =
-    gives_goes all bots place old at taken (Unit {0}) (connect_due old) report new
-    (put_goes all bots place old Done None (connect_due old).after at taken refl (λ e. cc) refl)
-    report.end t
-bot_goes code_of may names all bots place old (Line (a_message message)) report new at taken truth t =
-    calls_goes code_of may _ all bots place old old None (finish_line old message) report new at taken refl (λ calls. refl) refl report.end refl t
-bot_goes code_of may names all bots place old (Line (a_bad_line fault)) report new at taken truth t =
-    same_goes all bots place old _ _ report new t.0 t.1 (put_goes all bots place old Done _ old at taken refl (λ e. cc) refl)
-bot_goes code_of may names all bots place old (Ask change) report new at taken truth t =
-    row_goes all bots place old at taken (link_asked old.link change) report new (link_asks all bots place old.link change at taken) t
-bot_goes code_of may names all bots place old Pump report new at taken truth t =
-    row_goes all bots place old at taken (link_pumped old.link) report new (link_pumps all bots place old.link at taken) t
-bot_goes code_of may names all bots place old (Receive packet) report new at taken truth t =
-    packet_goes code_of may names all bots place old packet report new at taken truth (saying_of (link_received old.link packet).answer) t
-bot_goes code_of may names all bots place old (Clock now) report new at taken truth t =
-    reading_goes code_of may names all bots place old now report new at taken (reading_fault now) t
-bot_goes code_of may names all bots place old (Bind asked) report new at taken truth t =
-    gives_goes all bots place old at taken _ _ report new
-    (bind_goes all bots place old at taken (asked_of asked) (refusal old.binds (asked_of asked))) report.end t
-bot_goes code_of may names all bots place old (Unbind gone) report new at taken truth t =
-    gives_goes all bots place old at taken _ _ report new (unbind_goes all bots place old at taken gone (bind_to_go old.binds gone)) report.end t
+  text_is_quiet : (saying : Saying) → IsQuietNote (Some (text_note saying))
+  text_is_quiet saying first now same = record { stay_or_grow = inl same; accepted = λ n hub e. cc; restarted = λ v hub e. cc }
+
+  -- a packet: a call of the link, or a text that calls procs
+  packet_goes : (packet : Packet) (report : Report) (new : Bot) → ((how : How) → RowFollows h all sent place (took old.link packet how))
+      → (saying : Option Saying) → TakesPacket saying code_of may names old packet report new → BotGoes report new
+  packet_goes packet report new goes None t = call_goes (took old.link packet) goes report new t
+  packet_goes packet report new goes (Some saying) t =
+      calls_goes _ (with_failures old t.0) (with_failures old t.0) (Some (text_note saying)) (finish_text (with_failures old t.0)) report new
+      refl refl refl refl refl refl (λ calls. refl) (text_is_quiet saying) (record { undiverged = λ e. cc; no_gap = λ e. cc }) report.end refl t.1
+
+  -- a reading of the clock
+  moment_goes : (now : ℕ) (report : Report) (new : Bot) → (stale : Bool) → TakesMoment stale code_of may names old now report new
+      → BotGoes report new
+  moment_goes now report new true t =
+      same_goes _ _ report new t.0 t.1 (put_goes Done None old (record { undiverged = λ e. cc; no_gap = λ e. cc }) refl refl)
+  moment_goes now report new false t =
+      calls_goes _ (run_to old now) old None (finish_reading (run_to old now) now) report new refl refl refl refl refl refl (λ calls. refl)
+      no_note_is_quiet (record { undiverged = λ e. cc; no_gap = λ e. cc }) report.end refl t.2
+
+  reading_goes : (now : ℕ) (report : Report) (new : Bot) → (fault : Option ClockFault) → TakesReading fault code_of may names old now report new
+      → BotGoes report new
+  reading_goes now report new (Some fault) t =
+      same_goes _ _ report new t.0 t.1 (put_goes (Refused _) None old (record { undiverged = λ e. cc; no_gap = λ e. cc }) refl refl)
+  reading_goes now report new None t = moment_goes now report new (is_stale old.clock now) t
+
+  -- the packet of a delivery
+  packet_row : (packet : Packet) → WasSentTo sent place (Receive packet) → (how : How) → RowFollows h all sent place (took old.link packet how)
+  packet_row packet was how =
+      subst (λ n. RowFollows h all sent place (end_received old.link.leaves n how old.link.end (from_wire packet))) (sym among.number)
+      (received_goes all sent h among.sound old.link.leaves was.0 (record { from = was.1; to = place; packet = from_wire packet }) old.link.end how
+      among.leaves was.2 among.at)
+
+  pub bot_goes : (event : Event) (report : Report) (new : Bot) → WasSentTo sent place event → TakesStep code_of may names old event report new
+      → BotGoes report new
+  bot_goes Connect report new was t =
+      gives_goes _ _ report new
+      (put_goes Done None (connect_due old).after (record { undiverged = λ e. cc; no_gap = λ e. cc }) refl refl) report.end t
+  bot_goes (Line (a_message message)) report new was t =
+      calls_goes _ old old None (finish_line old message) report new refl refl refl refl refl refl (λ calls. refl) no_note_is_quiet
+      (record { undiverged = λ e. cc; no_gap = λ e. cc }) report.end refl t
+  bot_goes (Line (a_bad_line fault)) report new was t =
+      same_goes _ _ report new t.0 t.1 (put_goes Done _ old (record { undiverged = λ e. cc; no_gap = λ e. cc }) refl refl)
+  bot_goes (Ask change) report new was t =
+      subst (λ (r : Report). BotGoes r new) (sym t.report)
+      (ask_goes h all sent place old.link among change t.answer new.link (did_row h all sent place old.link among (asks change) Works) t.met)
+  bot_goes Pump report new was t = call_goes (did old.link pumps) (did_row h all sent place old.link among pumps) report new t
+  bot_goes (Receive packet) report new was t =
+      packet_goes packet report new (packet_row packet was) (saying_of (took old.link packet Works).told) t
+  bot_goes (Clock now) report new was t = reading_goes now report new (reading_fault now) t
+  bot_goes (Bind asked) report new was t = gives_goes _ _ report new (bind_goes (asked_of asked) (refusal old.binds (asked_of asked))) report.end t
+  bot_goes (Unbind gone) report new was t = gives_goes _ _ report new (unbind_goes gone (bind_to_go old.binds gone)) report.end t
+  bot_goes Compact report new was t = call_goes (did old.link compacts) (did_row h all sent place old.link among compacts) report new t
+  bot_goes Restart report new was t =
+      subst (λ (r : Report). BotGoes r new) (sym t.report)
+      (restart_goes h all sent place old.link among t.answer new.link (did_row h all sent place old.link among restarts) t.met)

@@ -1,9 +1,10 @@
 -- Alike bots make the same calls, at any moments of a run.
 use Rattle.std.proofs.Common.{◌≡◌, ℕ, zero, suc, ◌+◌, ◌-◌, ◌≤◌, ◌==◌, max, Bool, true, false, if◌then◌else◌, List, [], ◌∷◌, length, map, slice_get, Option, None, Some, Result, Ok, Err}
-use Rattle.std.proofs.Common.{refl, ap, sym, subst, ◌∙◌, arith, length-append}
+use Rattle.std.proofs.Common.{refl, ap, sym, subst, ◌∙◌, arith}
 use Rattle.std.proofs.lemmas.Bool.{leb-true}
 use Rattle.std.proofs.Math.Nat.{le-max_left}
 use Rattle.std.specs.List.{range_with_len}
+use Rattle.std.specs.Option.{option_map}
 use Rattle.userfile.specs.Records.{Records}
 use Rattle.chanstate.specs.declared.event.Event.{Event as MessageEvent}
 use Rattle.chanstate.specs.Events.{events_of}
@@ -12,9 +13,15 @@ use Rattle.bottimers.specs.declared.fault.ClockFault.{ClockFault}
 use Rattle.bottimers.specs.Seconds.{reading_fault, seconds_run}
 use Rattle.sharewire.specs.declared.packet.Packet.{Packet}
 use Rattle.ircline.specs.declared.line.Line.TheVariants.{Message as a_message, Bad as a_bad_line}
-use Rattle.sharelink.specs.declared.accepted.AcceptedChange.{AcceptedChange}
-use Rattle.sharelink.specs.declared.answer.Answer.{Answer}
-use Rattle.sharelink.specs.declared.error.LinkFault.{LinkFault}
+use Rattle.bytetext.specs.declared.failure.Failure.{Failure}
+use Rattle.bytetext.specs.declared.failure.Failure.TheVariants.{Refused as refused_by, NoMemory as no_memory}
+use Rattle.protocol.specs.Packets.{AcceptedChange}
+use Rattle.protocol.specs.Bots.{Works}
+use Rattle.protocol.specs.History.{Extends, records_of}
+use Rattle.protocol.proofs.Lists.{Extends-length, records_of-more}
+use Rattle.linkcalls.specs.declared.answer.Answer.{Answer}
+use Rattle.linkcalls.specs.declared.error.LinkFault.{LinkFault}
+use Rattle.botlink.specs.Links.{BotEnd, took}
 use Rattle.procstore.specs.declared.action.Action.{Action}
 use Rattle.procstore.specs.declared.call.Call.{Call}
 use Rattle.procstore.specs.declared.reply.Code.{Code}
@@ -22,7 +29,7 @@ use Rattle.bindtable.specs.declared.bind.Bind.{Bind as HeldBind}
 use Rattle.bindtable.specs.declared.fault.BindFault.{BindFault}
 use Rattle.bindtable.specs.Tables.{Asked, refusal}
 use Rattle.botcore.specs.declared.event.Event.{Event}
-use Rattle.botcore.specs.declared.event.Event.TheVariants.{Connect, Line, Ask, Pump, Receive, Clock, Bind, Unbind}
+use Rattle.botcore.specs.declared.event.Event.TheVariants.{Connect, Line, Ask, Pump, Receive, Clock, Bind, Unbind, Compact, Restart}
 use Rattle.botcore.specs.declared.event.OldBind.{OldBind}
 use Rattle.botcore.specs.declared.fault.Refusal.{Refusal}
 use Rattle.botcore.specs.declared.fault.Refusal.TheVariants.{Clock as clock_refusal}
@@ -33,31 +40,30 @@ use Rattle.botcore.specs.declared.report.Note.{Note}
 use Rattle.botcore.specs.declared.report.End.{End}
 use Rattle.botcore.specs.declared.report.End.TheVariants.{Done, Refused, NoMemory}
 use Rattle.botcore.specs.declared.report.Report.{Report as BotReport}
-use Rattle.botcore.specs.Bots.{Bot, bot_setting}
+use Rattle.botcore.specs.Bots.{Bot, with_failures, bot_setting}
 use Rattle.botcalls.specs.Calls.{Telling}
 use Rattle.botcalls.specs.Dispatched.{setting_of}
 use Rattle.botcalls.specs.Dispatching.{Setting, told_of}
 use Rattle.botcore.specs.Happenings.{Happening, Saying, saying_of, said, said_if, seconds_of, happenings_of}
 use Rattle.botcore.specs.Happenings.Happening.{Heard as heard_event, Said as said_text}
 use Rattle.botcore.specs.Lines.{Finish}
-use Rattle.botcore.specs.Links.{link_version, link_received}
+use Rattle.botcore.specs.Links.{link_version, link_records}
 use Rattle.botcalls.specs.Made.{entry_of}
-use Rattle.botcore.specs.Reports.{refused, link_report}
+use Rattle.botcore.specs.Reports.{refused, answer_report}
 use Rattle.botcore.specs.Shown.{AreOccasions, AreTaken}
-use Rattle.botcore.specs.Steps.{Due, link_due, bind_due, unbind_due, bind_to_go, asked_of, Gives, TakesCalls, said_occasions, TakesPacket}
+use Rattle.botcore.specs.Steps.{Due, bind_due, unbind_due, bind_to_go, asked_of, Gives, GivesCall, TakesCalls, said_occasions, TakesPacket}
 use Rattle.botcore.specs.Steps.{is_stale, run_to, TakesMoment, TakesReading, TakesStep}
 use Rattle.botcore.proofs.Calendar.{same_occasions}
 use Rattle.botworld.specs.declared.step.Part.{Part}
 use Rattle.botworld.specs.declared.step.Step.{Step}
 use Rattle.botworld.specs.declared.outcome.Outcome.{Outcome}
-use Rattle.botworld.specs.Net.{Net, report_of, part_of, TakesPart, Comes, NetStep}
-use Rattle.botworld.specs.Network.{State, IsSound, records_of, Extends}
+use Rattle.botworld.specs.Net.{Net, report_of, part_of, TakesPart, Comes, NetStep, shown_version}
+use Rattle.botworld.specs.Network.{State, accepted_by, IsSound}
 use Rattle.botworld.specs.Calling.{ProcCall, proc_call, Calling, calling_done, calling_by, calling_in, calling, IsAlike}
 use Rattle.botworld.specs.Standing.{Moment, Run, Past, Stands, SameCalls}
-use Rattle.botworld.proofs.History.{records_of-extended}
-use Rattle.botworld.proofs.Lawful.{due_done}
 use Rattle.botworld.proofs.Start.{start_sound}
-use Rattle.botworld.proofs.Runs.{Run-follows, link_at}
+use Rattle.botworld.proofs.Runs.{Run-follows}
+use Rattle.botworld.proofs.Shown.{shown_at}
 use Rattle.botworld.proofs.Alike.{proc_call_of, proc_calls, told_of-alike}
 
 -- the calls of one step -----------------------------------------------------------------------------------------------
@@ -70,14 +76,27 @@ map-entry_of (m ∷ made) = ap (λ (cs : List ProcCall). proc_call m ∷ cs) (ma
 abbrev HasNone : BotReport → Type 0
 HasNone report = map proc_call report.calls ≡ []
 
+-- what is due to a done step
+due_done : (Grows : Type 0) (old : Bot) (due : Due) (report : BotReport) (new : Bot) (end : End) → end ≡ Done → Gives end Grows old due report new
+    → (report ≡ due.report) × (new ≡ due.after)
+due_done Grows old due report new Done e g = g
+due_done Grows old due report new (Refused why) e g = cc
+due_done Grows old due report new NoMemory e g = cc
+
 none_due : (Grows : Type 0) (old : Bot) (due : Due) (report : BotReport) (new : Bot) → report.end ≡ Done → Gives report.end Grows old due report new
     → due.report.calls ≡ [] → HasNone report
 none_due Grows old due report new done g none =
     ap (λ (r : BotReport). map proc_call r.calls) (due_done Grows old due report new report.end done g).0 ∙ ap (map proc_call) none
 
-link_report-none : (answer : Result Answer LinkFault) → (link_report answer).calls ≡ []
-link_report-none (Ok answer) = refl
-link_report-none (Err fault) = refl
+answer_report-none : (answer : Result Answer (Failure LinkFault)) → (answer_report answer).calls ≡ []
+answer_report-none (Ok answer) = refl
+answer_report-none (Err (refused_by fault)) = refl
+answer_report-none (Err no_memory) = refl
+
+-- a call of the link calls no proc
+call_none : {Met : Result Answer (Failure LinkFault) → BotEnd → Type 0} {left : Result Answer (Failure LinkFault) → BotEnd → Bot} (report : BotReport)
+    (new : Bot) → GivesCall Met left report new → HasNone report
+call_none report new g = ap (λ (r : BotReport). map proc_call r.calls) g.report ∙ ap (map proc_call) (answer_report-none g.answer)
 
 bind_due-none : (old : Bot) (asked : Asked) (r : Option BindFault) → (bind_due old asked r).report.calls ≡ []
 bind_due-none old asked None = refl
@@ -101,9 +120,9 @@ none_called code_of names old report none = record { occasions = []; are = tt; m
 made_calls : (code_of : List ℕ → Call → Code) (may : List ℕ → Call → List Action → Type 0) (told : List Telling) (old start : Bot) (note : Option Note)
     (finish : List MadeCall → Finish) (report : BotReport) (new : Bot) (end : End) → end ≡ Done → TakesCalls end code_of may told old start note finish report new
     → map proc_call report.calls ≡ proc_calls told
-made_calls code_of may told old start note finish report new Done e h = map-entry_of report.calls ∙ ap (map proc_call_of) h.calls
-made_calls code_of may told old start note finish report new (Refused why) e h = absurd h
-made_calls code_of may told old start note finish report new NoMemory e h = cc
+made_calls code_of may told old start came finish report new Done e h = map-entry_of report.calls ∙ ap (map proc_call_of) h.calls
+made_calls code_of may told old start came finish report new (Refused why) e h = absurd h
+made_calls code_of may told old start came finish report new NoMemory e h = cc
 
 -- the events of a message are occasions
 are_heard : (events : List MessageEvent) → AreOccasions (map heard_event events) (map Heard events)
@@ -121,14 +140,12 @@ are_said saying = by (length (first_word saying.text) == 0)
 packet_calls : (code_of : List ℕ → Call → Code) (may : List ℕ → Call → List Action → Type 0) (names : List (List ℕ)) (old : Bot) (packet : Packet)
     (report : BotReport) (new : Bot) → report.end ≡ Done → (saying : Option Saying) → TakesPacket saying code_of may names old packet report new
     → AreCalled code_of names old (said_if saying) (map proc_call report.calls)
-packet_calls code_of may names old packet report new done None t =
-    none_called code_of names old report
-    (none_due _ old (link_due old (link_received old.link packet)) report new done t (link_report-none (link_received old.link packet).answer))
+packet_calls code_of may names old packet report new done None t = none_called code_of names old report (call_none report new t)
 packet_calls code_of may names old packet report new done (Some saying) t =
     record {
       occasions = said_occasions saying;
       are = are_said saying;
-      made = made_calls code_of may _ old old _ _ report new report.end done t;
+      made = made_calls code_of may _ (with_failures old t.0) (with_failures old t.0) _ _ report new report.end done t.1;
     }
 
 -- at a reading that is not above the last no second runs
@@ -174,17 +191,17 @@ step_calls code_of may names old (Line (a_message message)) report new done t =
     }
 step_calls code_of may names old (Line (a_bad_line fault)) report new done t =
     none_called code_of names old report (ap (λ (r : BotReport). map proc_call r.calls) t.0)
-step_calls code_of may names old (Ask change) report new done t =
-    none_called code_of names old report (none_due _ old _ report new done t (link_report-none _))
-step_calls code_of may names old Pump report new done t =
-    none_called code_of names old report (none_due _ old _ report new done t (link_report-none _))
+step_calls code_of may names old (Ask change) report new done t = none_called code_of names old report (call_none report new t)
+step_calls code_of may names old Pump report new done t = none_called code_of names old report (call_none report new t)
 step_calls code_of may names old (Receive packet) report new done t =
-    packet_calls code_of may names old packet report new done (saying_of (link_received old.link packet).answer) t
+    packet_calls code_of may names old packet report new done (saying_of (took old.link packet Works).told) t
 step_calls code_of may names old (Clock now) report new done t = reading_calls code_of may names old now report new done (reading_fault now) t
 step_calls code_of may names old (Bind asked) report new done t =
     none_called code_of names old report (none_due _ old _ report new done t (bind_due-none old (asked_of asked) (refusal old.binds (asked_of asked))))
 step_calls code_of may names old (Unbind gone) report new done t =
     none_called code_of names old report (none_due _ old _ report new done t (unbind_due-none old gone (bind_to_go old.binds gone)))
+step_calls code_of may names old Compact report new done t = none_called code_of names old report (call_none report new t)
+step_calls code_of may names old Restart report new done t = none_called code_of names old report (call_none report new t)
 
 -- what a bot's calls depend on, by its version
 abbrev setting_at : (List ℕ → Call → Code) → List (List ℕ) → List AcceptedChange → Bot → Setting
@@ -199,23 +216,26 @@ record IsCalled (code_of : List ℕ → Call → Code) (names : List (List ℕ))
 
 part_calls : (code_of : List ℕ → Call → Code) (may : List ℕ → Call → List Action → Type 0) (s : State) (part : Part) (o : Outcome) (w : Net) → IsSound s
     → (t : TakesPart code_of may s.net part o w) (a : Calling) (end : End) → t.report.end ≡ end
-    → calling_done end part.event (report_of part.bot (length s.net.packets + 1) t.report) t.was ≡ Some a → IsCalled code_of s.net.store s.accepted a
+    → calling_done end part.event (report_of part.bot (length s.net.packets + 1) t.report) t.was ≡ Some a → IsCalled code_of s.net.store (accepted_by s) a
 part_calls code_of may s part o w sound t a Done e is =
     let it : Calling = record { bot = t.was; happenings = happenings_of t.was part.event; calls = map proc_call t.report.calls } in
     let same : it ≡ a = cc in
-    let at = link_at s.accepted (length s.net.bots) part.bot t.was.link (sound.links part.bot t.was t.there) in
+    let shows : shown_version s.net part.bot ≡ Some (link_version t.was.link) = ap (option_map (λ (b : Bot). link_version b.link)) t.there in
+    let at = shown_at s sound part.bot (link_version t.was.link) shows in
+    let records : link_records t.was.link ≡ records_of (accepted_by s) (link_version t.was.link) =
+    let both = sym (ap (option_map (λ (b : Bot). link_records b.link)) t.there) ∙ at.1 in cc in
     let made = step_calls code_of may s.net.store t.was part.event t.report t.after e t.steps in
     let calls = made.made
-    ∙ ap (λ (r : Records). proc_calls (told_of (setting_of code_of s.net.store r.users t.was.binds.binds t.was.config.exclusive) made.occasions)) at.1 in
-    subst (IsCalled code_of s.net.store s.accepted) same (record { version = at.0; occasions = made.occasions; are = made.are; calls = calls })
+    ∙ ap (λ (r : Records). proc_calls (told_of (setting_of code_of s.net.store r.users t.was.binds.binds t.was.config.exclusive) made.occasions)) records in
+    subst (IsCalled code_of s.net.store (accepted_by s)) same (record { version = at.0; occasions = made.occasions; are = made.are; calls = calls })
 part_calls code_of may s part o w sound t a (Refused why) e is = cc
 part_calls code_of may s part o w sound t a NoMemory e is = cc
 
 calls_at : (code_of : List ℕ → Call → Code) (may : List ℕ → Call → List Action → Type 0) (s : State) (step : Step) (o : Outcome) (w : Net) → IsSound s
-    → NetStep code_of may s.net step o w → (a : Calling) → calling s.net step o ≡ Some a → IsCalled code_of s.net.store s.accepted a
+    → NetStep code_of may s.net step o w → (a : Calling) → calling s.net step o ≡ Some a → IsCalled code_of s.net.store (accepted_by s) a
 calls_at code_of may s step o w sound rule a is = by (part_of s.net step) rule is
   where
-    by : (r : Result Part Outcome) → Comes code_of may s.net r o w → calling_in s.net r o ≡ Some a → IsCalled code_of s.net.store s.accepted a
+    by : (r : Result Part Outcome) → Comes code_of may s.net r o w → calling_in s.net r o ≡ Some a → IsCalled code_of s.net.store (accepted_by s) a
     by (Err why) c e = cc
     by (Ok part) t e =
         let here : calling_by (slice_get s.net.bots part.bot) part.event (report_of part.bot (length s.net.packets + 1) t.report) ≡ Some a =
@@ -228,12 +248,10 @@ calls_at code_of may s step o w sound rule a is = by (part_of s.net step) rule i
 IsCalled-extended : (code_of : List ℕ → Call → Code) (names : List (List ℕ)) (all now : List AcceptedChange) (a : Calling) → Extends all now
     → IsCalled code_of names all a → IsCalled code_of names now a
 IsCalled-extended code_of names all now a more called =
-    let longer : length all ≤ length now = omega (arith, ap length more.1, length-append all more.0) in
     let v = link_version a.bot.link in
-    let records : records_of all v ≡ records_of now v =
-    sym (ap (λ (xs : List AcceptedChange). records_of xs v) more.1 ∙ records_of-extended all more.0 v called.version) in
+    let records : records_of all v ≡ records_of now v = sym (records_of-more all now v more called.version) in
     record {
-      version = omega (arith, called.version, longer);
+      version = omega (arith, called.version, Extends-length all now more);
       occasions = called.occasions;
       are = called.are;
       calls = called.calls
@@ -245,18 +263,18 @@ AllCalled code_of names all ms = (i : ℕ) (m : Moment) (a : Calling) → slice_
     → IsCalled code_of names all a
 
 all_called : (code_of : List ℕ → Call → Code) (may : List ℕ → Call → List Action → Type 0) (first : State) (ms : List Moment) (last : State) → IsSound first
-    → Run code_of may first ms last → AllCalled code_of last.net.store last.accepted ms
+    → Run code_of may first ms last → AllCalled code_of last.net.store (accepted_by last) ms
 all_called code_of may first [] last sound run i m a at is = cc
 all_called code_of may first (x ∷ ms) last sound run zero m a at is =
-    let follows = Run-follows code_of may first (x ∷ ms) last run in
+    let follows = Run-follows code_of may first (x ∷ ms) last sound run in
     let same : x ≡ m = cc in
     let before : m.before ≡ first = sym (ap (λ (x : Moment). x.before) same) ∙ run.0 in
     let rule = subst (λ (x : Moment). NetStep code_of may x.before.net x.step x.outcome x.after.net) same run.1.by_rule in
     let called = calls_at code_of may first m.step m.outcome m.after.net sound
     (subst (λ (s : State). NetStep code_of may s.net m.step m.outcome m.after.net) before rule) a
     (subst (λ (s : State). calling s.net m.step m.outcome ≡ Some a) before is) in
-    subst (λ (names : List (List ℕ)). IsCalled code_of names last.accepted a) (sym follows.store)
-    (IsCalled-extended code_of first.net.store first.accepted last.accepted a follows.accepted called)
+    subst (λ (names : List (List ℕ)). IsCalled code_of names (accepted_by last) a) (sym follows.store)
+    (IsCalled-extended code_of first.net.store (accepted_by first) (accepted_by last) a follows.links.hub.accepted called)
 all_called code_of may first (x ∷ ms) last sound run (suc i) m a at is = all_called code_of may x.after ms last run.1.sound run.2 i m a at is
 
 -- alike bots call the same procs
@@ -274,4 +292,4 @@ pub same_calls : (code_of : List ℕ → Call → Code) (may : List ℕ → Call
     → SameCalls past.history
 same_calls code_of may w past stands i j m n a b at_i at_j is_a is_b alike =
     let called = all_called code_of may past.first past.history past.now (start_sound past.first stands.begins) stands.run in
-    alike_calls code_of past.now.net.store past.now.accepted a b (called i m a at_i is_a) (called j n b at_j is_b) alike
+    alike_calls code_of past.now.net.store (accepted_by past.now) a b (called i m a at_i is_a) (called j n b at_j is_b) alike

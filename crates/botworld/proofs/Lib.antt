@@ -1,11 +1,14 @@
+pub mod Lists
 pub mod Growing
-pub mod History
-pub mod Truth
-pub mod Links
+pub mod Good
+pub mod Shown
+pub mod BotEnds
+pub mod Acts
 pub mod BotSteps
 pub mod Lawful
 pub mod Goes
 pub mod Start
+pub mod Numbered
 pub mod Runs
 pub mod Steps
 pub mod Alike

@@ -1,26 +1,22 @@
 -- Runs that go on, and what they leave.
-use Rattle.std.proofs.Common.{◌≡◌, ℕ, zero, suc, ◌≤◌, List, [], ◌∷◌, ◌++◌, length, slice_get, Option, None, Some, refl, ap, sym, subst, ◌∙◌, arith}
-use Rattle.std.proofs.Common.{append_assoc}
+use Rattle.std.proofs.Common.{◌≡◌, ℕ, zero, suc, List, [], ◌∷◌, ◌++◌, slice_get, Some, refl, ap, sym, subst, ◌∙◌, arith, append_assoc}
 use Rattle.std.proofs.lemmas.List.{append-nil}
-use Rattle.std.specs.Option.{option_map}
-use Rattle.sharelink.specs.declared.accepted.AcceptedChange.{AcceptedChange}
+use Rattle.protocol.specs.History.{Grows, records_of}
+use Rattle.protocol.proofs.Growing.{Grows-refl, Grows-trans}
+use Rattle.protocol.proofs.Lists.{Extends-trans, records_of-more}
 use Rattle.procstore.specs.declared.action.Action.{Action}
 use Rattle.procstore.specs.declared.call.Call.{Call}
 use Rattle.procstore.specs.declared.reply.Code.{Code}
-use Rattle.botcore.specs.declared.link.Link.{Link}
-use Rattle.botcore.specs.declared.link.Link.TheVariants.{Hub as hub_end, Leaf as leaf_end}
-use Rattle.botcore.specs.Bots.{Bot}
-use Rattle.botcore.specs.Links.{link_version, link_records}
 use Rattle.botworld.specs.declared.step.Step.{Step}
 use Rattle.botworld.specs.declared.outcome.Outcome.{Outcome}
 use Rattle.botworld.specs.Net.{Net, NetStep, shown_version, shown_records}
-use Rattle.botworld.specs.Network.{State, IsSound, IsLinkAt, records_of, Extends, NeverBack, Follows}
+use Rattle.botworld.specs.Network.{State, accepted_by, IsSound, NeverBack, Follows, KeepsPromises}
 use Rattle.botworld.specs.Standing.{Moment, Run, steps_of, outcomes_of, Past, later, Stands, LeadsTo, SameRecords, SameAlways}
-use Rattle.botworld.proofs.History.{Extends-refl, Extends-trans, records_of-extended}
 use Rattle.botworld.proofs.Goes.{goes, Follows-refl}
+use Rattle.botworld.proofs.Shown.{keeps_promises, shown_at, same_shown}
 use Rattle.botworld.proofs.Start.{start_sound}
 
--- what follows -------------------------------------------------------------------------------------------------------
+-- ---- what follows
 
 NeverBack-trans : (a b c : Net) → NeverBack a b → NeverBack b c → NeverBack a c
 NeverBack-trans a b c f g i u e =
@@ -30,7 +26,7 @@ NeverBack-trans a b c f g i u e =
 
 Follows-trans : (a b c : State) → Follows a b → Follows b c → Follows a c
 Follows-trans a b c f g = record {
-  accepted = Extends-trans a.accepted b.accepted c.accepted f.accepted g.accepted;
+  links = Grows-trans a.links b.links c.links f.links g.links;
   packets = Extends-trans a.net.packets b.net.packets c.net.packets f.packets g.packets;
   versions = NeverBack-trans a.net b.net c.net f.versions g.versions;
   bots = g.bots ∙ f.bots;
@@ -49,12 +45,13 @@ now_sound code_of may w past stands = Run-sound code_of may past.first past.hist
 
 -- a run is followed by its end
 pub Run-follows : (code_of : List ℕ → Call → Code) (may : List ℕ → Call → List Action → Type 0) (first : State) (ms : List Moment) (last : State)
-    → Run code_of may first ms last → Follows first last
-Run-follows code_of may first [] last run = subst (Follows first) (sym run) (Follows-refl first)
-Run-follows code_of may first (m ∷ ms) last run =
-    Follows-trans first m.after last (subst (λ (s : State). Follows s m.after) run.0 run.1.follows) (Run-follows code_of may m.after ms last run.2)
+    → IsSound first → Run code_of may first ms last → Follows first last
+Run-follows code_of may first [] last sound run = subst (Follows first) (sym run) (Follows-refl first sound)
+Run-follows code_of may first (m ∷ ms) last sound run =
+    Follows-trans first m.after last (subst (λ (s : State). Follows s m.after) run.0 run.1.follows)
+    (Run-follows code_of may m.after ms last run.1.sound run.2)
 
--- one step more ------------------------------------------------------------------------------------------------------
+-- ---- one step more
 
 Run-last : (code_of : List ℕ → Call → Code) (may : List ℕ → Call → List Action → Type 0) (a b : State) (ms : List Moment) (m : Moment)
     → Run code_of may a ms b → Run code_of may b (m ∷ []) m.after → Run code_of may a (ms ++ m ∷ []) m.after
@@ -78,7 +75,7 @@ leads_nowhere code_of may w past stands = record {
   steps_are = refl;
   outcomes_are = refl;
   run = refl;
-  follows = Follows-refl past.now;
+  follows = Follows-refl past.now (now_sound code_of may w past stands);
   stands = record {
     begins = stands.begins;
     run = subst (λ (ms : List Moment). Run code_of may past.first ms past.now) (sym (append-nil past.history)) stands.run;
@@ -111,56 +108,24 @@ leads_on code_of may past steps outcomes step o mid new led made =
       };
     }
 
--- what a bot shows ------------------------------------------------------------------------------------------------------
-
--- the version of a link, and its records
-pub link_at : (all : List AcceptedChange) (bots place : ℕ) (link : Link) → IsLinkAt all bots place link
-    → (link_version link ≤ length all) × (link_records link ≡ records_of all (link_version link))
-link_at all bots zero (hub_end h) at =
-    let count = ap length at.accepted in
-    (omega (arith, count), at.records ∙ ap (records_of all) (sym count))
-link_at all bots zero (leaf_end l) at = absurd at
-link_at all bots (suc p) (hub_end h) at = absurd at
-link_at all bots (suc p) (leaf_end l) at = (at.version, at.records)
-
--- a bot that shows a version shows the records of that version
-pub shown_at : (s : State) → IsSound s → (i v : ℕ) → shown_version s.net i ≡ Some v
-    → (v ≤ length s.accepted) × (shown_records s.net i ≡ Some (records_of s.accepted v))
-shown_at s sound i v e = by (slice_get s.net.bots i) refl e
-  where
-    by : (r : Option Bot) → slice_get s.net.bots i ≡ r → option_map (λ (b : Bot). link_version b.link) r ≡ Some v
-        → (v ≤ length s.accepted) × (option_map (λ (b : Bot). link_records b.link) r ≡ Some (records_of s.accepted v))
-    by None here e = cc
-    by (Some b) here e =
-        let at = link_at s.accepted (length s.net.bots) i b.link (sound.links i b here) in
-        let same : link_version b.link ≡ v = cc in
-        (omega (arith, at.0, same), ap Some (at.1 ∙ ap (records_of s.accepted) same))
-
--- same version, same records, at one moment and a later one
-same_shown : (s t : State) → IsSound s → IsSound t → Extends s.accepted t.accepted → SameRecords s.net t.net
-same_shown s t sound sound' more i j v before after =
-    let one = shown_at s sound i v before in
-    let other = shown_at t sound' j v after in
-    let grown : records_of t.accepted v ≡ records_of s.accepted v =
-    ap (λ (l : List AcceptedChange). records_of l v) more.1 ∙ records_of-extended s.accepted more.0 v one.0 in
-    one.1 ∙ ap Some (sym grown) ∙ sym other.1
+-- ---- what is shown, and sent
 
 pub same_later : (code_of : List ℕ → Call → Code) (may : List ℕ → Call → List Action → Type 0) (past : Past) (steps : List Step) (outcomes : List Outcome)
     (old new : Net) → Stands code_of may old past → LeadsTo code_of may past steps outcomes new → SameRecords old new
 same_later code_of may past steps outcomes old new stands led =
     rw (stands.net, led.stands.net) (same_shown past.now led.after (now_sound code_of may old past stands)
-    (now_sound code_of may new (later past led.moments led.after) led.stands) led.follows.accepted)
+    (now_sound code_of may new (later past led.moments led.after) led.stands) led.follows.links)
 
 pub same_at_once : (code_of : List ℕ → Call → Code) (may : List ℕ → Call → List Action → Type 0) (past : Past) (w : Net) → Stands code_of may w past
     → SameRecords w w
 same_at_once code_of may past w stands =
     let sound = now_sound code_of may w past stands in
-    rw stands.net (same_shown past.now past.now sound sound (Extends-refl past.now.accepted))
+    rw stands.net (same_shown past.now past.now sound sound (Grows-refl past.now.links))
 
--- each moment of a run is sound, and the end of the run extends it
+-- each moment of a run is sound, and what happened by then is of what happened by its end
 record Reached (last m : State) : Type 0 where
   sound : IsSound m
-  more : Extends m.accepted last.accepted
+  more : Grows m.links last.links
 
 reached : (code_of : List ℕ → Call → Code) (may : List ℕ → Call → List Action → Type 0) (first : State) (ms : List Moment) (last : State)
     → Run code_of may first ms last → (i : ℕ) (m : Moment) → slice_get ms i ≡ Some m → Reached last m.after
@@ -168,14 +133,15 @@ reached code_of may first [] last run i m e = cc
 reached code_of may first (x ∷ ms) last run zero m e =
     let same : x ≡ m = cc in
     subst (λ (z : Moment). Reached last z.after) same
-    (record { sound = run.1.sound; more = (Run-follows code_of may x.after ms last run.2).accepted })
+    (record { sound = run.1.sound; more = (Run-follows code_of may x.after ms last run.1.sound run.2).links })
 reached code_of may first (x ∷ ms) last run (suc i) m e = reached code_of may x.after ms last run.2 i m e
 
 -- the records of a version at a moment are those of the end of the run
-shown_in_end : (last m : State) → Reached last m → (i v : ℕ) → shown_version m.net i ≡ Some v → shown_records m.net i ≡ Some (records_of last.accepted v)
+shown_in_end : (last m : State) → Reached last m → (i v : ℕ) → shown_version m.net i ≡ Some v
+    → shown_records m.net i ≡ Some (records_of (accepted_by last) v)
 shown_in_end last m there i v e =
     let at = shown_at m there.sound i v e in
-    at.1 ∙ ap Some (sym (ap (λ (l : List AcceptedChange). records_of l v) there.more.1 ∙ records_of-extended m.accepted there.more.0 v at.0))
+    at.1 ∙ ap Some (sym (records_of-more (accepted_by m) (accepted_by last) v there.more.hub.accepted at.0))
 
 pub same_always : (code_of : List ℕ → Call → Code) (may : List ℕ → Call → List Action → Type 0) (w : Net) (past : Past) → Stands code_of may w past
     → SameAlways past.history
@@ -187,3 +153,8 @@ same_always code_of may w past stands i j m n at_i at_j a b v one other =
 pub none_back : (code_of : List ℕ → Call → Code) (may : List ℕ → Call → List Action → Type 0) (past : Past) (steps : List Step) (outcomes : List Outcome)
     (old new : Net) → Stands code_of may old past → LeadsTo code_of may past steps outcomes new → NeverBack old new
 none_back code_of may past steps outcomes old new stands led = rw (stands.net, led.stands.net) led.follows.versions
+
+-- what the links promise holds
+pub promises_kept : (code_of : List ℕ → Call → Code) (may : List ℕ → Call → List Action → Type 0) (w : Net) (past : Past) → Stands code_of may w past
+    → KeepsPromises past.now
+promises_kept code_of may w past stands = keeps_promises past.now (now_sound code_of may w past stands)

@@ -6,7 +6,8 @@ use Rattle.userfile.specs.Records.{Records}
 use Rattle.procstore.specs.declared.action.Action.{Action}
 use Rattle.procstore.specs.declared.call.Call.{Call}
 use Rattle.procstore.specs.declared.reply.Code.{Code}
-use Rattle.sharelink.specs.declared.answer.Outgoing.{Outgoing}
+use Rattle.linkcalls.specs.declared.answer.Outgoing.{Outgoing}
+use Rattle.linkcalls.specs.Shapes.{HasGoodRecords}
 use Rattle.botcore.specs.declared.event.Event.{Event}
 use Rattle.botcore.specs.declared.event.Event.TheVariants.{Receive}
 use Rattle.botcore.specs.declared.report.Report.{Report as BotReport}
@@ -26,6 +27,11 @@ pub record Net : Type 0 where
   pub bots : List Bot
   pub packets : List Sent
   pub store : List (List ℕ)
+
+-- the records of each part are of good shape
+abbrev pub AllGood : List Sent → Type 0
+AllGood [] = Unit {0}
+AllGood (sent ∷ packets) = HasGoodRecords sent.packet × AllGood packets
 
 -- ---- who takes part in a step
 

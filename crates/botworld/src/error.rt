@@ -4,6 +4,7 @@ ghost use Rattle.botworld.specs.Codes.{fault_code};
 
 use botcore::Bot;
 use procstore::{Body, ProcStore, Promise, Run};
+use storage::Disk;
 use thiserror::Error;
 
 /// A refusal to make a world.
@@ -27,11 +28,11 @@ impl WorldFault {
 
 /// Bots of which no world was made, with their store, as they were handed in.
 #[derive(Drop)]
-pub struct RefusedWorld<P: Promise, B: Run = Body> {
+pub struct RefusedWorld<P: Promise, D: Disk, B: Run = Body> {
     /// Why no world was made.
     pub why: WorldFault,
-    /// The bots.
-    pub bots: Vec<Bot>,
+    /// The bots, with their disks.
+    pub bots: Vec<Bot<D>>,
     /// The store.
     pub store: ProcStore<P, B>,
 }

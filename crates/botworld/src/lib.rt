@@ -1,15 +1,20 @@
 //! A whole botnet in memory: the hub, its leaves, the procs that their binds call, and every packet ever sent.
 //!
 //! A [`World`] makes any list of [`Step`]s: a bot is told an [`Event`](botcore::Event), or a packet is delivered. A
-//! packet may be delivered never, once or often, and in any order, which is all that a network can do. Each step has an
+//! packet may be delivered never, once or often, and in any order, which is all that a network can do. A bot's disks may
+//! fail at any call; what was being journaled then counts or doesn't, which its restart finds out. Each step has an
 //! [`Outcome`], and [`World::run`] promises of every list of steps that two bots at the same version hold the same
-//! records, those after the hub's first so many accepted changes; that no bot's version goes back; and that two bots
-//! equal in version, binds and `exclusive` call the same procs in the same order for the same events, also at two
-//! different moments.
+//! records, those after the hub's first so many accepted changes; that no bot's version goes back, restarts included; and
+//! that two bots equal in version, binds and `exclusive` call the same procs in the same order for the same events, also at
+//! two different moments.
+//!
+//! The promise is made of a history that no bot holds: every change that was accepted, every request and every answer. A
+//! world stands for such a history by its bots' ends of the link and by the packets that were sent (`specs/Network`), and
+//! each step leads to one that it stands for.
 //!
 //! ```text
-//! let hub = Bot::new(alloc, config(0))?;                 // each with `leaves: 1`
-//! let leaf = Bot::new(alloc, config(1))?;
+//! let hub = Bot::create(alloc, config(0), disk(), disk())?;      // each with `leaves: 1`
+//! let leaf = Bot::create(alloc, config(1), disk(), disk())?;
 //! let mut world = World::new(alloc, vec![in alloc; hub, leaf]?, store)?;
 //! let ask = Step::At { bot: 0, event: Event::Ask(change) };
 //! let pump = Step::At { bot: 0, event: Event::Pump };

@@ -1,6 +1,6 @@
 // The world.
 ghost use Rattle.std.specs.Prelude.{◌≡◌, ◌+◌, ◌≤◌, ◌++◌, ◌↔◌, IsTrue, length, vec_len, vec_capacity};
-ghost use Rattle.sharelink.specs.declared.TheConstants.{MAX_LEAVES};
+ghost use Rattle.linkcalls.specs.declared.TheConstants.{MAX_LEAVES};
 ghost use Rattle.botworld.specs.Net.{is_packet, posted, report_of};
 ghost use Rattle.botworld.specs.Network.{IsNumberedAt, AreNumbered};
 ghost use Rattle.botworld.specs.declared.world.TheConstants.{MOST_SENT};
@@ -12,32 +12,36 @@ use crate::sent::Sent;
 use crate::step::{Part, Step};
 use botcore::{Bot, Event, Report as BotReport};
 use bytetext::{NoMemory, Seq, TryCopy};
+use linkcalls::Outgoing;
 use procstore::{Body, ProcStore, Promise, Run};
-use sharelink::Outgoing;
 use std::alloc::Global;
 use std::marker::Model;
+use storage::Disk;
 use userfile::Userfile;
 
 /// Room that is made for the packets of a step: one to each of 1,000 leaves, and an answer.
 const MOST_SENT: usize = 1001;
 
-/// Bots, the hub first; the procs that their binds call; and every packet ever sent.
+/// Bots over journals, the hub first; the procs that their binds call; and every packet ever sent.
 #[derive(Drop)]
-pub struct World<P: Promise, B: Run = Body> {
-    bots: Vec<Bot>,
+pub struct World<P: Promise, D: Disk, B: Run = Body> {
+    bots: Vec<Bot<D>>,
     packets: Vec<Sent>,
     store: ProcStore<P, B>,
 }
 
-impl<P: Promise, B: Run> Model for World<P, B> {
-    ghost use Rattle.botworld.specs.Net.{Net};
+impl<P: Promise, D: Disk, B: Run> Model for World<P, D, B> {
+    ghost use Rattle.botworld.specs.Net.{Net, AllGood};
 
     ghost Value = { Net };
 
     ghost view = { λ w. record { bots = w.bots.items; packets = w.packets.items; store = w.store } };
+
+    // The records of each part that was ever sent are of good shape.
+    ghost invariant = { λ w. AllGood w.packets.items };
 }
 
-impl<P: Promise, B: Run> World<P, B> {
+impl<P: Promise, D: Disk, B: Run> World<P, D, B> {
     ghost use Rattle.std.specs.Prelude.{◌≡◌, ◌<◌, ◌≤◌, ◌⊎◌, ℕ, Some, nat_lt, true, length, take, IfOk, OnOk, OnErr};
     ghost use Rattle.std.specs.Prelude.{Ok, Err, IfErr, IfSome, IsOk, None, MatchResult, if◌then◌else◌};
     ghost use Rattle.std.specs.Option.{option_copied};
@@ -45,20 +49,22 @@ impl<P: Promise, B: Run> World<P, B> {
     ghost use Rattle.botworld.specs.declared.outcome.Outcome.TheVariants.{NoSuchBot};
     ghost use Rattle.botworld.specs.Net.{is_bot, packet_at, part_of, NetStep, TakesPartAt};
     ghost use Rattle.botworld.specs.Net.{shown_version, shown_records};
-    ghost use Rattle.botworld.specs.Network.{AllNew, AreNumbered, start, records_of, IsTrueChange, NeverBack};
+    ghost use Rattle.protocol.specs.History.{records_of};
+    ghost use Rattle.botcore.specs.Steps.{IsGoodEvent};
+    ghost use Rattle.botworld.specs.Network.{AllNew, AreNumbered, start, accepted_by, IsTruePacket, KeepsPromises, NeverBack};
     ghost use Rattle.botworld.specs.Standing.{Past, beginning, Stands, LeadsTo, SameRecords, SameAlways};
     ghost use Rattle.botworld.specs.Standing.{SameCalls};
 
-    /// A world of these bots, each of which is as [`Bot::new`] left it. Takes no memory.
+    /// A world of these bots, each of which is as [`Bot::create`] left it. Takes no memory.
     ///
     /// # Errors
     /// `BadWorld` (O1) where the bots aren't numbered 0 to N in order, one has other than N leaves, or there is none.
-    /// Bots and store are handed back.
+    /// Bots, with their disks, and store are handed back.
     pub fn new(
         alloc: Global,
-        bots: Vec<Bot>,
+        bots: Vec<Bot<D>>,
         store: ProcStore<P, B>,
-    ) -> Result<World<P, B>, RefusedWorld<P, B>>
+    ) -> Result<World<P, D, B>, RefusedWorld<P, D, B>>
         requires as_made { AllNew bots.items }
         ensures made { IfOk result (λ w. w ≡ (start bots.items store).net) }
         ensures stands { IfOk result (λ w. Stands P.code_of P.may w (beginning (start bots.items store))) }
@@ -80,7 +86,7 @@ impl<P: Promise, B: Run> World<P, B> {
         })
     }
 
-    /// The version of a bot; none where there is no such bot. Takes no memory.
+    /// The version that a bot shows, also while it is down; none where there is no such bot. Takes no memory.
     pub fn version(&self, bot: u16) -> Option<u32>
         ensures { result ≡ shown_version self.now bot }
     {
@@ -92,7 +98,7 @@ impl<P: Promise, B: Run> World<P, B> {
     pub fn userfile(&self, bot: u16) -> Option<&Userfile>
         ensures shown { option_copied result ≡ shown_records self.now bot }
         ensures at_version { (past : Past) → Stands P.code_of P.may self.now past → (v : ℕ)
-            → shown_version self.now bot ≡ Some v → option_copied result ≡ Some (records_of past.now.accepted v) }
+            → shown_version self.now bot ≡ Some v → option_copied result ≡ Some (records_of (accepted_by past.now) v) }
     {
         self.shown(bot)
     }
@@ -100,8 +106,10 @@ impl<P: Promise, B: Run> World<P, B> {
     /// The packet of this number, from 1 in the order of sending; none where there is none. Takes no memory.
     pub fn packet(&self, number: u64) -> Option<&Sent>
         ensures lent { option_copied result ≡ packet_at self.now.packets number }
-        ensures true_change { (past : Past) → Stands P.code_of P.may self.now past
-            → IfSome (option_copied result) (λ sent. IsTrueChange past.now.accepted sent.packet) }
+        // A change is the accepted one of its number, a part is one of the records at its version, a request is what its leaf
+        // asked under that number, and an answer is the hub's to that request.
+        ensures true_packet { (past : Past) → Stands P.code_of P.may self.now past
+            → IfSome (option_copied result) (λ sent. IsTruePacket past.now sent) }
     {
         self.lent(number)
     }
@@ -125,8 +133,12 @@ impl<P: Promise, B: Run> World<P, B> {
         ensures same_now { (past : Past) → Stands P.code_of P.may self.old past → SameRecords self.new self.new }
         // And so did any two, after any two steps so far.
         ensures same_always { (past : Past) → Stands P.code_of P.may self.new past → SameAlways past.history }
-        // No version goes back.
+        // No version goes back, also where a bot is restarted.
         ensures never_back { (past : Past) → Stands P.code_of P.may self.old past → NeverBack self.old self.new }
+        // All that the links promise of what happened so far holds: a leaf's request is accepted at most once, with the change
+        // that the leaf asked for, and is told under its number and never as refused; each change that was ever sent is the
+        // accepted one of its number, and each part is one of the records at its version.
+        ensures promises { (past : Past) → Stands P.code_of P.may self.new past → KeepsPromises past.now }
         // In any two steps so far, be they of lines, texts of other bots or readings of the clock, bots equal in version,
         // binds and `exclusive` called the same procs in the same order for the same events.
         ensures same_calls { (past : Past) → Stands P.code_of P.may self.new past → SameCalls past.history }
@@ -242,10 +254,11 @@ impl<P: Promise, B: Run> World<P, B> {
         Ok(post(&mut self.packets, bot, report))
     }
 
-    // Which bot takes part in a step, and what it is told.
+    // Which bot takes part in a step, and what it is told; the records of a packet are of good shape.
     fn part(&self, alloc: Global, step: &Step) -> Result<Part, NoMemory>
         requires { IsOk (part_of self.now step.now) }
-        ensures { IfOk result (λ part. part_of self.now step.now ≡ Ok part) }
+        ensures part { IfOk result (λ part. part_of self.now step.now ≡ Ok part) }
+        ensures good { IfOk result (λ part. IsGoodEvent part.event) }
     {
         match step {
             Step::At { bot, event } => Ok(Part {
@@ -264,7 +277,7 @@ impl<P: Promise, B: Run> World<P, B> {
 }
 
 // Whether the bots are a hub and its leaves, in order.
-fn are_numbered(bots: &[Bot]) -> bool
+fn are_numbered<D: Disk>(bots: &[Bot<D>]) -> bool
     ensures { IsTrue result ↔ AreNumbered bots.now }
 {
     for place in 0..bots.len() {
@@ -276,7 +289,7 @@ fn are_numbered(bots: &[Bot]) -> bool
 }
 
 // Whether a bot has the number of its place, and as many leaves as there are after the hub.
-fn is_numbered_at(bots: usize, place: usize, bot: &Bot) -> bool
+fn is_numbered_at<D: Disk>(bots: usize, place: usize, bot: &Bot<D>) -> bool
     ensures { IsTrue result ↔ IsNumberedAt bots place bot.now }
 {
     let config = bot.config();
@@ -294,14 +307,16 @@ fn is_packet(event: &Event) -> bool
         | Event::Pump
         | Event::Clock(_)
         | Event::Bind(_)
-        | Event::Unbind(_) => false,
+        | Event::Unbind(_)
+        | Event::Compact
+        | Event::Restart => false,
     }
 }
 
 // Puts the packets of a report on the network, in the room that was made, and tells it as an outcome.
 fn post(packets: &mut Vec<Sent>, bot: u16, report: BotReport) -> Outcome
     requires room { vec_len packets.old + MOST_SENT ≤ vec_capacity packets.old }
-    requires few { length report.packets ≤ MAX_LEAVES }
+    requires few { length report.packets ≤ MAX_LEAVES + 1 }
     ensures told { result ≡ reported (report_of bot (length packets.old.items + 1) report) }
     ensures sent { packets.new.items ≡ packets.old.items ++ posted bot report.packets }
 {

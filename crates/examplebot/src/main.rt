@@ -11,6 +11,7 @@ use bindtable::BindKind;
 use botcore::{Bot, Config, Event, NewBind};
 use botworld::{Outcome, Step, World};
 use bytetext::{NoMemory, Text, Texts};
+use disks::MemDisk;
 use ircline::read_line;
 use procstore::{Action, Actions, Body, Call, Code, Proc, ProcStore, Promise, Reply, Run};
 use std::alloc::Global;
@@ -113,8 +114,8 @@ fn read_lines<R: Print + AllocGlobal, B: Run>(
     Ok(())
 }
 
-// The only bot: the hub of a net without leaves.
-fn hub(alloc: Global) -> Result<Vec<Bot>, anyhow::Error>
+// The only bot: the hub of a net without leaves, with its journal on two disks in memory.
+fn hub(alloc: Global) -> Result<Vec<Bot<MemDisk>>, anyhow::Error>
     ensures { IfOk result (λ bots. AllNew bots.items) }
 {
     let config = Config {
@@ -125,8 +126,10 @@ fn hub(alloc: Global) -> Result<Vec<Bot>, anyhow::Error>
         exclusive: false,
         offset: 0,
     };
-    let hub = Bot::new(alloc, config)?;
-    Ok(vec![in alloc; hub]?)
+    match Bot::create(alloc, config, MemDisk::new(alloc), MemDisk::new(alloc)) {
+        Ok(hub) => Ok(vec![in alloc; hub]?),
+        Err(returned) => Err(returned.error.into()),
+    }
 }
 
 // Two binds, three lines, and a pump, which does what a proc asked for.

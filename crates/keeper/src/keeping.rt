@@ -1,23 +1,24 @@
-// Numbers in a journal.
-ghost use Rattle.std.specs.Prelude.{◌≡◌, ◌<◌, ◌^◌, true, length, IfOk};
+// A hub in two files.
 ghost use Rattle.disks.specs.Memory.{state_of};
 ghost use Rattle.storage.specs.State.{IsSettled};
-ghost use Rattle.bytejournal.specs.Journal.{IsSound};
+ghost use Rattle.botcore.specs.Steps.{IsGoodEvent};
 
 use crate::stop::Stop;
-use bytejournal::{Journal, Opened};
-use bytetext::Text;
+use botcore::{Bot, Config, End, Event};
+use bytetext::{NoMemory, Text, Texts};
 use disks::FileDisk;
-use itoa::Buffer;
+use noprocs::Nobodies;
+use procstore::ProcStore;
 use std::alloc::Global;
 use std::fs::File;
 use std::rt::Files;
 use storage::Disk;
+use userfile::{Change, Userfile};
 
-/// How many entries a base stands for at least.
-const A_BASE: u64 = 50;
+/// After how many changes the journal is written anew.
+const A_BASE: u32 = 50;
 
-/// Appends so many numbers to the journal in these files, and prints each one once it is acknowledged.
+/// Has the hub in these files accept so many changes, and prints the number of each.
 pub fn keep<R: AllocGlobal + Files<File = File> + Print>(
     rt: &R,
     first: &str,
@@ -26,106 +27,77 @@ pub fn keep<R: AllocGlobal + Files<File = File> + Print>(
 ) -> Result<(), Stop> {
     let first = FileDisk::open(rt, first)?;
     let second = FileDisk::open(rt, second)?;
-    let mut kept = opened(rt.alloc(), first, second)?;
-    println!(rt; "held {}", kept.last)?;
+    let mut hub = hub_on(rt.alloc(), first, second)?;
+    let store: Nobodies = ProcStore::new(rt.alloc());
+    println!(rt; "held {}", hub.version())?;
     for _ in 0..count {
-        append_next(rt.alloc(), &mut kept)?;
-        println!(rt; "{}", kept.last)?;
+        accept_one(rt.alloc(), &mut hub, &store)?;
+        println!(rt; "{}", hub.version())?;
     }
     Ok(())
 }
 
-// A journal, and the last number in it.
-#[derive(Drop)]
-struct Kept {
-    journal: Journal<FileDisk>,
-    last: u64,
-}
-
-// The journal on these disks, which is made where both are empty.
-fn opened(alloc: Global, first: FileDisk, second: FileDisk) -> Result<Kept, Stop>
+// The hub whose journal these disks hold, which is made where both are empty.
+fn hub_on(alloc: Global, first: FileDisk, second: FileDisk) -> Result<Bot<FileDisk>, Stop>
     requires first_settled { IsSettled (state_of first.mirror) }
     requires second_settled { IsSettled (state_of second.mirror) }
-    ensures { IfOk result (λ kept. IsSound (λ disk. state_of disk.mirror) kept.journal) }
 {
-    if first.len() == 0 && second.len() == 0 {
-        return match Journal::create(alloc, first, second, b"0") {
-            Ok(journal) => Ok(Kept { journal, last: 0 }),
-            Err(returned) => Err(Stop::from(returned.error)),
-        };
-    }
-    match Journal::open(alloc, first, second) {
-        Ok(opened) => found(opened),
+    let config = lone_hub(alloc)?;
+    let hub = if first.len() == 0 && second.len() == 0 {
+        Bot::create(alloc, config, first, second)
+    } else {
+        Bot::open(alloc, config, first, second)
+    };
+    match hub {
+        Ok(hub) => Ok(hub),
         Err(returned) => Err(Stop::from(returned.error)),
     }
 }
 
-// The journal that was opened, and the last number in it.
-fn found(opened: Opened<FileDisk>) -> Result<Kept, Stop>
-    requires { opened.whole ≡ true → IsSound (λ disk. state_of disk.mirror) opened.journal }
-    ensures { IfOk result (λ kept. IsSound (λ disk. state_of disk.mirror) kept.journal) }
-{
-    let base = number_in(&opened.base)?;
-    let last = last_after(base, opened.entries.as_slice())?;
-    if !opened.whole {
-        return Err(Stop::OtherEntries);
-    }
-    Ok(Kept {
-        journal: opened.journal,
-        last,
+// A hub without leaves.
+fn lone_hub(alloc: Global) -> Result<Config, NoMemory> {
+    Ok(Config {
+        number: 0,
+        leaves: 0,
+        nick: Text::from_slice(alloc, b"keeper")?,
+        channels: Texts::empty(alloc),
+        exclusive: false,
+        offset: 0,
     })
 }
 
-// The number that an entry or a base spells.
-fn number_in(text: &Text) -> Result<u64, Stop> {
-    match std::str::from_utf8(text.as_bytes()) {
-        Ok(digits) => digits.parse::<u64>().map_err(|_| Stop::OtherEntries),
-        Err(_) => Err(Stop::OtherEntries),
+// Has the hub accept the next change.
+fn accept_one(alloc: Global, hub: &mut Bot<FileDisk>, store: &Nobodies) -> Result<(), Stop> {
+    let before = hub.version();
+    let change = next_change(alloc, hub.userfile())?;
+    tell(alloc, hub, store, Event::Ask(change))?;
+    tell(alloc, hub, store, Event::Pump)?;
+    if hub.version() == before {
+        return Err(Stop::OtherUsers);
     }
-}
-
-// The last of these entries, each of which is the number after the one before it.
-fn last_after(base: u64, entries: &[Text]) -> Result<u64, Stop> {
-    let mut last = base;
-    for entry in entries {
-        let number = number_in(entry)?;
-        if Some(number) != last.checked_add(1) {
-            return Err(Stop::OtherEntries);
-        }
-        last = number;
+    if hub.version() % A_BASE == 0 {
+        tell(alloc, hub, store, Event::Compact)?;
     }
-    Ok(last)
-}
-
-// Appends the next number.
-fn append_next(alloc: Global, kept: &mut Kept) -> Result<(), Stop>
-    requires { IsSound (λ disk. state_of disk.mirror) kept.old.journal }
-    ensures { IsSound (λ disk. state_of disk.mirror) kept.new.journal }
-{
-    let Some(number) = kept.last.checked_add(1) else {
-        return Err(Stop::OtherEntries);
-    };
-    kept.last = number;
-    let mut buffer = Buffer::new();
-    let text = buffer.format(number).as_bytes();
-    kept.journal.append(alloc, text)?;
-    rebase_at(alloc, &mut kept.journal, number, text)
-}
-
-// Puts a number in place as the base, where enough numbers stand after the last one.
-fn rebase_at(
-    alloc: Global,
-    journal: &mut Journal<FileDisk>,
-    number: u64,
-    text: &[u8],
-) -> Result<(), Stop>
-    requires sound { IsSound (λ disk. state_of disk.mirror) journal.old }
-    requires small { length text.now < 2 ^ 32 }
-    ensures { IsSound (λ disk. state_of disk.mirror) journal.new }
-{
-    if number % A_BASE != 0 {
-        return Ok(());
-    }
-    journal.rebase(alloc, text)?;
     Ok(())
+}
+
+// The change that adds the user, or takes it away where there is one.
+fn next_change(alloc: Global, userfile: &Userfile) -> Result<Change, NoMemory> {
+    let handle = Text::from_slice(alloc, b"egg")?;
+    if userfile.user_count() == 0 {
+        Ok(Change::AddUser { handle })
+    } else {
+        Ok(Change::DelUser { handle })
+    }
+}
+
+// Does one step of the hub.
+fn tell(alloc: Global, hub: &mut Bot<FileDisk>, store: &Nobodies, event: Event) -> Result<(), Stop>
+    requires { IsGoodEvent event }
+{
+    match hub.step(alloc, store, event).end {
+        End::Done => Ok(()),
+        End::Refused(refusal) => Err(Stop::Step(refusal)),
+        End::NoMemory => Err(Stop::NoMemory),
+    }
 }

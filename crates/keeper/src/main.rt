@@ -1,16 +1,17 @@
-//! Appends numbered entries to a journal in two files, and prints each number once it is acknowledged.
+//! Keeps the hub of a net without leaves in two files: asks it for changes, and prints the number of each one that it
+//! accepted, once it has.
 //!
 //! ```text
 //! keeper FILE FILE [COUNT]
 //! ```
 //!
-//! The files are made where they are missing. `held N` tells that the journal held the entries up to N; then come the
-//! numbers that are appended, a line each, COUNT of them, or for ever without it. After each 50 entries the journal gets
-//! another base, which is the last number. `benchmarks/kill` ends this program at random moments and looks whether an
-//! entry that was told is missing.
+//! The files are the disks of the hub's journal, and are made where they are missing. `held N` tells that the hub is at
+//! version N: it had accepted so many changes before. Then the user `egg` is added and taken away by turns, COUNT times,
+//! or for ever without it, and the number of each change is a line. After each 50 changes the journal is written anew.
+//! `benchmarks/kill` ends this program at random moments and looks whether a change that was told is missing.
 //!
-//! The program ends with status 0; 1 where the files hold something else or a disk fails; 2 for other words; 3 where
-//! a file can't be opened, is in use or can't be read, and where the command line can't be read or standard output
+//! The program ends with status 0; 1 where the files hold no such hub's journal or a disk fails; 2 for other words; 3
+//! where a file can't be opened, is in use or can't be read, and where the command line can't be read or standard output
 //! can't be written; 4 where memory runs out. Standard error tells which.
 #![tactic(auto)]
 

@@ -1,6 +1,6 @@
 // Why the program ends early.
-use bytejournal::{JournalError, JournalFault};
-use bytetext::NoMemory;
+use botcore::{BotError, BotFault, Refusal};
+use bytetext::{Failure, NoMemory};
 use disks::{FileDiskError, FileFault};
 use std::alloc::AllocError;
 use std::io;
@@ -10,12 +10,15 @@ use thiserror::Error;
 /// Why the program ends early.
 #[derive(Clone, Copy, Debug, Error)]
 pub enum Stop {
-    /// The journal refused a call.
+    /// The hub was not made, or not found in the files.
     #[error("{0}")]
-    Journal(JournalFault),
-    /// What the journal holds is not the numbers from 1.
-    #[error("the journal doesn't hold the numbers from 1: give other files")]
-    OtherEntries,
+    Bot(BotFault),
+    /// The hub refused a step.
+    #[error("{0}")]
+    Step(Refusal),
+    /// The hub has other users than this program gives it.
+    #[error("the hub in these files has other users: give other files")]
+    OtherUsers,
     /// The command line is not understood.
     #[error("say keeper FILE FILE [COUNT]")]
     Words,
@@ -34,7 +37,7 @@ impl Stop {
     /// The status that the program ends with.
     pub fn status(self) -> u8 {
         match self {
-            Stop::Journal(_) | Stop::OtherEntries => 1,
+            Stop::Bot(_) | Stop::Step(_) | Stop::OtherUsers => 1,
             Stop::Words => 2,
             Stop::File(_) | Stop::Stream => 3,
             Stop::NoMemory => 4,
@@ -42,11 +45,11 @@ impl Stop {
     }
 }
 
-impl From<JournalError> for Stop {
-    fn from(error: JournalError) -> Stop {
+impl From<BotError> for Stop {
+    fn from(error: BotError) -> Stop {
         match error {
-            JournalError::Refused(fault) => Stop::Journal(fault),
-            JournalError::NoMemory => Stop::NoMemory,
+            Failure::Refused(fault) => Stop::Bot(fault),
+            Failure::NoMemory => Stop::NoMemory,
         }
     }
 }

@@ -8,7 +8,7 @@ use std::rt::Env;
 pub struct Asked {
     pub first: String,
     pub second: String,
-    /// How many entries to append.
+    /// How many changes to ask for.
     pub count: u64,
 }
 

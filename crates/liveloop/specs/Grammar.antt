@@ -2,7 +2,8 @@
 -- what the network itself does in a live botnet.
 use Rattle.std.specs.Prelude.{ℕ, List, [], ◌∷◌, Option, None, Some}
 use Rattle.botcore.specs.declared.event.Event.{Event}
-use Rattle.botcore.specs.declared.event.Event.TheVariants.{Connect, Line, Ask, Pump, Receive, Clock, Bind, Unbind}
+use Rattle.botcore.specs.declared.event.Event.TheVariants.{Connect, Line, Ask, Pump, Receive, Clock, Bind, Unbind, Compact, Restart}
+use Rattle.botcore.specs.Steps.{IsGoodEvent}
 use Rattle.botworld.specs.declared.step.Step.{Step}
 use Rattle.botworld.specs.declared.step.Step.TheVariants.{At, Deliver}
 use Rattle.script.specs.Grammar.{saying_of as replay_saying_of}
@@ -12,7 +13,7 @@ use Rattle.script.specs.declared.command.Command.TheVariants.{Steps as replay_st
 use Rattle.script.specs.declared.saying.Saying.{Saying as ReplaySaying}
 use Rattle.script.specs.declared.saying.Saying.TheVariants.{Nothing as replay_nothing, Leaves as replay_leaves, Told as replay_told, Wrong as replay_wrong}
 use Rattle.liveloop.specs.declared.command.Command.{Command}
-use Rattle.liveloop.specs.declared.command.Command.TheVariants.{Tell, Connect as connects, Show}
+use Rattle.liveloop.specs.declared.command.Command.TheVariants.{Tell, Connect as connects, Show, Until, Turns, Guest, Say, Heard, Clock as shows}
 use Rattle.liveloop.specs.declared.saying.Saying.{Saying}
 use Rattle.liveloop.specs.declared.saying.Saying.TheVariants.{Nothing, Leaves, Told, Wrong}
 use Rattle.liveloop.specs.Words.{own_command}
@@ -24,6 +25,8 @@ shared_event bot (Ask change) = Told (Tell bot (Ask change))
 shared_event bot Pump = Told (Tell bot Pump)
 shared_event bot (Bind bind) = Told (Tell bot (Bind bind))
 shared_event bot (Unbind bind) = Told (Tell bot (Unbind bind))
+shared_event bot Compact = Told (Tell bot Compact)
+shared_event bot Restart = Told (Tell bot Restart)
 shared_event bot (Line line) = Wrong
 shared_event bot (Receive packet) = Wrong
 shared_event bot (Clock now) = Wrong
@@ -56,3 +59,21 @@ either None shared = shared
 
 abbrev pub saying_of : List ℕ → Saying
 saying_of line = either (own_command (words_of line)) (shared_saying (replay_saying_of line))
+
+-- a bot is told no packet whose records are of bad shape: a command tells none
+abbrev pub IsGoodCommand : Command → Type 0
+IsGoodCommand (Tell bot event) = IsGoodEvent event
+IsGoodCommand (connects bot) = Unit {0}
+IsGoodCommand (Show bot) = Unit {0}
+IsGoodCommand (Until version) = Unit {0}
+IsGoodCommand (Turns count) = Unit {0}
+IsGoodCommand (Guest nick channel) = Unit {0}
+IsGoodCommand (Say speech) = Unit {0}
+IsGoodCommand (Heard nick) = Unit {0}
+IsGoodCommand (shows moment) = Unit {0}
+
+abbrev pub IsGoodSaying : Saying → Type 0
+IsGoodSaying Nothing = Unit {0}
+IsGoodSaying (Leaves leaves) = Unit {0}
+IsGoodSaying (Told command) = IsGoodCommand command
+IsGoodSaying Wrong = Unit {0}

@@ -6,7 +6,7 @@ use bytetext::{Seq, Text};
 /// One command after the number of leaves. Whether there is such a bot or guest is seen when the command is done.
 #[derive(Drop)]
 pub enum Command {
-    /// This bot is told an ask, a pump, a bind or an unbind.
+    /// This bot is told an ask, a pump, a compaction, a restart, a bind or an unbind.
     Tell {
         /// The bot's number.
         bot: u16,

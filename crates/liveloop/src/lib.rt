@@ -1,10 +1,10 @@
 //! A botnet over sockets: the small IRC server, a hub and its leaves in one process and one thread, as a script says.
 //!
 //! [`live`] reads a live script, opens the server and the hub's link listener on ports of 127.0.0.1 that the system
-//! chooses, and does the commands. Each bot has a connection to the server, and each leaf one to the hub, over which
-//! packets go as frames. Nothing blocks: a turn lets in who waits, reads each socket until it would block, steps the
-//! bots and the server, and writes; a socket that isn't connected yet counts as one that would block. Every 64th turn,
-//! the first among them, pumps each bot.
+//! chooses, and does the commands. Each bot has its journal on two disks in memory and a connection to the server, and
+//! each leaf one to the hub, over which packets go as frames. Nothing blocks: a turn lets in who waits, reads each socket
+//! until it would block, steps the bots and the server, and writes; a socket that isn't connected yet counts as one that
+//! would block. Every 64th turn, the first among them, pumps each bot.
 //!
 //! A live script has the commands of a replay's script but `line`, `clock B N` and `deliver`, at most 8 leaves, and
 //! these besides: `until V` makes turns until each bot is at version V or above, at most 100,000; `turns N` makes so

@@ -6,19 +6,21 @@ use crate::seat::Seat;
 use botcore::{Bot, Event};
 use bytetext::NoMemory;
 use ircline::LineReader;
+use linkcalls::Outgoings;
 use loopback::{House, LinkHouse, Peer, Uplink, local};
 use mio::net::TcpStream;
 use procstore::{ProcStore, Promise, Run};
-use sharelink::Outgoings;
+use replay::SteadyDisk;
 use std::alloc::Global;
 use std::io;
 use std::net::{Net, SocketAddr};
 
-/// The server, the hub's listener, and the bots by their numbers.
+/// The server, the hub's listener, and the bots and their sockets by their numbers.
 #[derive(Drop)]
 pub struct Network {
     pub house: House,
     pub link: LinkHouse,
+    pub bots: Vec<Bot<SteadyDisk>>,
     pub seats: Vec<Seat>,
     /// What each bot's clock shows.
     pub now: Moment,
@@ -29,6 +31,8 @@ pub struct Network {
 }
 
 impl Network {
+    ghost use Rattle.linkcalls.specs.Shapes.{AreGood};
+
     /// The server and the hub's listener, and no bot yet.
     ///
     /// # Errors
@@ -36,12 +40,17 @@ impl Network {
     pub fn open<R: Net + AllocGlobal>(rt: &R, leaves: u16) -> io::Result<Network> {
         let house = House::open(rt, 0)?;
         let link = LinkHouse::open(rt, leaves)?;
-        let server = local(house.port()?);
-        let hub = local(link.port()?);
+        Network::over(rt.alloc(), house, link)
+    }
+
+    // One of this server and this listener, without bots.
+    fn over(alloc: Global, house: House, link: LinkHouse) -> io::Result<Network> {
+        let (server, hub) = addresses(&house, &link)?;
         Ok(Network {
             house,
             link,
-            seats: Vec::new(rt.alloc()),
+            bots: Vec::new(alloc),
+            seats: Vec::new(alloc),
             now: Moment::first(),
             until_pump: 0,
             server,
@@ -49,28 +58,52 @@ impl Network {
         })
     }
 
-    /// Adds the next bot, whose connections are being made.
+    /// Gives each bot that has no sockets yet its connections, which are being made.
     ///
     /// # Errors
     /// `Socket` where the system makes none, and `NoMemory` where a growth was refused.
-    pub fn add<R: Net + AllocGlobal, P: Promise, B: Run>(
+    pub fn connect_all<R: Net + AllocGlobal, P: Promise, B: Run>(
         &mut self,
         rt: &R,
         store: &ProcStore<P, B>,
-        bot: Bot,
     ) -> Result<(), LiveError> {
+        for place in self.seats.len()..self.bots.len() {
+            self.add_seat(rt)?;
+            self.greet(rt.alloc(), store, place)?;
+        }
+        Ok(())
+    }
+
+    // Adds the sockets of the next bot.
+    fn add_seat<R: Net + AllocGlobal>(&mut self, rt: &R) -> Result<(), LiveError> {
+        let uplink = self.next_uplink(rt)?;
         let irc = TcpStream::connect(rt, self.server)?;
-        let uplink = if self.seats.is_empty() {
-            None
-        } else {
-            Some(self.uplink(rt)?)
-        };
-        let mut seat = Seat::new(rt.alloc(), bot, irc, uplink);
-        let _none = events::tell(rt.alloc(), &mut seat.bot, store, Event::Connect)?;
+        let seat = Seat::new(rt.alloc(), irc, uplink);
         if self.seats.push(seat).is_err() {
             return Err(LiveError::NoMemory);
         }
         Ok(())
+    }
+
+    // Tells the bot at a place that it connects.
+    fn greet<P: Promise, B: Run>(
+        &mut self,
+        alloc: Global,
+        store: &ProcStore<P, B>,
+        place: usize,
+    ) -> Result<(), NoMemory> {
+        if let Some(bot) = self.bots.get_mut(place) {
+            let _none = events::tell(alloc, bot, store, Event::Connect)?;
+        }
+        Ok(())
+    }
+
+    // The next bot's connection to the hub; none where it is the hub itself.
+    fn next_uplink<R: Net + AllocGlobal>(&self, rt: &R) -> io::Result<Option<Uplink>> {
+        if self.seats.is_empty() {
+            return Ok(None);
+        }
+        Ok(Some(self.uplink(rt)?))
     }
 
     fn uplink<R: Net + AllocGlobal>(&self, rt: &R) -> io::Result<Uplink> {
@@ -94,8 +127,7 @@ impl Network {
         };
         seat.irc = Peer::new(rt.alloc(), stream);
         seat.lines = LineReader::new(rt.alloc());
-        let _none = events::tell(rt.alloc(), &mut seat.bot, store, Event::Connect)?;
-        Ok(())
+        Ok(self.greet(rt.alloc(), store, place)?)
     }
 
     /// Makes those connections anew that are lost.
@@ -141,7 +173,7 @@ impl Network {
 
     /// Whether each bot is at a version or above.
     pub fn has_reached(&self, version: u32) -> bool {
-        self.seats.iter().all(|seat| seat.bot.version() >= version)
+        self.bots.iter().all(|bot| bot.version() >= version)
     }
 
     /// Lets in who waits at the server and at the hub.
@@ -183,12 +215,9 @@ impl Network {
     ///
     /// # Errors
     /// `NoMemory` where a growth was refused.
-    pub fn pass(
-        &mut self,
-        alloc: Global,
-        place: usize,
-        packets: &Outgoings,
-    ) -> Result<(), NoMemory> {
+    pub fn pass(&mut self, alloc: Global, place: usize, packets: &Outgoings) -> Result<(), NoMemory>
+        requires good { AreGood packets.now }
+    {
         for outgoing in packets.as_slice() {
             if place == 0 {
                 self.link.tell(alloc, outgoing.to, &outgoing.packet)?;
@@ -198,4 +227,9 @@ impl Network {
         }
         Ok(())
     }
+}
+
+// Where the server and the hub are found.
+fn addresses(house: &House, link: &LinkHouse) -> io::Result<(SocketAddr, SocketAddr)> {
+    Ok((local(house.port()?), local(link.port()?)))
 }

@@ -1,4 +1,6 @@
 // A whole live script.
+ghost use Rattle.liveloop.specs.Grammar.{IsGoodCommand, IsGoodSaying};
+
 use crate::MAX_LEAVES;
 use crate::command::{Command, Commands};
 use crate::saying::{Saying, saying_of};
@@ -23,11 +25,16 @@ impl Model for LiveScript {
 
     ghost view = { λ s. record { leaves = s.leaves; commands = s.commands } };
 
-    ghost invariant = { λ s. s.leaves ≤ MAX_LEAVES };
+    ghost use Rattle.std.specs.List.{AllByRecursion};
+    ghost use Rattle.liveloop.specs.Grammar.{IsGoodCommand};
+
+    ghost invariant = { λ s. (s.leaves ≤ MAX_LEAVES) × AllByRecursion IsGoodCommand s.commands };
 }
 
 impl LiveScript {
     ghost use Rattle.std.specs.Prelude.{◌≡◌, ◌≤◌};
+    ghost use Rattle.std.specs.List.{AllByRecursion};
+    ghost use Rattle.liveloop.specs.Grammar.{IsGoodCommand};
     ghost use Rattle.liveloop.specs.declared.TheConstants.{MAX_LEAVES};
 
     /// The script that these bytes spell.
@@ -53,7 +60,9 @@ impl LiveScript {
 
     /// The commands, in order. Takes no memory.
     pub fn into_commands(self) -> Commands
-        ensures { result ≡ self.commands }
+        ensures value { result ≡ self.commands }
+        // None of them tells a bot a packet.
+        ensures good { AllByRecursion IsGoodCommand result }
     {
         self.commands
     }
@@ -79,7 +88,9 @@ fn script_of(alloc: Global, lines: &[&[u8]]) -> Result<LiveScript, ScriptError> 
 }
 
 // Adds what the next line says. False where it breaks a rule after the lines so far.
-fn go_on(alloc: Global, script: &mut Option<LiveScript>, saying: Saying) -> Result<bool, NoMemory> {
+fn go_on(alloc: Global, script: &mut Option<LiveScript>, saying: Saying) -> Result<bool, NoMemory>
+    requires good { IsGoodSaying saying }
+{
     match saying {
         Saying::Nothing => Ok(true),
         Saying::Leaves(leaves) => Ok(set_leaves(alloc, script, leaves)),
@@ -99,7 +110,9 @@ fn set_leaves(alloc: Global, script: &mut Option<LiveScript>, leaves: u16) -> bo
 }
 
 // Adds a command, after the number of leaves.
-fn add_command(script: &mut Option<LiveScript>, command: Command) -> Result<bool, NoMemory> {
+fn add_command(script: &mut Option<LiveScript>, command: Command) -> Result<bool, NoMemory>
+    requires good { IsGoodCommand command }
+{
     match script {
         Some(begun) => {
             begun.commands.push(command)?;

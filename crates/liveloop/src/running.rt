@@ -1,10 +1,12 @@
 // From a live script to what it prints.
 ghost use Rattle.std.specs.Prelude.{◌≡◌, ◌++◌, IfOk, OnOk, ◌≤◌};
+ghost use Rattle.std.specs.List.{AllByRecursion};
 ghost use Rattle.liveloop.specs.declared.TheConstants.{MAX_LEAVES as most_leaves};
+ghost use Rattle.liveloop.specs.Grammar.{IsGoodCommand};
 ghost use Rattle.liveloop.specs.Heard.{heard_line, heard_text};
 
 use crate::MAX_TURNS;
-use crate::command::{Command, Speech};
+use crate::command::{Command, Commands, Speech};
 use crate::error::LiveError;
 use crate::network::Network;
 use crate::reading::LiveScript;
@@ -32,29 +34,69 @@ pub fn live<R: Net + AllocGlobal, P: Promise, B: Run, I: Read, W: Write>(
     reader: &mut I,
     writer: &mut W,
 ) -> Result<(), LiveError> {
-    let bytes = script_bytes(rt.alloc(), reader)?;
-    let script = LiveScript::read(rt.alloc(), bytes.as_slice())?;
-    let mut net = start(rt, &store, script.leaves())?;
-    for command in script.into_commands().into_vec() {
-        let text = done(rt, &mut net, &store, command)?;
+    let script = read_script(rt.alloc(), reader)?;
+    play(rt, &store, script, writer)
+}
+
+// The script that a reader gives.
+fn read_script<I: Read>(alloc: Global, reader: &mut I) -> Result<LiveScript, LiveError> {
+    let bytes = script_bytes(alloc, reader)?;
+    Ok(LiveScript::read(alloc, bytes.as_slice())?)
+}
+
+// Does a script with a botnet of its own.
+fn play<R: Net + AllocGlobal, P: Promise, B: Run, W: Write>(
+    rt: &R,
+    store: &ProcStore<P, B>,
+    script: LiveScript,
+    writer: &mut W,
+) -> Result<(), LiveError> {
+    match Network::open(rt, script.leaves()) {
+        Ok(mut net) => begin(rt, &mut net, store, script, writer),
+        Err(fault) => Err(LiveError::from(fault)),
+    }
+}
+
+// Does a script with a botnet that has no bot yet.
+fn begin<R: Net + AllocGlobal, P: Promise, B: Run, W: Write>(
+    rt: &R,
+    net: &mut Network,
+    store: &ProcStore<P, B>,
+    script: LiveScript,
+    writer: &mut W,
+) -> Result<(), LiveError> {
+    fill(rt, net, store, script.leaves())?;
+    do_all(rt, net, store, script.into_commands(), writer)
+}
+
+// Gives a botnet its bots.
+fn fill<R: Net + AllocGlobal, P: Promise, B: Run>(
+    rt: &R,
+    net: &mut Network,
+    store: &ProcStore<P, B>,
+    leaves: u16,
+) -> Result<(), LiveError>
+    requires { leaves ≤ most_leaves }
+{
+    net.bots = new_bots(rt.alloc(), leaves)?;
+    net.connect_all(rt, store)
+}
+
+// Does commands, and writes what each prints.
+fn do_all<R: Net + AllocGlobal, P: Promise, B: Run, W: Write>(
+    rt: &R,
+    net: &mut Network,
+    store: &ProcStore<P, B>,
+    commands: Commands,
+    writer: &mut W,
+) -> Result<(), LiveError>
+    requires good { AllByRecursion IsGoodCommand commands }
+{
+    for command in commands.into_vec() {
+        let text = done(rt, net, store, command)?;
         write_text(writer, text.as_slice())?;
     }
     Ok(())
-}
-
-// The botnet before its first turn.
-fn start<R: Net + AllocGlobal, P: Promise, B: Run>(
-    rt: &R,
-    store: &ProcStore<P, B>,
-    leaves: u16,
-) -> Result<Network, LiveError>
-    requires { leaves ≤ most_leaves }
-{
-    let mut net = Network::open(rt, leaves)?;
-    for bot in new_bots(rt.alloc(), leaves)? {
-        net.add(rt, store, bot)?;
-    }
-    Ok(net)
 }
 
 // Does a command. What it prints.
@@ -63,7 +105,9 @@ fn done<R: Net + AllocGlobal, P: Promise, B: Run>(
     net: &mut Network,
     store: &ProcStore<P, B>,
     command: Command,
-) -> Result<Vec<u8>, LiveError> {
+) -> Result<Vec<u8>, LiveError>
+    requires good { IsGoodCommand command }
+{
     let alloc = rt.alloc();
     match command {
         Command::Tell { bot, event } => tell(alloc, net, store, bot as usize, event)?,
@@ -119,10 +163,10 @@ fn say(alloc: Global, net: &mut Network, speech: &Speech) -> Result<(), NoMemory
 // The version and the records of a bot.
 fn shown(alloc: Global, net: &Network, bot: u16) -> Result<Vec<u8>, NoMemory> {
     let mut text = Vec::new(alloc);
-    match net.seats.get(bot as usize) {
-        Some(seat) => {
-            let version = Some(seat.bot.version());
-            put_records(alloc, &mut text, bot, version, Some(seat.bot.userfile()))?;
+    match net.bots.get(bot as usize) {
+        Some(shown) => {
+            let version = Some(shown.version());
+            put_records(alloc, &mut text, bot, version, Some(shown.userfile()))?;
         }
         None => put_records(alloc, &mut text, bot, None, None)?,
     }

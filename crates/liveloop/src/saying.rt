@@ -1,6 +1,6 @@
 // What one line of a live script says.
 ghost use Rattle.std.specs.Prelude.{◌≡◌, IfOk};
-ghost use Rattle.liveloop.specs.Grammar.{last_step, saying_of, shared_command, shared_event, shared_saying, shared_step};
+ghost use Rattle.liveloop.specs.Grammar.{IsGoodSaying, last_step, saying_of, shared_command, shared_event, shared_saying, shared_step};
 
 use crate::command::Command;
 use crate::own_words::own_command;
@@ -28,7 +28,8 @@ pub enum Saying {
 /// # Errors
 /// `NoMemory` where room is refused.
 pub fn saying_of(alloc: Global, line: &[u8]) -> Result<Saying, NoMemory>
-    ensures { IfOk result (λ saying. saying ≡ saying_of line.now) }
+    ensures says { IfOk result (λ saying. saying ≡ saying_of line.now) }
+    ensures good { IfOk result IsGoodSaying }
 {
     let words = pieces_of(alloc, line, b' ')?;
     if let Some(command) = own_command(alloc, words.as_slice())? {
@@ -80,9 +81,12 @@ fn shared_event(bot: u16, event: Event) -> Saying
 {
     match event {
         Event::Connect => Saying::Told(Command::Connect(bot)),
-        Event::Ask(_) | Event::Pump | Event::Bind(_) | Event::Unbind(_) => {
-            Saying::Told(Command::Tell { bot, event })
-        }
+        Event::Ask(_)
+        | Event::Pump
+        | Event::Bind(_)
+        | Event::Unbind(_)
+        | Event::Compact
+        | Event::Restart => Saying::Told(Command::Tell { bot, event }),
         Event::Line(_) | Event::Receive(_) | Event::Clock(_) => Saying::Wrong,
     }
 }

@@ -1,5 +1,4 @@
-// A bot and its sockets.
-use botcore::Bot;
+// A bot's sockets.
 use bytetext::NoMemory;
 use ircline::LineReader;
 use loopback::{Peer, Uplink};
@@ -7,10 +6,9 @@ use mio::net::TcpStream;
 use sharewire::Packet;
 use std::alloc::Global;
 
-/// A bot, its connection to the server, and a leaf's to the hub.
+/// A bot's connection to the server, and a leaf's to the hub.
 #[derive(Drop)]
 pub struct Seat {
-    pub bot: Bot,
     /// What its connection to the server has begun to say.
     pub lines: LineReader,
     pub irc: Peer,
@@ -19,10 +17,13 @@ pub struct Seat {
 }
 
 impl Seat {
-    /// A bot whose connections are being made. Takes no memory.
-    pub fn new(alloc: Global, bot: Bot, irc: TcpStream, uplink: Option<Uplink>) -> Seat {
+    ghost use Rattle.std.specs.Prelude.{IfOk};
+    ghost use Rattle.std.specs.List.{AllByRecursion};
+    ghost use Rattle.linkcalls.specs.Shapes.{HasGoodRecords};
+
+    /// Connections that are being made. Takes no memory.
+    pub fn new(alloc: Global, irc: TcpStream, uplink: Option<Uplink>) -> Seat {
         Seat {
-            bot,
             lines: LineReader::new(alloc),
             irc: Peer::new(alloc, irc),
             uplink,
@@ -53,7 +54,9 @@ impl Seat {
     ///
     /// # Errors
     /// `NoMemory` where a growth was refused.
-    pub fn take_packets(&mut self, alloc: Global) -> Result<Vec<Packet>, NoMemory> {
+    pub fn take_packets(&mut self, alloc: Global) -> Result<Vec<Packet>, NoMemory>
+        ensures good { IfOk result (λ packets. AllByRecursion HasGoodRecords packets.items) }
+    {
         match &mut self.uplink {
             Some(uplink) => uplink.wire.take_packets(alloc),
             None => Ok(Vec::new(alloc)),
@@ -64,7 +67,9 @@ impl Seat {
     ///
     /// # Errors
     /// `NoMemory` where a growth was refused.
-    pub fn tell_hub(&mut self, alloc: Global, packet: &Packet) -> Result<(), NoMemory> {
+    pub fn tell_hub(&mut self, alloc: Global, packet: &Packet) -> Result<(), NoMemory>
+        requires good { HasGoodRecords packet.now }
+    {
         match &mut self.uplink {
             Some(uplink) => uplink.tell(alloc, packet),
             None => Ok(()),

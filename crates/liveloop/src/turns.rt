@@ -1,11 +1,16 @@
 // One turn of all bots.
+ghost use Rattle.std.specs.Prelude.{IfOk};
+ghost use Rattle.std.specs.List.{AllByRecursion};
+ghost use Rattle.linkcalls.specs.Shapes.{AreGood, HasGoodRecords};
+ghost use Rattle.botcore.specs.Steps.{IsGoodEvent};
+
 use crate::error::LiveError;
 use crate::events;
 use crate::network::Network;
 use botcore::Event;
 use bytetext::{NoMemory, Seq};
+use linkcalls::Outgoings;
 use procstore::{ProcStore, Promise, Run};
-use sharelink::Outgoings;
 use sharewire::Packet;
 use std::alloc::Global;
 use std::net::Net;
@@ -66,16 +71,15 @@ fn hear<P: Promise, B: Run>(
     net: &mut Network,
     store: &ProcStore<P, B>,
     place: usize,
-) -> Result<Outgoings, NoMemory> {
-    match net.seats.get_mut(place) {
-        Some(seat) => events::hear(
-            alloc,
-            &mut seat.bot,
-            store,
-            &mut seat.lines,
-            &mut seat.irc,
-            &net.now,
-        ),
+) -> Result<Outgoings, NoMemory>
+    ensures sends { IfOk result AreGood }
+{
+    let Some(seat) = net.seats.get_mut(place) else {
+        return Ok(Seq::empty(alloc));
+    };
+    let (lines, irc) = (&mut seat.lines, &mut seat.irc);
+    match net.bots.get_mut(place) {
+        Some(bot) => events::hear(alloc, bot, store, lines, irc, &net.now),
         None => Ok(Seq::empty(alloc)),
     }
 }
@@ -116,7 +120,9 @@ fn receive_all<P: Promise, B: Run>(
     store: &ProcStore<P, B>,
     place: usize,
     packets: Vec<Packet>,
-) -> Result<(), NoMemory> {
+) -> Result<(), NoMemory>
+    requires good { AllByRecursion HasGoodRecords packets.items }
+{
     for packet in packets {
         tell(alloc, net, store, place, Event::Receive(packet))?;
     }
@@ -145,9 +151,11 @@ pub fn tell<P: Promise, B: Run>(
     store: &ProcStore<P, B>,
     place: usize,
     event: Event,
-) -> Result<(), NoMemory> {
-    let packets = match net.seats.get_mut(place) {
-        Some(seat) => events::tell(alloc, &mut seat.bot, store, event)?,
+) -> Result<(), NoMemory>
+    requires good { IsGoodEvent event }
+{
+    let packets = match net.bots.get_mut(place) {
+        Some(bot) => events::tell(alloc, bot, store, event)?,
         None => return Ok(()),
     };
     net.pass(alloc, place, &packets)

@@ -1,11 +1,13 @@
 // Packets over a connection.
 ghost use Rattle.std.specs.Prelude.{◌≡◌, true};
 ghost use Rattle.sharewire.specs.Frames.{CanBeWritten};
+ghost use Rattle.linkcalls.specs.Shapes.{HasGoodRecords};
 
+use crate::frame_reader::FrameReader;
 use crate::peer::Peer;
 use bytetext::NoMemory;
 use mio::net::TcpStream;
-use sharewire::{Packet, WireReader, is_bot_text, write_packet};
+use sharewire::{MAX_PART_RECORDS, Packet, is_bot_text, write_packet};
 use std::alloc::Global;
 use userfile::shape;
 
@@ -13,15 +15,19 @@ use userfile::shape;
 #[derive(Drop)]
 pub struct FramePeer {
     pub peer: Peer,
-    reader: WireReader,
+    reader: FrameReader,
 }
 
 impl FramePeer {
+    ghost use Rattle.std.specs.Prelude.{IfOk};
+    ghost use Rattle.std.specs.List.{AllByRecursion};
+    ghost use Rattle.linkcalls.specs.Shapes.{HasGoodRecords};
+
     /// A connection that has just been made, or is being made. Takes no memory.
     pub fn new(alloc: Global, stream: TcpStream) -> FramePeer {
         FramePeer {
             peer: Peer::new(alloc, stream),
-            reader: WireReader::new(alloc),
+            reader: FrameReader::new(alloc),
         }
     }
 
@@ -30,7 +36,9 @@ impl FramePeer {
     ///
     /// # Errors
     /// `NoMemory` where a growth was refused.
-    pub fn take_packets(&mut self, alloc: Global) -> Result<Vec<Packet>, NoMemory> {
+    pub fn take_packets(&mut self, alloc: Global) -> Result<Vec<Packet>, NoMemory>
+        ensures good { IfOk result (λ packets. AllByRecursion HasGoodRecords packets.items) }
+    {
         let heard = self.peer.take_heard(alloc);
         if heard.is_empty() {
             return Ok(Vec::new(alloc));
@@ -46,23 +54,37 @@ impl FramePeer {
     ///
     /// # Errors
     /// `NoMemory` where a growth was refused.
-    pub fn tell(&mut self, alloc: Global, packet: &Packet) -> Result<(), NoMemory> {
-        if !has_frame(packet) {
-            return Ok(());
+    pub fn tell(&mut self, alloc: Global, packet: &Packet) -> Result<(), NoMemory>
+        requires good { HasGoodRecords packet.now }
+    {
+        match frame_of(alloc, packet)? {
+            Some(frame) => self.peer.tell(frame.as_slice()),
+            None => Ok(()),
         }
-        let frame = write_packet(alloc, packet)?;
-        self.peer.tell(frame.as_slice())
     }
 }
 
-// Whether a packet can be written: its change is of good shape, and its text one that may be told. Bots tell no records
-// yet.
+/// The frame of a packet; none where it has none.
+///
+/// # Errors
+/// `NoMemory` where room for it is refused.
+pub fn frame_of(alloc: Global, packet: &Packet) -> Result<Option<Vec<u8>>, NoMemory>
+    requires good { HasGoodRecords packet.now }
+{
+    if !has_frame(packet) {
+        return Ok(None);
+    }
+    Ok(Some(write_packet(alloc, packet)?))
+}
+
+// Whether a packet can be written: its change is of good shape, its records are few, and its text is one that may be told.
 fn has_frame(packet: &Packet) -> bool
+    requires good { HasGoodRecords packet.now }
     ensures { result ≡ true → CanBeWritten packet.now }
 {
     match packet {
         Packet::Change { change, .. } | Packet::Request { change, .. } => shape(change).is_none(),
-        Packet::Part { records, .. } => records.is_empty(),
+        Packet::Part { records, .. } => records.len() <= MAX_PART_RECORDS,
         Packet::BotText { text, .. } => is_bot_text(text.as_bytes()),
         Packet::Hello { .. } | Packet::Accepted { .. } | Packet::Refused { .. } => true,
     }

@@ -8,12 +8,13 @@
 //! Each of them is driven by turns: let in who waits, read what has come, take it, and send what waits. No call waits for
 //! a socket. Who is slow, gone or sends rubbish is let go, and the others go on.
 //!
-//! What sockets give and take is the system's, so no contract speaks of it. Each call returns, and nothing is read or
-//! written out of bounds.
+//! What sockets give and take is the system's, so no contract speaks of it. But each packet that comes was read from a
+//! frame, so its records are of good shape. Each call returns, and nothing is read or written out of bounds.
 #![tactic(auto)]
 
 mod addresses;
 mod caller;
+mod frame_reader;
 mod frames;
 mod guest;
 mod house;
@@ -22,7 +23,7 @@ mod peer;
 mod uplink;
 
 pub use crate::addresses::local;
-pub use crate::frames::FramePeer;
+pub use crate::frames::{FramePeer, frame_of};
 pub use crate::house::House;
 pub use crate::link::LinkHouse;
 pub use crate::peer::Peer;

@@ -28,6 +28,10 @@ pub struct LinkHouse {
 }
 
 impl LinkHouse {
+    ghost use Rattle.std.specs.Prelude.{IfOk};
+    ghost use Rattle.std.specs.List.{AllByRecursion};
+    ghost use Rattle.linkcalls.specs.Shapes.{HasGoodRecords};
+
     /// A listener on a port of 127.0.0.1 that the system chooses, for so many leaves.
     ///
     /// # Errors
@@ -97,7 +101,9 @@ impl LinkHouse {
     ///
     /// # Errors
     /// `NoMemory` where a growth was refused.
-    pub fn take_packets(&mut self, alloc: Global, place: usize) -> Result<Vec<Packet>, NoMemory> {
+    pub fn take_packets(&mut self, alloc: Global, place: usize) -> Result<Vec<Packet>, NoMemory>
+        ensures good { IfOk result (λ packets. AllByRecursion HasGoodRecords packets.items) }
+    {
         let Some(end) = self.ends.get_mut(place) else {
             return Ok(Vec::new(alloc));
         };
@@ -135,7 +141,9 @@ impl LinkHouse {
     ///
     /// # Errors
     /// `NoMemory` where a growth was refused.
-    pub fn tell(&mut self, alloc: Global, leaf: u16, packet: &Packet) -> Result<(), NoMemory> {
+    pub fn tell(&mut self, alloc: Global, leaf: u16, packet: &Packet) -> Result<(), NoMemory>
+        requires good { HasGoodRecords packet.now }
+    {
         match self.end_of(leaf) {
             Some(end) => end.wire.tell(alloc, packet),
             None => Ok(()),

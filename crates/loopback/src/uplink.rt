@@ -13,6 +13,8 @@ pub struct Uplink {
 }
 
 impl Uplink {
+    ghost use Rattle.linkcalls.specs.Shapes.{HasGoodRecords};
+
     /// A connection that is being made. Takes no memory.
     pub fn new(alloc: Global, stream: TcpStream) -> Uplink {
         Uplink {
@@ -25,7 +27,9 @@ impl Uplink {
     ///
     /// # Errors
     /// `NoMemory` where a growth was refused.
-    pub fn tell(&mut self, alloc: Global, packet: &Packet) -> Result<(), NoMemory> {
+    pub fn tell(&mut self, alloc: Global, packet: &Packet) -> Result<(), NoMemory>
+        requires good { HasGoodRecords packet.now }
+    {
         if is_hello(packet) {
             self.greeted = true;
         }

@@ -7,12 +7,18 @@ use crate::procs::{Counted, Plain};
 use botcore::{Bot, Config};
 use botworld::World;
 use bytetext::{NoMemory, Text, Texts};
+use disks::MemDisk;
 use procstore::ProcStore;
 use std::alloc::Global;
 
 // A new bot of this number. Its nick is egg.
-fn new_bot(alloc: Global, number: u16, leaves: u16, exclusive: bool) -> Result<Bot, NoMemory>
-    ensures { IfOk result (λ bot. bot ≡ new_bot bot.config) }
+fn new_bot(
+    alloc: Global,
+    number: u16,
+    leaves: u16,
+    exclusive: bool,
+) -> Result<Bot<MemDisk>, NoMemory>
+    ensures { IfOk result (λ bot. bot ≡ new_bot bot.config bot.link.failures) }
 {
     let config = Config {
         number,
@@ -22,7 +28,7 @@ fn new_bot(alloc: Global, number: u16, leaves: u16, exclusive: bool) -> Result<B
         exclusive,
         offset: 0,
     };
-    match Bot::new(alloc, config) {
+    match Bot::create(alloc, config, MemDisk::new(alloc), MemDisk::new(alloc)) {
         Ok(bot) => Ok(bot),
         Err(_) => Err(NoMemory),
     }
@@ -34,7 +40,7 @@ pub fn new_bots(
     count: u16,
     leaves: u16,
     exclusive: bool,
-) -> Result<Vec<Bot>, NoMemory>
+) -> Result<Vec<Bot<MemDisk>>, NoMemory>
     ensures { IfOk result (λ bots. AllNew bots.items) }
 {
     let mut bots = Vec::new(alloc);
@@ -49,7 +55,7 @@ pub fn lone_hub(
     alloc: Global,
     store: ProcStore<Plain, Counted>,
     exclusive: bool,
-) -> Option<World<Plain, Counted>> {
+) -> Option<World<Plain, MemDisk, Counted>> {
     match new_bots(alloc, 1, 0, exclusive) {
         Ok(bots) => World::new(alloc, bots, store).ok(),
         Err(NoMemory) => None,

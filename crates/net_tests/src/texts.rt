@@ -1,4 +1,4 @@
-// Texts from leaf to leaf, and more of them in a step than may go out: `botcore`, `sharelink` and `botworld` together.
+// Texts from leaf to leaf, and more of them in a step than may go out: `botcore`, its link and `botworld` together.
 use crate::nets::new_bots;
 use crate::procs::Plain;
 use bindtable::BindKind;
@@ -6,8 +6,8 @@ use botcore::{Event, NewBind, Note};
 use botworld::{Outcome, Step, Transcript, World};
 use bytetext::{NoMemory, Text};
 use ircline::read_line;
+use linkcalls::Note as LinkNote;
 use procstore::{Action, Actions, BotWish, Call, Code, Proc, ProcStore, Reply, Run};
-use sharelink::Note as LinkNote;
 use std::alloc::Global;
 
 // A body that sends eight texts to leaf 1.

@@ -4,7 +4,7 @@ use crate::procs::no_procs;
 use botcore::Event;
 use botworld::{Outcome, Step, Transcript, World};
 use bytetext::TryCopy;
-use sharelink::Packet;
+use linkcalls::Packet;
 use std::alloc::Global;
 use std::slice;
 

@@ -1,20 +1,29 @@
 -- The bots of a script are good, new and in order.
-use Rattle.std.proofs.Common.{◌≡◌, ℕ, zero, suc, ◌+◌, ◌<◌, ◌≤◌, ◌^◌, ◌%◌, Bool, true, ◌&&◌, ◌==◌, not, nat_lt, nat_le, List, [], ◌∷◌, ◌++◌, length, slice_get, slice_index}
-use Rattle.std.proofs.Common.{refl, sym, ap, subst, ◌∙◌, arith, Some, decimal, codes, length-append, zero-add, rules, pos}
+use Rattle.std.proofs.Common.{◌≡◌, inl, inr, ℕ, zero, suc, ◌+◌, ◌<◌, ◌≤◌, ◌^◌, ◌%◌, Bool, true, ◌&&◌, ◌==◌, not, nat_le, List, [], ◌∷◌, ◌++◌, length, slice_get, slice_index}
+use Rattle.std.proofs.Common.{refl, sym, ap, subst, ◌∙◌, arith, Some, decimal, codes, length-append, zero-add, rules}
 use Rattle.std.specs.List.{list_all}
 use Rattle.std.proofs.lemmas.Bool.Decides.{nat_tests}
 use Rattle.std.proofs.lemmas.List.Folds.{list_all-append}
 use Rattle.std.proofs.lemmas.Fmt.{decimal_by_steps, length-decimal-le}
-use Rattle.sharelink.specs.declared.TheConstants.{MAX_LEAVES}
+use Rattle.linkcalls.specs.declared.TheConstants.{MAX_LEAVES}
 use Rattle.bytetext.specs.declared.failure.Failure.{Failure}
 use Rattle.bytetext.specs.declared.failure.Failure.TheVariants.{Refused}
+use Rattle.storage.specs.State.{Rose}
+use Rattle.bytejournal.specs.declared.fault.JournalFault.{JournalFault}
+use Rattle.bytejournal.specs.declared.fault.JournalFault.TheVariants.{DiskFault, NotAJournal, Spent, GenerationsSpent}
+use Rattle.bytejournal.specs.Opening.{CannotCreate}
+use Rattle.botjournal.specs.Ledger.{Failures}
+use Rattle.disks.specs.Memory.{Memory}
 use Rattle.botcore.specs.declared.limits.TheConstants.{MAX_NICK}
 use Rattle.botcore.specs.declared.config.Config.{Config}
 use Rattle.botcore.specs.declared.fault.BotFault.{BotFault}
-use Rattle.botcore.specs.Bots.{Bot, new_bot, IsWhyNot}
+use Rattle.botcore.specs.declared.fault.BotFault.TheVariants.{BadConfig, Journal}
+use Rattle.botcore.specs.Bots.{Bot, new_bot}
+use Rattle.botcore.specs.Making.{NotMade}
 use Rattle.botcore.specs.Configs.{IsGood, is_nick, is_nick_byte}
-use Rattle.botworld.specs.Network.{AllNew, AreNumbered, IsNumberedAt}
-use Rattle.replay.specs.Starting.{config_of, bots_from}
+use Rattle.botworld.specs.Network.{AllNew, AreNumbered}
+use Rattle.replay.specs.Starting.{config_of, bots_from, AreNew}
+use Rattle.replay.specs.Steady.{steady_state}
 
 -- nicks -----------------------------------------------------------------------------------------------------------------
 
@@ -57,59 +66,89 @@ IsGood-config leaves number few within = record {
   channels = refl;
 }
 
+-- a disk that never fails has not failed
+never_rose : Rose 0 0 → ⊥
+never_rose (inl less) = omega (arith, less)
+never_rose (inr last) = omega (arith, last)
+
+never_faulty : (first second first' second' : Memory) (fault : JournalFault)
+    → CannotCreate (steady_state first) (steady_state second) (Refused fault) (steady_state first') (steady_state second') → ⊥
+never_faulty first second first' second' DiskFault (inl rose) = never_rose rose
+never_faulty first second first' second' DiskFault (inr rose) = never_rose rose
+never_faulty first second first' second' NotAJournal never = never
+never_faulty first second first' second' Spent never = never
+never_faulty first second first' second' GenerationsSpent never = never
+
 -- so no bot of a script is refused
-pub never_refused : (leaves number : ℕ) (config : Config) (why : Failure BotFault) (fault : BotFault) → leaves ≤ MAX_LEAVES → number ≤ leaves
-    → config ≡ config_of leaves number → why ≡ Refused fault → IsWhyNot config why → ⊥
-never_refused leaves number config why fault few within is told refused =
-    let bad : ¬ IsGood config = subst (IsWhyNot config) told refused in
-    bad (subst IsGood (sym is) (IsGood-config leaves number few within))
+never_refused_for : (leaves number : ℕ) (config : Config) (fault : BotFault) (first second first' second' : Memory) → leaves ≤ MAX_LEAVES
+    → number ≤ leaves → config ≡ config_of leaves number → NotMade steady_state config first second (Refused fault) first' second' → ⊥
+never_refused_for leaves number config BadConfig first second first' second' few within is bad =
+    bad.0 (subst IsGood (sym is) (IsGood-config leaves number few within))
+never_refused_for leaves number config (Journal fault) first second first' second' few within is bad =
+    never_faulty first second first' second' fault bad.1
+
+pub never_refused : (leaves number : ℕ) (config : Config) (error : Failure BotFault) (fault : BotFault) (first second first' second' : Memory)
+    → leaves ≤ MAX_LEAVES → number ≤ leaves → config ≡ config_of leaves number → error ≡ Refused fault
+    → NotMade steady_state config first second error first' second' → ⊥
+never_refused leaves number config error fault first second first' second' few within is told bad =
+    never_refused_for leaves number config fault first second first' second' few within is
+    (subst (λ (e : Failure BotFault). NotMade steady_state config first second e first' second') told bad)
 
 -- bots ------------------------------------------------------------------------------------------------------------------
 
-bots_from-at : (leaves first count place : ℕ) (b : Bot) → slice_get (bots_from leaves first count) place ≡ Some b
-    → b ≡ new_bot (config_of leaves (first + place))
-bots_from-at leaves first zero place b e = cc
-bots_from-at leaves first (suc count) zero b e =
+bots_from-at : (leaves first : ℕ) (failures : List Failures) (place : ℕ) (b : Bot) → slice_get (bots_from leaves first failures) place ≡ Some b
+    → b ≡ new_bot (config_of leaves (first + place)) b.link.failures
+bots_from-at leaves first [] place b e = cc
+bots_from-at leaves first (f ∷ fs) zero b e =
     let same : first + 0 ≡ first = omega arith in
-    let here : new_bot (config_of leaves first) ≡ b = cc in
-    sym here ∙ ap (λ n. new_bot (config_of leaves n)) (sym same)
-bots_from-at leaves first (suc count) (suc place) b e =
+    let here : new_bot (config_of leaves first) f ≡ b = cc in
+    sym here ∙ ap (λ n. new_bot (config_of leaves n) f) (sym same)
+    ∙ ap (new_bot (config_of leaves (first + 0))) (ap (λ (x : Bot). x.link.failures) here)
+bots_from-at leaves first (f ∷ fs) (suc place) b e =
     let same : first + 1 + place ≡ first + suc place = omega arith in
-    bots_from-at leaves (first + 1) count place b e ∙ ap (λ n. new_bot (config_of leaves n)) same
+    bots_from-at leaves (first + 1) fs place b e ∙ ap (λ n. new_bot (config_of leaves n) b.link.failures) same
 
-length-bots_from : (leaves first count : ℕ) → length (bots_from leaves first count) ≡ count
-length-bots_from leaves first zero = refl
-length-bots_from leaves first (suc count) = ap suc (length-bots_from leaves (first + 1) count)
+length-bots_from : (leaves first : ℕ) (failures : List Failures) → length (bots_from leaves first failures) ≡ length failures
+length-bots_from leaves first [] = refl
+length-bots_from leaves first (f ∷ fs) = ap suc (length-bots_from leaves (first + 1) fs)
 
 -- one bot more
-pub bots_from-more : (leaves first count : ℕ) → bots_from leaves first (count + 1) ≡ bots_from leaves first count ++ new_bot (config_of leaves (first + count)) ∷ []
-bots_from-more leaves first zero = let same : first + 0 ≡ first = omega arith in ap (λ n. new_bot (config_of leaves n) ∷ []) (sym same)
-bots_from-more leaves first (suc count) =
-    let same : first + 1 + count ≡ first + suc count = omega arith in
-    let next : suc count + 1 ≡ suc (count + 1) = omega arith in
-    ap (bots_from leaves first) next
-    ∙ ap (λ (l : List Bot). new_bot (config_of leaves first) ∷ l) (bots_from-more leaves (first + 1) count)
-    ∙ ap (λ n. new_bot (config_of leaves first) ∷ (bots_from leaves (first + 1) count ++ new_bot (config_of leaves n) ∷ [])) same
+bots_from-more : (leaves first : ℕ) (failures : List Failures) (f : Failures)
+    → bots_from leaves first (failures ++ f ∷ []) ≡ bots_from leaves first failures ++ new_bot (config_of leaves (first + length failures)) f ∷ []
+bots_from-more leaves first [] f = let same : first + 0 ≡ first = omega arith in ap (λ n. new_bot (config_of leaves n) f ∷ []) (sym same)
+bots_from-more leaves first (g ∷ gs) f =
+    let same : first + 1 + length gs ≡ first + suc (length gs) = omega arith in
+    ap (λ (l : List Bot). new_bot (config_of leaves first) g ∷ l) (bots_from-more leaves (first + 1) gs f)
+    ∙ ap (λ n. new_bot (config_of leaves first) g ∷ (bots_from leaves (first + 1) gs ++ new_bot (config_of leaves n) f ∷ [])) same
 
-pub bots_from-next : (leaves count : ℕ) (bots new : List Bot) (b : Bot) → bots ≡ bots_from leaves 0 count → b ≡ new_bot (config_of leaves count)
-    → new ≡ bots ++ b ∷ [] → new ≡ bots_from leaves 0 (count + 1)
-bots_from-next leaves count bots new b is same added =
-    let here : 0 + count ≡ count = omega arith in
-    added ∙ ap (λ (l : List Bot). l ++ b ∷ []) is ∙ ap (λ (x : Bot). bots_from leaves 0 count ++ x ∷ []) same
-    ∙ ap (λ n. bots_from leaves 0 count ++ new_bot (config_of leaves n) ∷ []) (sym here) ∙ sym (bots_from-more leaves 0 count)
+-- none, and one more
+pub AreNew-none : (leaves : ℕ) (bots : List Bot) → bots ≡ [] → AreNew leaves 0 bots
+AreNew-none leaves bots none = record { failures = []; each = refl; are = none }
 
-pub bots_from-new : (leaves count : ℕ) (bots : List Bot) → bots ≡ bots_from leaves 0 count → AllNew bots
-bots_from-new leaves count bots is = λ place b e.
-    let same = bots_from-at leaves 0 count place b (ap (λ (l : List Bot). slice_get l place) (sym is) ∙ e) in
-    same ∙ ap new_bot (sym (ap (λ (x : Bot). x.config) same))
+pub AreNew-next : (leaves count : ℕ) (bots new : List Bot) (b : Bot) → AreNew leaves count bots → b ≡ new_bot (config_of leaves count) b.link.failures
+    → new ≡ bots ++ b ∷ [] → AreNew leaves (count + 1) new
+AreNew-next leaves count bots new b old same added =
+    let f = b.link.failures in
+    let here : 0 + length old.failures ≡ count = zero-add (length old.failures) ∙ old.each in
+    record {
+      failures = old.failures ++ f ∷ [];
+      each = length-append old.failures (f ∷ []) ∙ ap (λ n. n + 1) old.each;
+      are = added ∙ ap (λ (l : List Bot). l ++ b ∷ []) old.are ∙ ap (λ (x : Bot). bots_from leaves 0 old.failures ++ x ∷ []) same
+          ∙ ap (λ n. bots_from leaves 0 old.failures ++ new_bot (config_of leaves n) f ∷ []) (sym here) ∙ sym (bots_from-more leaves 0 old.failures f);
+    }
 
-pub bots_from-numbered : (leaves : ℕ) (bots : List Bot) → bots ≡ bots_from leaves 0 (leaves + 1) → AreNumbered bots
-bots_from-numbered leaves bots is =
-    let count : length bots ≡ leaves + 1 = ap length is ∙ length-bots_from leaves 0 (leaves + 1) in
+pub AreNew-all_new : (leaves count : ℕ) (bots : List Bot) → AreNew leaves count bots → AllNew bots
+AreNew-all_new leaves count bots are = λ place b e.
+    let same = bots_from-at leaves 0 are.failures place b (ap (λ (l : List Bot). slice_get l place) (sym are.are) ∙ e) in
+    same ∙ ap (λ (c : Config). new_bot c b.link.failures) (sym (ap (λ (x : Bot). x.config) same))
+
+pub AreNew-numbered : (leaves : ℕ) (bots : List Bot) → AreNew leaves (leaves + 1) bots → AreNumbered bots
+AreNew-numbered leaves bots are =
+    let count : length bots ≡ leaves + 1 = ap length are.are ∙ length-bots_from leaves 0 are.failures ∙ are.each in
     record {
       hub = omega (arith, count);
       each = λ place b e.
-          let here = bots_from-at leaves 0 (leaves + 1) place b (ap (λ (l : List Bot). slice_get l place) (sym is) ∙ e) in
+          let here = bots_from-at leaves 0 are.failures place b (ap (λ (l : List Bot). slice_get l place) (sym are.are) ∙ e) in
           record {
             number = ap (λ (x : Bot). x.config.number) here ∙ zero-add place;
             leaves = ap (λ (x : Bot). x.config.leaves + 1) here ∙ sym count;

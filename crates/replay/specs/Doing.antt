@@ -7,6 +7,7 @@ use Rattle.botworld.specs.Net.{Net}
 use Rattle.botworld.specs.Network.{State, AllMade}
 use Rattle.botworld.specs.Standing.{Moment, Past, Run, Stands, later, steps_of, outcomes_of}
 use Rattle.replay.specs.Deeds.{Deed, steps_in, deeds_text}
+use Rattle.replay.specs.Starting.{IsFirst}
 
 -- From a past of the world, its next steps were just those of the deeds, none of them ended for want of memory, and what
 -- the deeds print was added to the text.
@@ -30,3 +31,10 @@ pub record IsDoneFrom (code_of : List ℕ → Call → Code) (may : List ℕ →
   pub steps : steps_of moments ≡ steps_in deeds
   pub made : AllMade (outcomes_of moments)
   pub tells : text ≡ deeds_text first deeds moments
+
+-- The same from a hub and its leaves, of which each is new.
+pub record IsDoneByNew (code_of : List ℕ → Call → Code) (may : List ℕ → Call → List Action → Type 0)
+    (leaves : ℕ) (names : List (List ℕ)) (deeds : List Deed) (text : List ℕ) : Type 0 where
+  pub first : State
+  pub begins : IsFirst leaves names first
+  pub done : IsDoneFrom code_of may first deeds text

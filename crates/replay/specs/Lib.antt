@@ -2,6 +2,7 @@ pub mod Text
 pub mod Users
 pub mod Deeds
 pub mod Starting
+pub mod Steady
 pub mod Doing
 pub mod Transcript
 pub mod Ending

@@ -1,5 +1,6 @@
 -- The botnet of a script before its first step.
-use Rattle.std.specs.Prelude.{ℕ, zero, suc, ◌+◌, false, List, [], ◌∷◌, ◌++◌, pos, codes, decimal}
+use Rattle.std.specs.Prelude.{◌≡◌, ℕ, ◌+◌, false, List, [], ◌∷◌, ◌++◌, length, pos, codes, decimal}
+use Rattle.botjournal.specs.Ledger.{Failures}
 use Rattle.botcore.specs.declared.config.Config.{Config}
 use Rattle.botcore.specs.Bots.{Bot, new_bot}
 use Rattle.botworld.specs.Network.{State, start}
@@ -15,11 +16,19 @@ config_of leaves number = record {
   offset = pos 0;
 }
 
--- so many new bots, numbered on from the first
-abbrev pub bots_from : ℕ → ℕ → ℕ → List Bot
-bots_from leaves first zero = []
-bots_from leaves first (suc count) = new_bot (config_of leaves first) ∷ bots_from leaves (first + 1) count
+-- new bots, numbered on from the first, one for each of these, which say how often its disks have failed
+abbrev pub bots_from : ℕ → ℕ → List Failures → List Bot
+bots_from leaves first [] = []
+bots_from leaves first (f ∷ fs) = new_bot (config_of leaves first) f ∷ bots_from leaves (first + 1) fs
 
--- a hub and its leaves, with procs of these names
-abbrev pub first_state : ℕ → List (List ℕ) → State
-first_state leaves names = start (bots_from leaves 0 (leaves + 1)) names
+-- these are so many new bots of a net of so many leaves, the hub first
+pub record AreNew (leaves count : ℕ) (bots : List Bot) : Type 0 where
+  pub failures : List Failures
+  pub each : length failures ≡ count
+  pub are : bots ≡ bots_from leaves 0 failures
+
+-- a hub and its leaves before the first step, with procs of these names
+pub record IsFirst (leaves : ℕ) (names : List (List ℕ)) (s : State) : Type 0 where
+  pub bots : List Bot
+  pub new : AreNew leaves (leaves + 1) bots
+  pub starts : s ≡ start bots names

@@ -10,8 +10,8 @@ use Rattle.userfile.specs.declared.channel_flags.ChannelFlags.{ChannelFlags}
 use Rattle.userfile.specs.declared.ban.Ban.{Ban}
 use Rattle.procstore.specs.declared.reply.Code.{Code}
 use Rattle.procstore.specs.declared.reply.Code.TheVariants.{Zero, One}
-use Rattle.sharelink.specs.declared.answer.Note.{Note as LinkNote}
-use Rattle.sharelink.specs.declared.answer.Note.TheVariants.{Queued, Idle, Accepted, Refused, Served, Old, Early, Applied, Relayed, Text, Stray}
+use Rattle.linkcalls.specs.declared.note.Note.{Note as LinkNote}
+use Rattle.linkcalls.specs.declared.note.Note.TheVariants.{Queued, Idle, Sent as request_sent, Accepted, Refused, Served, Old, Repeat, Gap, Early, Applied, Kept, Installed, Compacted, Relayed, Text, Stray, Restarted}
 use Rattle.sharewire.specs.declared.packet.Packet.{Packet}
 use Rattle.sharewire.specs.declared.packet.Packet.TheVariants.{Hello, Change as change_packet, Request, Accepted as accepted_packet, Refused as refused_packet, BotText, Part}
 use Rattle.outqueue.specs.Refusals.{code_of as queue_code}
@@ -54,15 +54,22 @@ fault_line bot fault = codes "fault " ++ decimal bot ++ codes " " ++ fault_text 
 abbrev pub link_note_text : LinkNote → List ℕ
 link_note_text Queued = codes "Queued"
 link_note_text Idle = codes "Idle"
+link_note_text (request_sent request) = codes "Sent " ++ decimal request
 link_note_text (Accepted number) = codes "Accepted " ++ decimal number
 link_note_text (Refused fault) = codes "Refused " ++ fault_code fault
 link_note_text (Served count) = codes "Served " ++ decimal count
 link_note_text Old = codes "Old"
+link_note_text Repeat = codes "Repeat"
+link_note_text Gap = codes "Gap"
 link_note_text Early = codes "Early"
 link_note_text (Applied number) = codes "Applied " ++ decimal number
+link_note_text (Kept part) = codes "Kept " ++ decimal part
+link_note_text (Installed version) = codes "Installed " ++ decimal version
+link_note_text Compacted = codes "Compacted"
 link_note_text Relayed = codes "Relayed"
 link_note_text (Text from text) = codes "Text " ++ decimal from ++ codes " " ++ text
 link_note_text Stray = codes "Stray"
+link_note_text (Restarted version) = codes "Restarted " ++ decimal version
 
 -- any note; a step that is done without one is just done
 abbrev pub note_text : Option Note → List ℕ

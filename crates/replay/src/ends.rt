@@ -5,7 +5,7 @@ ghost use Rattle.replay.specs.Text.{link_note_text, note_text, end_line};
 use crate::print::{put, put_counted, put_number};
 use botcore::{End, Note};
 use bytetext::NoMemory;
-use sharelink::Note as LinkNote;
+use linkcalls::Note as LinkNote;
 
 /// Adds how a step ended, as `B NOTE`, `B Done` or `B refused CODE`.
 ///
@@ -58,6 +58,7 @@ fn put_link_note(out: &mut Vec<u8>, note: &LinkNote) -> Result<(), NoMemory>
     match note {
         LinkNote::Queued => put(out, b"Queued"),
         LinkNote::Idle => put(out, b"Idle"),
+        LinkNote::Sent(request) => put_counted(out, b"Sent ", u64::from(*request)),
         LinkNote::Accepted(number) => put_counted(out, b"Accepted ", u64::from(*number)),
         LinkNote::Refused(fault) => {
             put(out, b"Refused ")?;
@@ -65,8 +66,13 @@ fn put_link_note(out: &mut Vec<u8>, note: &LinkNote) -> Result<(), NoMemory>
         }
         LinkNote::Served(count) => put_counted(out, b"Served ", *count as u64),
         LinkNote::Old => put(out, b"Old"),
+        LinkNote::Repeat => put(out, b"Repeat"),
+        LinkNote::Gap => put(out, b"Gap"),
         LinkNote::Early => put(out, b"Early"),
         LinkNote::Applied(number) => put_counted(out, b"Applied ", u64::from(*number)),
+        LinkNote::Kept(part) => put_counted(out, b"Kept ", u64::from(*part)),
+        LinkNote::Installed(version) => put_counted(out, b"Installed ", u64::from(*version)),
+        LinkNote::Compacted => put(out, b"Compacted"),
         LinkNote::Relayed => put(out, b"Relayed"),
         LinkNote::Text { from, text } => {
             put_counted(out, b"Text ", u64::from(*from))?;
@@ -74,5 +80,6 @@ fn put_link_note(out: &mut Vec<u8>, note: &LinkNote) -> Result<(), NoMemory>
             put(out, text.as_bytes())
         }
         LinkNote::Stray => put(out, b"Stray"),
+        LinkNote::Restarted(version) => put_counted(out, b"Restarted ", u64::from(*version)),
     }
 }

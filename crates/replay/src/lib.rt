@@ -12,7 +12,8 @@
 //! ```
 //!
 //! Whoever runs scripts in another way takes the same pieces: the bytes of a script by [`script_bytes`], its bots by
-//! [`new_bots`], what a `show` prints by [`put_records`], and the way to the writer by [`write_text`].
+//! [`new_bots`], each with its journal on two [`SteadyDisk`]s, or in a world by [`new_world`], what a `show` prints by
+//! [`put_records`], and the way to the writer by [`write_text`].
 #![tactic(auto)]
 
 mod answers;
@@ -27,6 +28,7 @@ mod records;
 mod replaying;
 mod shows;
 mod starting;
+mod steady_disk;
 mod transcripts;
 
 pub use crate::error::ReplayError;
@@ -34,5 +36,6 @@ pub use crate::input::script_bytes;
 pub use crate::output::write_text;
 pub use crate::replaying::replay;
 pub use crate::shows::put_records;
-pub use crate::starting::new_bots;
+pub use crate::starting::{new_bots, new_world};
+pub use crate::steady_disk::SteadyDisk;
 pub use crate::transcripts::transcript;

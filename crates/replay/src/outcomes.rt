@@ -15,14 +15,15 @@ use botcore::Fault;
 use botworld::{Outcome, Report, Sent, World};
 use bytetext::{NoMemory, Text};
 use procstore::{Code, Promise, Run};
+use storage::Disk;
 
 /// Adds the lines of a step, whose packets the world has.
 ///
 /// # Errors
 /// `NoMemory` where room is refused, and where the step itself ended so.
-pub fn put_outcome<P: Promise, B: Run>(
+pub fn put_outcome<P: Promise, D: Disk, B: Run>(
     out: &mut Vec<u8>,
-    world: &World<P, B>,
+    world: &World<P, D, B>,
     outcome: &Outcome,
 ) -> Result<(), NoMemory>
     ensures made { OnOk result (IsMade outcome.now) }
@@ -37,9 +38,9 @@ pub fn put_outcome<P: Promise, B: Run>(
 
 // The lines of a bot's part in a step.
 #[tactic(auto, using(std::proofs::Common::append_assoc))]
-fn put_report<P: Promise, B: Run>(
+fn put_report<P: Promise, D: Disk, B: Run>(
     out: &mut Vec<u8>,
-    world: &World<P, B>,
+    world: &World<P, D, B>,
     report: &Report,
 ) -> Result<(), NoMemory>
     ensures made { OnOk result (report.now.end ≢ ended_no_memory) }
@@ -85,9 +86,9 @@ fn code_text(code: Code) -> &'static [u8]
 }
 
 // The packets from this number on. Numbers are below 2^64, so the last one fits wherever there are such packets.
-fn put_packets<P: Promise, B: Run>(
+fn put_packets<P: Promise, D: Disk, B: Run>(
     out: &mut Vec<u8>,
-    world: &World<P, B>,
+    world: &World<P, D, B>,
     first: u64,
     count: usize,
 ) -> Result<(), NoMemory>

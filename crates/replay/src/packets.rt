@@ -5,7 +5,7 @@ ghost use Rattle.replay.specs.Text.{packet_text, sent_line};
 use crate::print::{put, put_counted, put_number};
 use botworld::Sent;
 use bytetext::NoMemory;
-use sharelink::Packet;
+use linkcalls::Packet;
 
 /// Adds a packet, as `send K A>B KIND DETAIL`.
 #[tactic(auto, using(std::proofs::Common::append_assoc))]

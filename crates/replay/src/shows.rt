@@ -12,13 +12,14 @@ use botworld::World;
 use bytetext::NoMemory;
 use procstore::{Promise, Run};
 use std::alloc::Global;
+use storage::Disk;
 use userfile::{Ban, User, Userfile};
 
 /// Adds a bot's version, users and bans, or that there is no such bot.
-pub fn put_shown<P: Promise, B: Run>(
+pub fn put_shown<P: Promise, D: Disk, B: Run>(
     alloc: Global,
     out: &mut Vec<u8>,
-    world: &World<P, B>,
+    world: &World<P, D, B>,
     bot: u16,
 ) -> Result<(), NoMemory>
     ensures { OnOk result (out.new.items ≡ out.old.items ++ net_text world.now bot) }

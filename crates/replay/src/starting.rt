@@ -1,11 +1,13 @@
 // The bots of a script before its first step.
 ghost use Rattle.std.specs.Prelude.{◌≡◌, ◌+◌, ◌≤◌, IfOk};
-ghost use Rattle.sharelink.specs.declared.TheConstants.{MAX_LEAVES};
+ghost use Rattle.linkcalls.specs.declared.TheConstants.{MAX_LEAVES};
 ghost use Rattle.botcore.specs.Bots.{new_bot};
+ghost use Rattle.botworld.specs.Network.{State};
 ghost use Rattle.botworld.specs.Standing.{Stands, beginning};
-ghost use Rattle.replay.specs.Starting.{bots_from, config_of, first_state};
+ghost use Rattle.replay.specs.Starting.{config_of, AreNew, IsFirst};
 
 use crate::print::put_number;
+use crate::steady_disk::SteadyDisk;
 use botcore::{Bot, Config};
 use botworld::World;
 use bytetext::{Failure, NoMemory, Text, Texts};
@@ -17,9 +19,9 @@ pub fn new_world<P: Promise, B: Run>(
     alloc: Global,
     store: ProcStore<P, B>,
     leaves: u16,
-) -> Result<World<P, B>, NoMemory>
+) -> Result<World<P, SteadyDisk, B>, NoMemory>
     requires { leaves ≤ MAX_LEAVES }
-    ensures { IfOk result (λ w. Stands P.code_of P.may w (beginning (first_state leaves store))) }
+    ensures { IfOk result (λ w. (first : State) × IsFirst leaves store first × Stands P.code_of P.may w (beginning first)) }
 {
     match World::new(alloc, new_bots(alloc, leaves)?, store) {
         Ok(world) => Ok(world),
@@ -28,14 +30,14 @@ pub fn new_world<P: Promise, B: Run>(
     }
 }
 
-/// The hub and its leaves, as they are before their first step: their nicks are `egg` and their number, and their one
-/// channel is `#egg`.
+/// The hub and its leaves, as they are before their first step, each with its journal on two disks in memory that never
+/// fail: their nicks are `egg` and their number, and their one channel is `#egg`.
 ///
 /// # Errors
 /// `NoMemory` where room is refused.
-pub fn new_bots(alloc: Global, leaves: u16) -> Result<Vec<Bot>, NoMemory>
+pub fn new_bots(alloc: Global, leaves: u16) -> Result<Vec<Bot<SteadyDisk>>, NoMemory>
     requires { leaves ≤ MAX_LEAVES }
-    ensures { IfOk result (λ bots. bots.items ≡ bots_from leaves 0 (leaves + 1)) }
+    ensures { IfOk result (λ bots. AreNew leaves (leaves + 1) bots.items) }
 {
     let mut bots = Vec::with_capacity(alloc, leaves as usize + 1)?;
     for number in 0..leaves + 1 {
@@ -45,16 +47,24 @@ pub fn new_bots(alloc: Global, leaves: u16) -> Result<Vec<Bot>, NoMemory>
 }
 
 // A bot of this number.
-fn bot(alloc: Global, leaves: u16, number: u16) -> Result<Bot, NoMemory>
+fn bot(alloc: Global, leaves: u16, number: u16) -> Result<Bot<SteadyDisk>, NoMemory>
     requires few { leaves ≤ MAX_LEAVES }
     requires numbered { number ≤ leaves }
-    ensures { IfOk result (λ bot. bot ≡ new_bot (config_of leaves number)) }
+    ensures { IfOk result (λ bot. bot ≡ new_bot (config_of leaves number) bot.link.failures) }
 {
-    match Bot::new(alloc, config(alloc, leaves, number)?) {
+    let config = config(alloc, leaves, number)?;
+    match Bot::create(
+        alloc,
+        config,
+        SteadyDisk::new(alloc),
+        SteadyDisk::new(alloc),
+    ) {
         Ok(bot) => Ok(bot),
-        // Nick and channel are good, and the number is one of the botnet.
-        Err(Failure::Refused(_)) => unreachable!(),
-        Err(Failure::NoMemory) => Err(NoMemory),
+        Err(returned) => match returned.error {
+            // Nick and channel are good, the number is one of the botnet, and such a disk never fails.
+            Failure::Refused(_) => unreachable!(),
+            Failure::NoMemory => Err(NoMemory),
+        },
     }
 }
 

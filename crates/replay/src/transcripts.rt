@@ -2,11 +2,10 @@
 ghost use Rattle.std.specs.Prelude.{◌≡◌, ◌<◌, ◌≤◌, [], ◌∷◌, ◌++◌, ℕ, Err, length, map, IfOk, OnOk};
 ghost use Rattle.script.specs.Reading.{HasFault};
 ghost use Rattle.script.specs.declared.TheConstants.{MAX_SCRIPT};
-ghost use Rattle.sharelink.specs.declared.TheConstants.{MAX_LEAVES};
+ghost use Rattle.linkcalls.specs.declared.TheConstants.{MAX_LEAVES};
 ghost use Rattle.botworld.specs.Standing.{Past, Stands};
 ghost use Rattle.replay.specs.Deeds.{Shows, Makes, command_deeds, deeds_of};
-ghost use Rattle.replay.specs.Doing.{Does, IsDoneFrom};
-ghost use Rattle.replay.specs.Starting.{first_state};
+ghost use Rattle.replay.specs.Doing.{Does, IsDoneByNew};
 ghost use Rattle.replay.specs.Transcript.{IsTranscript, IsRefusedRightly, TellsFault};
 
 use crate::outcomes::put_outcome;
@@ -18,6 +17,7 @@ use procstore::{ProcStore, Promise, Run};
 use script::{Command, Script, ScriptError};
 use std::alloc::Global;
 use std::slice;
+use storage::Disk;
 
 /// The whole transcript of the script that these bytes spell, where its binds call the procs of this store.
 ///
@@ -48,7 +48,7 @@ fn text_of<P: Promise, B: Run>(
     script: &Script,
 ) -> Result<Vec<u8>, NoMemory>
     requires { script.now.leaves ≤ MAX_LEAVES }
-    ensures { IfOk result (λ text. IsDoneFrom P.code_of P.may (first_state script.now.leaves store)
+    ensures { IfOk result (λ text. IsDoneByNew P.code_of P.may script.now.leaves store
         (deeds_of script.now.commands) text.items) }
 {
     let mut world = new_world(alloc, store, script.leaves)?;
@@ -58,10 +58,10 @@ fn text_of<P: Promise, B: Run>(
 }
 
 // Does commands in order, and adds what each prints.
-fn put_commands<P: Promise, B: Run>(
+fn put_commands<P: Promise, D: Disk, B: Run>(
     alloc: Global,
     text: &mut Vec<u8>,
-    world: &mut World<P, B>,
+    world: &mut World<P, D, B>,
     commands: &[Command],
 ) -> Result<(), NoMemory>
     ensures { OnOk result ((past : Past) → Stands P.code_of P.may world.old past
@@ -74,10 +74,10 @@ fn put_commands<P: Promise, B: Run>(
 }
 
 // Does a command, and adds what it prints.
-fn put_command<P: Promise, B: Run>(
+fn put_command<P: Promise, D: Disk, B: Run>(
     alloc: Global,
     text: &mut Vec<u8>,
-    world: &mut World<P, B>,
+    world: &mut World<P, D, B>,
     command: &Command,
 ) -> Result<(), NoMemory>
     ensures { OnOk result ((past : Past) → Stands P.code_of P.may world.old past
@@ -90,10 +90,10 @@ fn put_command<P: Promise, B: Run>(
 }
 
 // Adds what a bot is at.
-fn put_show<P: Promise, B: Run>(
+fn put_show<P: Promise, D: Disk, B: Run>(
     alloc: Global,
     text: &mut Vec<u8>,
-    world: &World<P, B>,
+    world: &World<P, D, B>,
     bot: u16,
 ) -> Result<(), NoMemory>
     ensures { OnOk result ((past : Past) → Stands P.code_of P.may world.now past
@@ -103,10 +103,10 @@ fn put_show<P: Promise, B: Run>(
 }
 
 // Makes steps in order, and adds what comes of each.
-fn put_steps<P: Promise, B: Run>(
+fn put_steps<P: Promise, D: Disk, B: Run>(
     alloc: Global,
     text: &mut Vec<u8>,
-    world: &mut World<P, B>,
+    world: &mut World<P, D, B>,
     steps: &[Step],
 ) -> Result<(), NoMemory>
     ensures { OnOk result ((past : Past) → Stands P.code_of P.may world.old past
@@ -119,10 +119,10 @@ fn put_steps<P: Promise, B: Run>(
 }
 
 // Makes a step, and adds what comes of it.
-fn put_step<P: Promise, B: Run>(
+fn put_step<P: Promise, D: Disk, B: Run>(
     alloc: Global,
     text: &mut Vec<u8>,
-    world: &mut World<P, B>,
+    world: &mut World<P, D, B>,
     step: &Step,
 ) -> Result<(), NoMemory>
     ensures { OnOk result ((past : Past) → Stands P.code_of P.may world.old past

@@ -2,12 +2,13 @@
 use Rattle.std.proofs.Common.{◌≡◌, ℕ, ◌≤◌, nat_le, Bool, true, false, if◌then◌else◌, List, [], ◌∷◌, Option, None, Some, arith, subst, refl, ◌==◌}
 use Rattle.std.specs.Option.{option_and_then}
 use Rattle.std.proofs.lemmas.Bool.Decides.{nat_tests}
-use Rattle.sharelink.specs.declared.TheConstants.{MAX_LEAVES}
+use Rattle.linkcalls.specs.declared.TheConstants.{MAX_LEAVES}
 use Rattle.script.specs.declared.command.Command.{Command}
 use Rattle.script.specs.declared.saying.Saying.{Saying}
 use Rattle.script.specs.declared.saying.Saying.TheVariants.{Nothing, Leaves, Told, Wrong}
 use Rattle.script.specs.declared.saying.Verb.{Verb}
 use Rattle.script.specs.declared.saying.Verb.TheVariants.{Leaves as leaves_verb, Ask as ask_verb, Pump as pump_verb, Connect as connect_verb}
+use Rattle.script.specs.declared.saying.Verb.TheVariants.{Compact as compact_verb, Restart as restart_verb}
 use Rattle.script.specs.declared.saying.Verb.TheVariants.{Line as line_verb, Clock as clock_verb, Bind as bind_verb, Unbind as unbind_verb}
 use Rattle.script.specs.declared.saying.Verb.TheVariants.{Deliver as deliver_verb, Show as show_verb}
 use Rattle.script.specs.Grammar.{few_leaves, counted, told, two_words, more_words, saying_by_words, saying_of, verb_of, bot_of}
@@ -47,6 +48,8 @@ two_words-few None a = tt
 two_words-few (Some leaves_verb) a = counted-few (bot_of a)
 two_words-few (Some ask_verb) a = tt
 two_words-few (Some pump_verb) a = told-few _
+two_words-few (Some compact_verb) a = told-few _
+two_words-few (Some restart_verb) a = told-few _
 two_words-few (Some connect_verb) a = told-few _
 two_words-few (Some line_verb) a = tt
 two_words-few (Some clock_verb) a = tt
@@ -60,6 +63,8 @@ more_words-few None a first words = tt
 more_words-few (Some leaves_verb) a first words = tt
 more_words-few (Some ask_verb) a first words = told-few _
 more_words-few (Some pump_verb) a first words = tt
+more_words-few (Some compact_verb) a first words = tt
+more_words-few (Some restart_verb) a first words = tt
 more_words-few (Some connect_verb) a first words = tt
 more_words-few (Some line_verb) a first words = told-few _
 more_words-few (Some clock_verb) a first words = told-few _

@@ -4,13 +4,14 @@ use Rattle.std.specs.Str.{bytes_eq}
 use Rattle.script.specs.declared.command.Command.{Command}
 use Rattle.script.specs.declared.command.Command.TheVariants.{Steps, Show}
 use Rattle.bindtable.specs.Kinds.{kind_of}
-use Rattle.sharelink.specs.declared.TheConstants.{MAX_LEAVES}
+use Rattle.linkcalls.specs.declared.TheConstants.{MAX_LEAVES}
 use Rattle.botcore.specs.declared.event.Event.{Event}
-use Rattle.botcore.specs.declared.event.Event.TheVariants.{Ask, Pump, Connect, Bind, Unbind, Clock}
+use Rattle.botcore.specs.declared.event.Event.TheVariants.{Ask, Pump, Compact, Restart, Connect, Bind, Unbind, Clock}
 use Rattle.botworld.specs.declared.step.Step.{Step}
 use Rattle.botworld.specs.declared.step.Step.TheVariants.{At, Deliver}
 use Rattle.script.specs.declared.saying.Verb.{Verb}
 use Rattle.script.specs.declared.saying.Verb.TheVariants.{Leaves as leaves_verb, Ask as ask_verb, Pump as pump_verb, Connect as connect_verb}
+use Rattle.script.specs.declared.saying.Verb.TheVariants.{Compact as compact_verb, Restart as restart_verb}
 use Rattle.script.specs.declared.saying.Verb.TheVariants.{Line as line_verb, Clock as clock_verb, Bind as bind_verb, Unbind as unbind_verb}
 use Rattle.script.specs.declared.saying.Verb.TheVariants.{Deliver as deliver_verb, Show as show_verb}
 use Rattle.script.specs.declared.saying.Saying.{Saying}
@@ -58,12 +59,18 @@ delivered packet = one_step (Deliver packet)
 abbrev pub event_at : ℕ → Event → Command
 event_at bot event = one_step (At bot event)
 
+-- the bot of a word is told this
+abbrev pub told_to : Option ℕ → Event → Saying
+told_to bot event = told (option_map (λ number. event_at number event) bot)
+
 -- the first words
 abbrev pub verb_of : List ℕ → Option Verb
 verb_of word =
     if bytes_eq word (codes "leaves") then Some leaves_verb
     else if bytes_eq word (codes "ask") then Some ask_verb
     else if bytes_eq word (codes "pump") then Some pump_verb
+    else if bytes_eq word (codes "compact") then Some compact_verb
+    else if bytes_eq word (codes "restart") then Some restart_verb
     else if bytes_eq word (codes "connect") then Some connect_verb
     else if bytes_eq word (codes "line") then Some line_verb
     else if bytes_eq word (codes "clock") then Some clock_verb
@@ -76,8 +83,10 @@ verb_of word =
 -- VERB A
 abbrev pub two_words : Option Verb → List ℕ → Saying
 two_words (Some leaves_verb) a = counted (leaves_of a)
-two_words (Some pump_verb) a = told (option_map (λ bot. event_at bot Pump) (bot_of a))
-two_words (Some connect_verb) a = told (option_map (λ bot. event_at bot Connect) (bot_of a))
+two_words (Some pump_verb) a = told_to (bot_of a) Pump
+two_words (Some compact_verb) a = told_to (bot_of a) Compact
+two_words (Some restart_verb) a = told_to (bot_of a) Restart
+two_words (Some connect_verb) a = told_to (bot_of a) Connect
 two_words (Some deliver_verb) a = told (option_map delivered (packet_of a))
 two_words (Some show_verb) a = told (option_map Show (bot_of a))
 two_words (Some ask_verb) a = Wrong
@@ -116,6 +125,8 @@ more_words (Some bind_verb) a first words = told (bound (bot_of a) first words)
 more_words (Some unbind_verb) a first words = told (unbound (bot_of a) first words)
 more_words (Some leaves_verb) a first words = Wrong
 more_words (Some pump_verb) a first words = Wrong
+more_words (Some compact_verb) a first words = Wrong
+more_words (Some restart_verb) a first words = Wrong
 more_words (Some connect_verb) a first words = Wrong
 more_words (Some deliver_verb) a first words = Wrong
 more_words (Some show_verb) a first words = Wrong

@@ -1,7 +1,7 @@
 //! Scripts: a text of commands for a botnet, read whole before the first of them is done.
 //!
 //! A script has one command a line, and words with one space between them. Its first command is `leaves N`; then come
-//! `ask B CHANGE`, `pump B`, `connect B`, `line B TEXT`, `clock B N`, `bind B TYPE FLAGS PROC MASK`,
+//! `ask B CHANGE`, `pump B`, `compact B`, `restart B`, `connect B`, `line B TEXT`, `clock B N`, `bind B TYPE FLAGS PROC MASK`,
 //! `unbind B TYPE PROC MASK`, `deliver K` and `show B`, in any order. Empty lines and lines that begin with `#` are no commands. [`Script::read`]
 //! answers the number of leaves and the commands, or the first line that breaks a rule.
 //!

@@ -9,7 +9,7 @@ use crate::error::{ScriptError, ScriptFault};
 use crate::pieces::pieces_of;
 use crate::saying::{Saying, saying_of};
 use bytetext::{Failure, NoMemory, TryCopy};
-use sharelink::MAX_LEAVES;
+use linkcalls::MAX_LEAVES;
 use std::alloc::Global;
 
 /// A script: how many leaves the botnet has, and what is done with it.

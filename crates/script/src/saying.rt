@@ -1,6 +1,6 @@
 // What one line says.
 ghost use Rattle.std.specs.Prelude.{◌≡◌, ◌∷◌, map, option_and_then, IfOk};
-ghost use Rattle.script.specs.Grammar.{counted, few_leaves, told, verb_of, one_step, event_at, asked, read, clocked, bound, unbound};
+ghost use Rattle.script.specs.Grammar.{counted, few_leaves, told, verb_of, one_step, event_at, told_to, asked, read, clocked, bound, unbound};
 ghost use Rattle.script.specs.Grammar.{two_words, more_words, saying_by_words, saying_of};
 
 use crate::asking::change_named;
@@ -14,7 +14,7 @@ use bindtable::BindKind;
 use botcore::Event;
 use botworld::Step;
 use bytetext::NoMemory;
-use sharelink::MAX_LEAVES;
+use linkcalls::MAX_LEAVES;
 use std::alloc::Global;
 
 /// The first words of lines.
@@ -23,6 +23,8 @@ pub enum Verb {
     Leaves,
     Ask,
     Pump,
+    Compact,
+    Restart,
     Connect,
     Line,
     Clock,
@@ -80,6 +82,10 @@ fn verb_of(word: &[u8]) -> Option<Verb>
         Some(Verb::Ask)
     } else if word == b"pump".as_slice() {
         Some(Verb::Pump)
+    } else if word == b"compact".as_slice() {
+        Some(Verb::Compact)
+    } else if word == b"restart".as_slice() {
+        Some(Verb::Restart)
     } else if word == b"connect".as_slice() {
         Some(Verb::Connect)
     } else if word == b"line".as_slice() {
@@ -105,14 +111,10 @@ fn two_words(alloc: Global, verb: &[u8], a: &[u8]) -> Result<Saying, NoMemory>
 {
     match verb_of(verb) {
         Some(Verb::Leaves) => Ok(count_leaves(bot_number(a))),
-        Some(Verb::Pump) => match bot_number(a) {
-            Some(bot) => event_at(alloc, bot, Event::Pump),
-            None => Ok(Saying::Wrong),
-        },
-        Some(Verb::Connect) => match bot_number(a) {
-            Some(bot) => event_at(alloc, bot, Event::Connect),
-            None => Ok(Saying::Wrong),
-        },
+        Some(Verb::Pump) => tell(alloc, bot_number(a), Event::Pump),
+        Some(Verb::Compact) => tell(alloc, bot_number(a), Event::Compact),
+        Some(Verb::Restart) => tell(alloc, bot_number(a), Event::Restart),
+        Some(Verb::Connect) => tell(alloc, bot_number(a), Event::Connect),
         Some(Verb::Deliver) => match number(a) {
             Some(packet) => one_step(alloc, Step::Deliver { packet }),
             None => Ok(Saying::Wrong),
@@ -140,6 +142,16 @@ fn count_leaves(leaves: Option<u16>) -> Saying
             }
         }
         None => Saying::Wrong,
+    }
+}
+
+// What the bot of a word is told, where the word is a number.
+fn tell(alloc: Global, bot: Option<u16>, event: Event) -> Result<Saying, NoMemory>
+    ensures { IfOk result (λ saying. saying ≡ told_to bot event) }
+{
+    match bot {
+        Some(bot) => event_at(alloc, bot, event),
+        None => Ok(Saying::Wrong),
     }
 }
 
@@ -176,9 +188,16 @@ fn more_words(
         Some(Verb::Clock) => read_clock(alloc, bot_number(a), first, words),
         Some(Verb::Bind) => bind(alloc, bot_number(a), first, words),
         Some(Verb::Unbind) => unbind(alloc, bot_number(a), first, words),
-        Some(Verb::Leaves | Verb::Pump | Verb::Connect | Verb::Deliver | Verb::Show) | None => {
-            Ok(Saying::Wrong)
-        }
+        Some(
+            Verb::Leaves
+            | Verb::Pump
+            | Verb::Compact
+            | Verb::Restart
+            | Verb::Connect
+            | Verb::Deliver
+            | Verb::Show,
+        )
+        | None => Ok(Saying::Wrong),
     }
 }
 

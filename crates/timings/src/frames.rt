@@ -16,19 +16,39 @@ const PIECE: usize = 4_096;
 
 /// Times three packets, each written so often, and the stream of all these frames, which is read in pieces.
 pub fn measure<R: AllocGlobal + Clock + Eprint>(rt: &R, sizes: &Sizes) -> Result<(), Stop> {
-    let alloc = rt.alloc();
-    let mut stream = Vec::new(alloc);
-    measure_write(
-        rt,
-        "write-hostmask",
-        &hostmask(alloc)?,
-        sizes.frames,
-        &mut stream,
-    )?;
-    measure_write(rt, "write-ban", &ban(alloc)?, sizes.frames, &mut stream)?;
-    measure_write(rt, "write-text", &text(alloc)?, sizes.frames, &mut stream)?;
+    let mut stream = Vec::new(rt.alloc());
+    measure_hostmask(rt, sizes.frames, &mut stream)?;
+    measure_ban(rt, sizes.frames, &mut stream)?;
+    measure_text(rt, sizes.frames, &mut stream)?;
     report::outcome(rt, "bytes of the frames", stream.len() as u64);
     measure_read(rt, stream.as_slice())
+}
+
+fn measure_hostmask<R: AllocGlobal + Clock + Eprint>(
+    rt: &R,
+    count: u64,
+    stream: &mut Vec<u8>,
+) -> Result<(), Stop> {
+    let packet = hostmask(rt.alloc())?;
+    measure_write(rt, "write-hostmask", &packet, count, stream)
+}
+
+fn measure_ban<R: AllocGlobal + Clock + Eprint>(
+    rt: &R,
+    count: u64,
+    stream: &mut Vec<u8>,
+) -> Result<(), Stop> {
+    let packet = ban(rt.alloc())?;
+    measure_write(rt, "write-ban", &packet, count, stream)
+}
+
+fn measure_text<R: AllocGlobal + Clock + Eprint>(
+    rt: &R,
+    count: u64,
+    stream: &mut Vec<u8>,
+) -> Result<(), Stop> {
+    let packet = text(rt.alloc())?;
+    measure_write(rt, "write-text", &packet, count, stream)
 }
 
 fn measure_write<R: AllocGlobal + Clock + Eprint>(

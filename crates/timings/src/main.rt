@@ -8,7 +8,6 @@
 //! | `channels` | 100,000 lines on 200 channels of 1,000 people; 8,000 who quit and come back; 10,000 QUITs' events |
 //! | `timers` | 200 timers over ten minutes, and 500 cron masks over a day |
 //! | `lines` | a stream of about 10 MB, to its lines |
-//! | `drive` | a bot driven over streams: empty lines, PINGs, JOINs of one banned, and 10 MB of talk with 1 and 50 binds |
 //! | `frames` | three packets, each written 100,000 times, and the stream of these frames, which is read |
 //! | `journal FILE FILE` | 1,000 appends to a journal in these files; 100,000 to one in memory, which is opened again |
 //! | `all` | each of these, but for a journal in files |
@@ -22,11 +21,8 @@
 #![tactic(auto)]
 
 mod binds;
-mod bots;
 mod channels;
-mod connections;
 mod crowd;
-mod driving;
 mod frames;
 mod journals;
 mod lines;
@@ -34,7 +30,6 @@ mod masks;
 mod minutes;
 mod netsplit;
 mod persons;
-mod quiet;
 mod quits;
 mod report;
 mod sizes;
@@ -80,21 +75,19 @@ enum Part {
     Channels,
     Timers,
     Lines,
-    Drive,
     Frames,
     Journal,
     All,
     Small,
 }
 
-const PARTS: [(&[u8], Part); 11] = [
+const PARTS: [(&[u8], Part); 10] = [
     (b"persons", Part::Persons),
     (b"masks", Part::Masks),
     (b"binds", Part::Binds),
     (b"channels", Part::Channels),
     (b"timers", Part::Timers),
     (b"lines", Part::Lines),
-    (b"drive", Part::Drive),
     (b"frames", Part::Frames),
     (b"journal", Part::Journal),
     (b"all", Part::All),
@@ -116,7 +109,6 @@ where
         Part::Channels => channels::measure(rt, &FULL),
         Part::Timers => timers::measure(rt),
         Part::Lines => lines::measure(rt, &FULL),
-        Part::Drive => driving::measure(rt, &FULL),
         Part::Frames => frames::measure(rt, &FULL),
         Part::Journal => both_journals(rt),
         Part::All => all(rt, &FULL),
@@ -126,13 +118,24 @@ where
 
 // Times everything.
 fn all<R: AllocGlobal + Clock + Eprint>(rt: &R, sizes: &Sizes) -> Result<(), Stop> {
+    people(rt, sizes)?;
+    lines_and_clocks(rt, sizes)?;
+    bytes(rt, sizes)
+}
+
+fn people<R: AllocGlobal + Clock + Eprint>(rt: &R, sizes: &Sizes) -> Result<(), Stop> {
     persons::measure(rt, sizes)?;
     masks::measure(rt, sizes)?;
-    binds::measure(rt, sizes)?;
+    binds::measure(rt, sizes)
+}
+
+fn lines_and_clocks<R: AllocGlobal + Clock + Eprint>(rt: &R, sizes: &Sizes) -> Result<(), Stop> {
     channels::measure(rt, sizes)?;
     timers::measure(rt)?;
-    lines::measure(rt, sizes)?;
-    driving::measure(rt, sizes)?;
+    lines::measure(rt, sizes)
+}
+
+fn bytes<R: AllocGlobal + Clock + Eprint>(rt: &R, sizes: &Sizes) -> Result<(), Stop> {
     frames::measure(rt, sizes)?;
     journals::measure(rt, sizes)
 }

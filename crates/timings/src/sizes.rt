@@ -23,10 +23,6 @@ pub struct Sizes {
     pub quits: u32,
     /// How many times five lines the stream has, of about 300 bytes.
     pub fives: u32,
-    /// How many lines come that a bot answers.
-    pub answers: u32,
-    /// How many times four lines are said, of 400 bytes.
-    pub quartets: u32,
     /// How many entries are appended to a journal in memory.
     pub entries: u64,
     /// How often each packet is written.
@@ -45,8 +41,6 @@ pub const FULL: Sizes = Sizes {
     split: 8_000,
     quits: 10_000,
     fives: 30_000,
-    answers: 20_000,
-    quartets: 25_000,
     entries: 100_000,
     frames: 100_000,
 };
@@ -63,8 +57,6 @@ pub const SMALL: Sizes = Sizes {
     split: 100,
     quits: 50,
     fives: 200,
-    answers: 40,
-    quartets: 50,
     entries: 1_000,
     frames: 200,
 };

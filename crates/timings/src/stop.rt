@@ -10,7 +10,7 @@ use thiserror::Error;
 #[derive(Clone, Copy, Debug, Error)]
 pub enum Stop {
     /// The word on the command line names no measurement.
-    #[error("say persons, masks, binds, channels, timers, lines, drive, frames, journal FILE FILE, all or small")]
+    #[error("say persons, masks, binds, channels, timers, lines, frames, journal FILE FILE, all or small")]
     Unknown,
     /// A library refused what it was given.
     #[error("a library refused what it was given")]

@@ -1,4 +1,7 @@
 // What one bot may be told before it is made, and what its steps call.
+ghost use Rattle.std.specs.Prelude.{IfOk};
+ghost use Rattle.botcore.specs.Steps.{IsGoodEvent};
+
 use crate::procs::{Built, Ours, store_of};
 use crate::sink::Sink;
 use crate::stop::{BAD_WORDS, CaseError};
@@ -7,18 +10,28 @@ use bindtable::BindKind;
 use botcalls::MadeCall;
 use botcore::{Bot, BotError, Config, End, Event, Fault, NewBind, Note, Report};
 use bytetext::{NoMemory, Text, Texts, TryCopy, copies_of};
+use disks::MemDisk;
 use ircline::read_line;
 use procstore::{Code, Kind, ProcStore};
 use std::alloc::Global;
 
 /// `config NICK LEAVES NUMBER OFFSET CHANNEL..`: `ok`, or the code of why no bot can be made so.
 pub fn config(alloc: Global, words: &[Text], out: &mut Sink) -> Result<(), CaseError> {
-    match Bot::new(alloc, config_of(alloc, words)?) {
-        Ok(_) => out.put(b"ok"),
-        Err(BotError::Refused(fault)) => out.put(fault.code().as_bytes()),
-        Err(BotError::NoMemory) => return Err(CaseError::NoMemory),
+    let config = config_of(alloc, words)?;
+    match new_bot(alloc, config).err() {
+        None => out.put(b"ok"),
+        Some(BotError::Refused(fault)) => out.put(fault.code().as_bytes()),
+        Some(BotError::NoMemory) => return Err(CaseError::NoMemory),
     }
     Ok(())
+}
+
+// A bot of this configuration, over two disks in memory.
+fn new_bot(alloc: Global, config: Config) -> Result<Bot<MemDisk>, BotError> {
+    match Bot::create(alloc, config, MemDisk::new(alloc), MemDisk::new(alloc)) {
+        Ok(bot) => Ok(bot),
+        Err(returned) => Err(returned.error),
+    }
 }
 
 fn config_of(alloc: Global, words: &[Text]) -> Result<Config, CaseError> {
@@ -43,17 +56,39 @@ pub fn bot(alloc: Global, words: &[Text], out: &mut Sink) -> Result<(), CaseErro
     let [own, exclusive, steps @ ..] = words else {
         return Err(BAD_WORDS);
     };
+    let number = number(own.as_bytes())?;
+    match bot_of(alloc, number, exclusive.as_bytes()) {
+        Ok(mut bot) => take_steps(alloc, &mut bot, steps, out),
+        Err(error) => Err(error),
+    }
+}
+
+fn take_steps(
+    alloc: Global,
+    bot: &mut Bot<MemDisk>,
+    steps: &[Text],
+    out: &mut Sink,
+) -> Result<(), CaseError> {
     let store = store_of(alloc)?;
-    let mut bot = bot_of(alloc, number(own.as_bytes())?, exclusive.as_bytes())?;
+    take_all(alloc, bot, &store, steps, out)
+}
+
+fn take_all(
+    alloc: Global,
+    bot: &mut Bot<MemDisk>,
+    store: &ProcStore<Ours, Built>,
+    steps: &[Text],
+    out: &mut Sink,
+) -> Result<(), CaseError> {
     for (i, step) in steps.iter().enumerate() {
         out.between(b" ; ", i);
-        take(alloc, &mut bot, &store, step.as_bytes(), out)?;
+        take(alloc, bot, store, step.as_bytes(), out)?;
     }
     Ok(())
 }
 
 /// The bot `egg` of this number, for no channel.
-pub fn bot_of(alloc: Global, number: u16, exclusive: &[u8]) -> Result<Bot, CaseError> {
+pub fn bot_of(alloc: Global, number: u16, exclusive: &[u8]) -> Result<Bot<MemDisk>, CaseError> {
     let config = Config {
         number,
         leaves: 1,
@@ -62,7 +97,7 @@ pub fn bot_of(alloc: Global, number: u16, exclusive: &[u8]) -> Result<Bot, CaseE
         exclusive: is_exclusive(exclusive)?,
         offset: 0,
     };
-    match Bot::new(alloc, config) {
+    match new_bot(alloc, config) {
         Ok(bot) => Ok(bot),
         Err(BotError::Refused(_)) => Err(BAD_WORDS),
         Err(BotError::NoMemory) => Err(CaseError::NoMemory),
@@ -79,7 +114,7 @@ fn is_exclusive(word: &[u8]) -> Result<bool, CaseError> {
 
 fn take(
     alloc: Global,
-    bot: &mut Bot,
+    bot: &mut Bot<MemDisk>,
     store: &ProcStore<Ours, Built>,
     step: &[u8],
     out: &mut Sink,
@@ -93,7 +128,9 @@ fn take(
     Ok(())
 }
 
-fn event_of(alloc: Global, step: &[u8]) -> Result<Event, CaseError> {
+fn event_of(alloc: Global, step: &[u8]) -> Result<Event, CaseError>
+    ensures good { IfOk result IsGoodEvent }
+{
     let (name, rest) = cut(step, b' ');
     match name {
         b"bind" => Ok(Event::Bind(new_bind(alloc, rest)?)),

@@ -7,8 +7,10 @@ use crate::procs::store_of;
 use crate::sink::Sink;
 use crate::stop::{BAD_NUMBER, BAD_WORDS, CaseError};
 use crate::words::number;
+use botcore::Bot;
 use botdrive::{DriveEnd, drive};
 use bytetext::Text;
+use disks::MemDisk;
 use ircline::LineReader;
 use std::alloc::Global;
 use std::io;
@@ -50,10 +52,24 @@ fn driven(
 ) -> Result<&'static [u8], CaseError>
     requires { moment < MOMENTS_END }
 {
+    match bot_of(alloc, 0, b"all") {
+        Ok(mut bot) => driven_bot(alloc, &mut bot, moment, reader, writer),
+        Err(error) => Err(error),
+    }
+}
+
+fn driven_bot(
+    alloc: Global,
+    bot: &mut Bot<MemDisk>,
+    moment: u64,
+    reader: &mut Source<'_>,
+    writer: &mut Target,
+) -> Result<&'static [u8], CaseError>
+    requires { moment < MOMENTS_END }
+{
     let store = store_of(alloc)?;
-    let mut bot = bot_of(alloc, 0, b"all")?;
     let mut lines = LineReader::new(alloc);
-    let driven = drive(alloc, &mut bot, &store, &mut lines, reader, writer, moment);
+    let driven = drive(alloc, bot, &store, &mut lines, reader, writer, moment);
     end_word(driven.end)
 }
 

@@ -111,6 +111,8 @@ fn put_event(alloc: Global, event: &Event, out: &mut Sink) {
         }
         Event::Connect => out.put(b"connect"),
         Event::Pump => out.put(b"pump"),
+        Event::Compact => out.put(b"compact"),
+        Event::Restart => out.put(b"restart"),
         Event::Receive(_) => out.put(b"receive"),
         Event::Line(line) => {
             out.put(b"line ");

@@ -5,4 +5,4 @@ use Rattle.botworld.proofs.world.are_numbered.Given as goal
 
 -- the bots so far are numbered
 abbrev pub invariant-loop-place : goal.invariant-loop-place
-invariant-loop-place l = (place : ℕ) (b : Bot) → place < l.place → slice_get l.bots place ≡ Some b → IsNumberedAt (length l.bots) place b
+invariant-loop-place g l = (place : ℕ) (b : Bot) → place < l.place → slice_get l.bots place ≡ Some b → IsNumberedAt (length l.bots) place b

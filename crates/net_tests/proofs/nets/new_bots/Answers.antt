@@ -1,15 +1,21 @@
-use Rattle.std.proofs.Common.{◌≡◌, ◌∙◌, ℕ, List, [], ◌∷◌, ◌++◌, slice_get, ap, sym, subst, inl, inr}
+use Rattle.std.proofs.Common.{◌≡◌, ◌⊎◌, ℕ, zero, suc, List, [], ◌∷◌, ◌++◌, slice_get, Some, ap, sym, subst, ◌∙◌, inl, inr}
 use Rattle.botcore.specs.Bots.{Bot, new_bot}
 use Rattle.botworld.specs.Network.{AllNew}
-use Rattle.botworld.proofs.History.{slice_get-last}
 use Rattle.net_tests.proofs.nets.new_bots.Goals as goal
 
+-- one more at the end
+one_more : (xs : List Bot) (y : Bot) (i : ℕ) (x : Bot) → slice_get (xs ++ y ∷ []) i ≡ Some x → (slice_get xs i ≡ Some x) ⊎ (y ≡ x)
+one_more [] y zero x e = inr cc
+one_more [] y (suc i) x e = cc
+one_more (z ∷ xs) y zero x e = inl e
+one_more (z ∷ xs) y (suc i) x e = one_more xs y i x e
+
 -- one new bot more
-AllNew-more : (bots all : List Bot) (bot : Bot) → AllNew bots → bot ≡ new_bot bot.config → all ≡ bots ++ bot ∷ [] → AllNew all
+AllNew-more : (bots all : List Bot) (bot : Bot) → AllNew bots → bot ≡ new_bot bot.config bot.link.failures → all ≡ bots ++ bot ∷ [] → AllNew all
 AllNew-more bots all bot new made added = λ place b e.
-    elim (slice_get-last bots bot place b (ap (λ (l : List Bot). slice_get l place) (sym added) ∙ e)) [
+    elim (one_more bots bot place b (ap (λ (l : List Bot). slice_get l place) (sym added) ∙ e)) [
       | inl h ↦ new place b h
-      | inr h ↦ subst (λ (x : Bot). x ≡ new_bot x.config) h.1 made
+      | inr h ↦ subst (λ (x : Bot). x ≡ new_bot x.config x.link.failures) h made
     ]
 
 pub loop-number-preserved : goal.loop-number-preserved

@@ -3,5 +3,6 @@ use Rattle.replay.proofs.starting.bot.Goals as goal
 
 pub unreachable-requires : goal.unreachable-requires
 unreachable-requires c =
-    never_refused c.args.leaves c.args.number _ _ _ c.requires.few c.requires.numbered c.in_ok-config.ensures c.in-Err-Refused.field-0-is
-    c.in-Err-Refused.ensures.why
+    let returned = c.in-Err.returned in
+    never_refused c.args.leaves c.args.number c.in_ok-config.config returned.error c.in-Refused.field-0 c.new.result c.new-2.result returned.disks.first
+    returned.disks.second c.requires.few c.requires.numbered c.in_ok-config.ensures c.in-Refused.is c.in-Err.ensures.made

@@ -1,9 +1,9 @@
 use Rattle.std.proofs.Common.{◌+◌}
-use Rattle.replay.proofs.Startings.{bots_from-new, bots_from-numbered}
+use Rattle.replay.proofs.Startings.{AreNew-all_new, AreNew-numbered}
 use Rattle.replay.proofs.starting.new_world.Goals as goal
 
 pub new-requires : goal.new-requires
-new-requires g c = record { as_made = bots_from-new c.args.leaves (c.args.leaves + 1) _ c.in_ok-new_bots.ensures }
+new-requires g c = record { as_made = AreNew-all_new c.args.leaves (c.args.leaves + 1) _ c.in_ok-new_bots.ensures }
 
 pub unreachable-requires : goal.unreachable-requires
-unreachable-requires g c = c.in-Err.ensures.bad_world (bots_from-numbered c.args.leaves _ c.in_ok-new_bots.ensures)
+unreachable-requires g c = c.in-Err.ensures.bad_world (AreNew-numbered c.args.leaves _ c.in_ok-new_bots.ensures)

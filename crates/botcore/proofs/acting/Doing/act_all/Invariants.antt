@@ -4,4 +4,4 @@ use Rattle.botcore.proofs.acting.Doing.act_all.Given as goal
 
 -- the actions so far are done
 abbrev pub invariant-loop-action : goal.invariant-loop-action
-invariant-loop-action l = IsActing l.fn.link l.fn.self l.fn.actions l.link l.self (drop l.action-index l.fn.actions)
+invariant-loop-action g l = IsActing l.fn.link l.fn.self l.fn.actions l.link l.self (drop l.action-index l.fn.actions)

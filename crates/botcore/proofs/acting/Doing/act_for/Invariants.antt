@@ -5,4 +5,4 @@ use Rattle.botcore.proofs.acting.Doing.act_for.Given as goal
 
 -- the actions of the calls so far are done
 abbrev pub invariant-loop-call : goal.invariant-loop-call
-invariant-loop-call l = IsActing l.fn.link l.fn.self (actions_of l.fn.calls) l.link l.self (actions_of (drop l.call-index l.fn.calls))
+invariant-loop-call g l = IsActing l.fn.link l.fn.self (actions_of l.fn.calls) l.link l.self (actions_of (drop l.call-index l.fn.calls))

@@ -1,5 +1,5 @@
-use Rattle.botcore.proofs.AskLemmas.{HasMoreAsks-row}
+use Rattle.botcore.proofs.AskLemmas.{HasMoreAsks-asked}
 use Rattle.botcore.proofs.acting.Doing.ask.Goals as goal
 
 pub returns-clause-kept : goal.returns-clause-kept
-returns-clause-kept c = HasMoreAsks-row c.args.link.now c.in_ok-change.change c.ask.result c.ask.new.self c.ask.ensures.row
+returns-clause-kept g c = HasMoreAsks-asked c.args.link.now c.in_ok-change.change c.ask.result c.ask.new.self c.ask.ensures.row

@@ -8,7 +8,7 @@ use Rattle.botcore.proofs.ReachLemmas.{reached_by}
 use Rattle.botcore.proofs.bot.Bot.act_for.Goals as goal
 
 pub returns-clause-reading : goal.returns-clause-reading
-returns-clause-reading c =
+returns-clause-reading g c =
     let inside = c.self.inside in
     let made = c.new-doing.result in
     let last = ap (λ (p : Progress). p.last) c.new-doing.ensures ∙ c.last.ensures in

@@ -1,5 +1,5 @@
 use Rattle.botworld.proofs.Calls.{same_calls}
-use Rattle.botworld.proofs.Runs.{same_later, same_at_once, same_always, none_back}
+use Rattle.botworld.proofs.Runs.{same_later, same_at_once, same_always, none_back, promises_kept}
 use Rattle.botworld.proofs.world.World.run.Goals as goal
 
 pub returns-clause-same_records : goal.returns-clause-same_records
@@ -13,6 +13,9 @@ returns-clause-same_always g c past stands = same_always _ _ _ past stands
 
 pub returns-clause-never_back : goal.returns-clause-never_back
 returns-clause-never_back g c past stands = none_back _ _ past _ _ _ _ stands (c.run_all.ensures.leads past stands)
+
+pub returns-clause-promises : goal.returns-clause-promises
+returns-clause-promises g c past stands = promises_kept _ _ _ past stands
 
 pub returns-clause-same_calls : goal.returns-clause-same_calls
 returns-clause-same_calls g c past stands = same_calls _ _ _ past stands

@@ -1,6 +1,7 @@
 use Rattle.std.proofs.Common.{ap, ◌∙◌, sym}
 use Rattle.botworld.specs.Net.{Net, shown_version, shown_records}
-use Rattle.botworld.proofs.Runs.{now_sound, shown_at}
+use Rattle.botworld.proofs.Runs.{now_sound}
+use Rattle.botworld.proofs.Shown.{shown_at}
 use Rattle.botworld.proofs.world.World.userfile.Goals as goal
 
 pub returns-clause-at_version : goal.returns-clause-at_version

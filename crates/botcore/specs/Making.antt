@@ -1,0 +1,64 @@
+-- How a bot is made, found on its disks, and handed back.
+use Rattle.std.specs.Prelude.{◌≡◌, Result, Ok, Err}
+use Rattle.bytetext.specs.declared.failure.Failure.{Failure}
+use Rattle.bytetext.specs.declared.failure.Failure.TheVariants.{Refused, NoMemory}
+use Rattle.storage.specs.State.{State}
+use Rattle.bytejournal.specs.declared.fault.JournalFault.{JournalFault}
+use Rattle.bytejournal.specs.Opening.{CannotCreate}
+use Rattle.botlink.specs.Links.{BotEnd}
+use Rattle.botlink.specs.Opening.{IsFound, FindsNone, MeanTheSame}
+use Rattle.botcore.specs.declared.config.Config.{Config}
+use Rattle.botcore.specs.declared.fault.BotFault.{BotFault}
+use Rattle.botcore.specs.declared.fault.BotFault.TheVariants.{BadConfig, Journal}
+use Rattle.botcore.specs.declared.making.Returned.{Returned}
+use Rattle.botcore.specs.Bots.{Bot, begun, new_bot}
+use Rattle.botcore.specs.Configs.{IsGood}
+
+-- why none is made before the disks are looked at: the configuration breaks a rule, or memory ran out though it is good
+abbrev pub IsWhyNot : Config → Failure BotFault → Type 0
+IsWhyNot config (Refused BadConfig) = ¬ IsGood config
+IsWhyNot config (Refused (Journal fault)) = ⊥
+IsWhyNot config NoMemory = IsGood config
+
+-- the same error, of a bot
+abbrev pub of_journal : Failure JournalFault → Failure BotFault
+of_journal (Refused fault) = Refused (Journal fault)
+of_journal NoMemory = NoMemory
+
+module _ {D : Type 0} (state : D → State) (config : Config) (first second : D) where
+  -- ---- making
+
+  -- why a bot isn't made: the configuration breaks a rule, and the disks are untouched; or it is good, and there is no journal
+  abbrev pub NotMade : Failure BotFault → D → D → Type 0
+  NotMade (Refused BadConfig) first' second' = (¬ IsGood config) × (first' ≡ first) × (second' ≡ second)
+  NotMade (Refused (Journal fault)) first' second' =
+      IsGood config × CannotCreate (state first) (state second) (Refused fault) (state first') (state second')
+  NotMade NoMemory first' second' = IsGood config × CannotCreate (state first) (state second) NoMemory (state first') (state second')
+
+  -- Making a bot, by cases on the answer.
+  abbrev pub Makes : Result Bot (Returned D) → Type 0
+  Makes (Ok bot) = IsGood config × (bot ≡ new_bot config bot.link.failures)
+  Makes (Err returned) = NotMade returned.error returned.disks.first returned.disks.second
+
+  -- ---- finding
+
+  -- whatever a crash leaves on the disks still means what they meant
+  abbrev pub StayTheSame : D → D → Type 0
+  StayTheSame first' second' = MeanTheSame state config.number config.leaves first second first' second'
+
+  -- why no bot is found: the configuration breaks a rule, and the disks are untouched; or it is good, and they hold none
+  abbrev pub NotFound : Failure BotFault → D → D → Type 0
+  NotFound (Refused BadConfig) first' second' = (¬ IsGood config) × (first' ≡ first) × (second' ≡ second)
+  NotFound (Refused (Journal fault)) first' second' = IsGood config
+      × FindsNone state config.number config.leaves first second (Refused fault) first' second' × StayTheSame first' second'
+  NotFound NoMemory first' second' = IsGood config × StayTheSame first' second'
+
+  -- the end of the link that the disks hold, of a bot with this configuration
+  abbrev pub IsOnDisks : BotEnd → Type 0
+  IsOnDisks link = IsFound state config.number config.leaves first second link.end
+      × (link ≡ record { number = config.number; leaves = config.leaves; end = link.end; failures = link.failures })
+
+  -- Finding a bot, by cases on the answer.
+  abbrev pub Finds : Result Bot (Returned D) → Type 0
+  Finds (Ok bot) = IsGood config × IsOnDisks bot.link × (bot ≡ begun config bot.link)
+  Finds (Err returned) = NotFound returned.error returned.disks.first returned.disks.second

@@ -1,0 +1,137 @@
+// How a bot is made, and opened on its disks.
+ghost use Rattle.std.specs.Prelude.{◌≡◌, IfOk, IfErr};
+ghost use Rattle.botcore.specs.Configs.{IsGood};
+ghost use Rattle.botcore.specs.Making.{IsWhyNot};
+ghost use Rattle.botcore.specs.Presence.{absent};
+
+use crate::bot::Bot;
+use crate::config::Config;
+use crate::fault::{BotError, of_journal};
+use crate::presence::Presence;
+use bindtable::BindTable;
+use botlink::BotLink;
+use bottimers::{Clock, Timers};
+use bytejournal::Disks;
+use bytetext::{Failure, NoMemory};
+use outqueue::Queues;
+use std::alloc::Global;
+use storage::Disk;
+
+/// The disks of a bot that was not made or opened, and why.
+#[derive(Drop)]
+pub struct Returned<D: Disk> {
+    /// Why there is no bot.
+    pub error: BotError,
+    /// The disks, in the order in which they were given.
+    pub disks: Disks<D>,
+}
+
+impl<D: Disk> Bot<D> {
+    ghost use Rattle.std.specs.Prelude.{◌≡◌, IfOk};
+    ghost use Rattle.storage.specs.State.{IsSettled};
+    ghost use Rattle.botlink.specs.Opening.{MayLeave};
+    ghost use Rattle.botcore.specs.Bots.{begun};
+    ghost use Rattle.botcore.specs.Configs.{IsGood};
+    ghost use Rattle.botcore.specs.Making.{Makes, Finds};
+    ghost use Rattle.botcore.specs.Presence.{absent};
+
+    /// A bot at version 0, without binds, that is on no channel, with a new journal on these two disks. What the disks held
+    /// is lost.
+    ///
+    /// # Errors
+    /// With the disks: `BadConfig` (G1) where the configuration breaks a rule; then `NoMemory`: in both cases nothing was
+    /// written. `Journal` with J1 where a disk failed: what the disks hold is then unknown.
+    pub fn create(alloc: Global, config: Config, first: D, second: D) -> Result<Bot<D>, Returned<D>>
+        requires first_settled { IsSettled (D.state first) }
+        requires second_settled { IsSettled (D.state second) }
+        ensures made { Makes D.state config first second result }
+    {
+        let channels = match ready(alloc, &config) {
+            Ok(channels) => channels,
+            Err(error) => {
+                return Err(Returned {
+                    error,
+                    disks: Disks { first, second },
+                });
+            }
+        };
+        match BotLink::create(alloc, first, second, config.number, config.leaves) {
+            Ok(link) => Ok(Bot::over(alloc, config, channels, link)),
+            Err(returned) => Err(Returned {
+                error: of_journal(returned.error),
+                disks: returned.disks,
+            }),
+        }
+    }
+
+    /// The bot whose journal these two disks hold: at the journal's version, without binds, on no channel. Nothing is
+    /// written.
+    ///
+    /// # Errors
+    /// With the disks, which hold what they held: `BadConfig` (G1) where the configuration breaks a rule; then `NoMemory`;
+    /// `Journal` with J1 where a read failed, and with J2 where the disks hold no journal, or another bot's.
+    pub fn open(alloc: Global, config: Config, first: D, second: D) -> Result<Bot<D>, Returned<D>>
+        requires first_settled { IsSettled (D.state first) }
+        requires second_settled { IsSettled (D.state second) }
+        ensures found { Finds D.state config first second result }
+    {
+        let channels = match ready(alloc, &config) {
+            Ok(channels) => channels,
+            Err(error) => {
+                return Err(Returned {
+                    error,
+                    disks: Disks { first, second },
+                });
+            }
+        };
+        match BotLink::open(alloc, first, second, config.number, config.leaves) {
+            Ok(link) => Ok(Bot::over(alloc, config, channels, link)),
+            Err(returned) => Err(Returned {
+                error: of_journal(returned.error),
+                disks: returned.disks,
+            }),
+        }
+    }
+
+    // A bot as it begins over this end of the link. Takes no memory.
+    fn over(alloc: Global, config: Config, channels: Presence, link: BotLink<D>) -> Bot<D>
+        requires good { IsGood config }
+        requires absent { channels ≡ absent config.nick }
+        ensures { result ≡ begun config link }
+    {
+        let binds = BindTable::new(alloc);
+        Bot {
+            config,
+            link,
+            binds,
+            channels,
+            clock: Clock::new(),
+            timers: Timers::new(alloc),
+            queues: Queues::new(alloc),
+            welcomed: false,
+        }
+    }
+
+    /// The two disks, in the order in which they were given. Whatever a crash leaves on them is the bot's journal; one that
+    /// is opened with the same configuration is at the same version, but for what is in doubt since a disk failed.
+    pub fn into_disks(self) -> Disks<D>
+        ensures left { MayLeave D.state result.first result.second self.link }
+    {
+        self.link.into_disks()
+    }
+}
+
+// The channels of a bot of this configuration, if it is good.
+fn ready(alloc: Global, config: &Config) -> Result<Presence, BotError>
+    ensures good { IfOk result (λ _. IsGood config.now) }
+    ensures absent { IfOk result (λ channels. channels ≡ absent config.now.nick) }
+    ensures why { IfErr result (λ why. IsWhyNot config.now why) }
+{
+    if let Some(fault) = config.refusal() {
+        return Err(Failure::Refused(fault));
+    }
+    match Presence::new(alloc, config.nick.as_bytes()) {
+        Ok(channels) => Ok(channels),
+        Err(NoMemory) => Err(Failure::NoMemory),
+    }
+}

@@ -1,0 +1,75 @@
+// The channels that a bot is on, and how it leaves them all without memory.
+
+use bytetext::{NoMemory, TryCopy};
+use chanstate::ChanState;
+use ircline::Message;
+use std::alloc::Global;
+use std::marker::Model;
+
+// The channels that a bot is on.
+//
+// A bot whose journal was opened again is on no channel, and nothing may go wrong on the way there. So the state of a bot
+// that has just connected is made once and kept beside the current one.
+#[derive(Drop)]
+pub(crate) struct Presence {
+    // On no channel, under the nick of the configuration.
+    first: ChanState,
+    // What the lines since then have made of it, if there were any.
+    since: Option<ChanState>,
+}
+
+impl Model for Presence {
+    ghost use Rattle.std.specs.Prelude.{unwrap_or};
+    ghost use Rattle.botcore.specs.Presence.{Presence};
+
+    ghost Value = { Presence };
+
+    ghost view = { λ p. record { first = p.first; current = unwrap_or p.since p.first } };
+}
+
+impl Presence {
+    ghost use Rattle.std.specs.Prelude.{◌≡◌, IfOk, OnOk, OnErr};
+    ghost use Rattle.chanstate.specs.Steps.{after};
+    ghost use Rattle.botcore.specs.Presence.{absent};
+
+    // On no channel, under this nick.
+    pub(crate) fn new(alloc: Global, nick: &[u8]) -> Result<Presence, NoMemory>
+        ensures { IfOk result (λ presence. presence ≡ absent nick.now) }
+    {
+        let first = ChanState::new(alloc, nick)?;
+        Ok(Presence { first, since: None })
+    }
+
+    // The channels now.
+    pub(crate) fn current(&self) -> &ChanState
+        ensures { result.now ≡ self.now.current }
+    {
+        match &self.since {
+            Some(since) => since,
+            None => &self.first,
+        }
+    }
+
+    // Leaves all channels. Takes no memory.
+    pub(crate) fn leave_all(&mut self)
+        ensures { self.new ≡ record self.old { current = self.old.first } }
+    {
+        self.since = None;
+    }
+
+    // Takes a message in.
+    pub(crate) fn apply(&mut self, alloc: Global, message: &Message) -> Result<(), NoMemory>
+        ensures ok { OnOk result (self.new ≡ record self.old { current = after message.now self.old.current }) }
+        ensures err { OnErr result (self.new ≡ self.old) }
+    {
+        match &mut self.since {
+            Some(since) => since.apply(alloc, message),
+            None => {
+                let mut since = self.first.copy(alloc)?;
+                since.apply(alloc, message)?;
+                self.since = Some(since);
+                Ok(())
+            }
+        }
+    }
+}

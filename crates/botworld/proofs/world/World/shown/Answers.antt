@@ -1,0 +1,19 @@
+use Rattle.std.proofs.Common.{Some, ap, sym, ◌∙◌}
+use Rattle.std.specs.Option.{option_copied}
+use Rattle.botcore.specs.Bots.{Bot}
+use Rattle.botcore.specs.Links.{link_records}
+use Rattle.botworld.specs.Net.{Net}
+use Rattle.botworld.proofs.Shown.{shown-none, shown-some}
+use Rattle.botworld.proofs.world.World.shown.Goals as goal
+
+pub returns-in_err-bot : goal.returns-in_err-bot
+returns-in_err-bot g c =
+    let all = c.deref.ensures.value ∙ ap (λ (w : Net). w.bots) c.self.view_is in
+    ap option_copied c.from_residual.ensures ∙ sym (shown-none (λ (b : Bot). link_records b.link) c.args.self.now c.deref.result.now c.args.bot all c.in_err-bot.ensures.lookup.3)
+
+pub returns : goal.returns
+returns g c =
+    let all = c.deref.ensures.value ∙ ap (λ (w : Net). w.bots) c.self.view_is in
+    let found = c.in_ok-bot.ensures.lookup in
+    ap Some c.userfile.ensures
+    ∙ sym (shown-some (λ (b : Bot). link_records b.link) c.args.self.now c.deref.result.now c.args.bot all c.in_ok-bot.bot.now found.3.0 found.1)

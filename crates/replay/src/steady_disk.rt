@@ -1,0 +1,93 @@
+// A disk in memory that never fails.
+ghost use Rattle.std.specs.Prelude.{◌≡◌, ◌<◌, ◌≤◌, ◌+◌, ◌++◌, length, take, drop, IfOk, OnOk};
+ghost use Rattle.storage.specs.State.{IsSettled};
+ghost use Rattle.storage.specs.Calls.{Holds, Tears, Elapses, HasCause, Spends, SameBytes, read_count};
+ghost use Rattle.disks.specs.Laws.{seen_is_left_of, counts_now_of, only_now_of};
+ghost use Rattle.disks.specs.Memory.{empty};
+ghost use Rattle.replay.specs.Steady.{steady_state};
+
+use bytetext::NoMemory;
+use disks::MemDisk;
+use std::alloc::Global;
+use std::marker::Model;
+use storage::{Disk, DiskFault};
+
+/// A disk in memory for which no fault is planned: so it never fails.
+///
+/// ```text
+/// let bot = Bot::create(alloc, config, SteadyDisk::new(alloc), SteadyDisk::new(alloc));   // no DiskFault
+/// ```
+#[derive(Drop)]
+pub struct SteadyDisk {
+    disk: MemDisk,
+}
+
+impl Model for SteadyDisk {
+    ghost use Rattle.std.specs.Prelude.{◌≡◌, None};
+    ghost use Rattle.disks.specs.Memory.{Memory};
+
+    ghost Value = { Memory };
+
+    ghost view = { λ d. d.disk };
+
+    // No write, sync or read is planned to fail.
+    ghost invariant = { λ d. (d.disk.plan.works ≡ None) × (d.disk.plan.reads ≡ None) };
+}
+
+impl SteadyDisk {
+    /// An empty disk, which grows on this allocator. Takes no memory.
+    pub fn new(alloc: Global) -> SteadyDisk
+        ensures { result ≡ empty }
+    {
+        SteadyDisk {
+            disk: MemDisk::new(alloc),
+        }
+    }
+}
+
+impl Disk for SteadyDisk {
+    ghost state = { steady_state };
+
+    ghost seen_is_left = { seen_is_left_of };
+
+    ghost counts_now = { counts_now_of };
+
+    ghost only_now = { only_now_of };
+
+    fn len(&self) -> usize {
+        self.disk.len()
+    }
+
+    fn failures(&self) -> u64 {
+        0
+    }
+
+    fn read(&mut self, at: usize, buf: &mut [u8]) -> Result<usize, DiskFault> {
+        match self.disk.read(at, buf) {
+            Ok(count) => Ok(count),
+            Err(_) => unreachable!(),
+        }
+    }
+
+    fn reserve(&mut self, end: usize, calls: usize) -> Result<(), NoMemory> {
+        self.disk.reserve(end, calls)
+    }
+
+    fn write_at(&mut self, at: usize, bytes: &[u8]) -> Result<(), DiskFault> {
+        match self.disk.write_at(at, bytes) {
+            Ok(()) => Ok(()),
+            Err(_) => unreachable!(),
+        }
+    }
+
+    fn sync(&mut self) -> Result<(), DiskFault> {
+        match self.disk.sync() {
+            Ok(()) => Ok(()),
+            Err(_) => unreachable!(),
+        }
+    }
+
+    fn reopen(&mut self) {
+        self.disk.reopen();
+    }
+}
