@@ -4,6 +4,7 @@ use crate::presence::Presence;
 use bindtable::BindTable;
 use botlink::BotLink;
 use bottimers::{Clock, Timers};
+use bytejournal::Disks;
 use outqueue::Queues;
 use std::marker::Model;
 use storage::Disk;
@@ -11,7 +12,6 @@ use userfile::Userfile;
 
 /// A bot: its end of the sharing link over a journal on two disks, its binds, the channels that it is on, its clock, its timers, and its lines for the
 /// server.
-#[derive(Drop)]
 pub struct Bot<D: Disk> {
     pub(crate) config: Config,
     pub(crate) link: BotLink<D>,
@@ -22,6 +22,22 @@ pub struct Bot<D: Disk> {
     pub(crate) queues: Queues,
     // Whether a 001 was taken in since it last connected.
     pub(crate) welcomed: bool,
+}
+
+// By hand, so that this is proved once, and not in each crate in which a bot ends.
+impl<D: Disk> Drop for Bot<D> {
+    fn drop(self) {
+        let Bot {
+            config: _,
+            link: _,
+            binds: _,
+            channels: _,
+            clock: _,
+            timers: _,
+            queues: _,
+            welcomed: _,
+        } = self;
+    }
 }
 
 impl<D: Disk> Model for Bot<D> {
@@ -55,6 +71,7 @@ impl<D: Disk> Model for Bot<D> {
 impl<D: Disk> Bot<D> {
     ghost use Rattle.std.specs.Prelude.{◌≡◌};
     ghost use Rattle.linknet.specs.Ends.{end_is_down};
+    ghost use Rattle.botlink.specs.Opening.{MayLeave};
     ghost use Rattle.botcore.specs.Links.{link_records, link_version};
 
     /// What it was told before it was made.
@@ -84,5 +101,23 @@ impl<D: Disk> Bot<D> {
         ensures { result ≡ end_is_down self.now.link.end }
     {
         self.link.is_down()
+    }
+
+    /// The two disks, in the order in which they were given. Whatever a crash leaves on them is the bot's journal; one that
+    /// is opened with the same configuration is at the same version, but for what is in doubt since a disk failed.
+    pub fn into_disks(self) -> Disks<D>
+        ensures left { MayLeave D.state result.first result.second self.link }
+    {
+        let Bot {
+            config: _,
+            link,
+            binds: _,
+            channels: _,
+            clock: _,
+            timers: _,
+            queues: _,
+            welcomed: _,
+        } = self;
+        link.into_disks()
     }
 }

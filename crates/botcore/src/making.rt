@@ -29,7 +29,6 @@ pub struct Returned<D: Disk> {
 impl<D: Disk> Bot<D> {
     ghost use Rattle.std.specs.Prelude.{◌≡◌, IfOk};
     ghost use Rattle.storage.specs.State.{IsSettled};
-    ghost use Rattle.botlink.specs.Opening.{MayLeave};
     ghost use Rattle.botcore.specs.Bots.{begun};
     ghost use Rattle.botcore.specs.Configs.{IsGood};
     ghost use Rattle.botcore.specs.Making.{Makes, Finds};
@@ -110,14 +109,6 @@ impl<D: Disk> Bot<D> {
             queues: Queues::new(alloc),
             welcomed: false,
         }
-    }
-
-    /// The two disks, in the order in which they were given. Whatever a crash leaves on them is the bot's journal; one that
-    /// is opened with the same configuration is at the same version, but for what is in doubt since a disk failed.
-    pub fn into_disks(self) -> Disks<D>
-        ensures left { MayLeave D.state result.first result.second self.link }
-    {
-        self.link.into_disks()
     }
 }
 

@@ -8,7 +8,7 @@ use usercodec::Record;
 use userfile::Change;
 
 /// What a bot's journal starts from: the bot's state at a version. Bot 0 is the hub, and leaves are numbered from 1.
-#[derive(Debug, Drop)]
+#[derive(Debug)]
 pub struct Base {
     /// The bot's number.
     pub bot: u16,
@@ -22,6 +22,20 @@ pub struct Base {
     pub last_request: u32,
     /// The leaf's change that is out, which has that number. The hub has none.
     pub out: Option<Change>,
+}
+
+// By hand, so that this is proved once, and not in each function in which a base ends.
+impl Drop for Base {
+    fn drop(self) {
+        let Base {
+            bot: _,
+            version: _,
+            records: _,
+            replies: _,
+            last_request: _,
+            out: _,
+        } = self;
+    }
 }
 
 impl TryCopy for Base {

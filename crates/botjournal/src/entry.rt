@@ -4,7 +4,7 @@ use std::alloc::Global;
 use userfile::{Change, ChangeFault};
 
 /// One entry of a bot's journal. Bot 0 is the hub, and leaves are numbered from 1.
-#[derive(Debug, Drop)]
+#[derive(Debug)]
 pub enum Entry {
     /// The hub took a change, which makes its next version.
     Accepted {
@@ -43,6 +43,33 @@ pub enum Entry {
         /// The leaf's number of the request.
         request: u32,
     },
+}
+
+// By hand, so that this is proved once, and not in each function in which an entry ends.
+impl Drop for Entry {
+    fn drop(self) {
+        match self {
+            Entry::Accepted {
+                origin: _,
+                request: _,
+                change: _,
+            } => {}
+            Entry::Settled {
+                leaf: _,
+                request: _,
+                fault: _,
+            } => {}
+            Entry::Applied {
+                number: _,
+                change: _,
+            } => {}
+            Entry::ReqOut {
+                request: _,
+                change: _,
+            } => {}
+            Entry::ReqDone { request: _ } => {}
+        }
+    }
 }
 
 impl TryCopy for Entry {

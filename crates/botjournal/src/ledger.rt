@@ -22,13 +22,24 @@ use std::snapshot::Snapshot;
 use storage::{Disk, DiskFault};
 
 /// A bot's base and the entries appended since, on two disks that may fail.
-#[derive(Drop)]
 pub struct Ledger<D: Disk> {
     store: Store<D>,
     /// The journal as it last was at rest, for contracts alone.
     rested: Snapshot<Journal<D>>,
     doubt: Option<Doubt>,
     down: bool,
+}
+
+// By hand, so that this is proved once, and not in each crate in which a ledger ends.
+impl<D: Disk> Drop for Ledger<D> {
+    fn drop(self) {
+        let Ledger {
+            store: _,
+            rested: _,
+            doubt: _,
+            down: _,
+        } = self;
+    }
 }
 
 impl<D: Disk> Model for Ledger<D> {
@@ -224,7 +235,13 @@ impl<D: Disk> Ledger<D> {
         // A crash leaves on them what is kept, or that with what is in doubt.
         ensures left { Leaves D.state result.first result.second self.account }
     {
-        self.store.into_disks()
+        let Ledger {
+            store,
+            rested: _,
+            doubt: _,
+            down: _,
+        } = self;
+        store.into_disks()
     }
 
     /// Whether nothing is taken but a restart.

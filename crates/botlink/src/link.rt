@@ -10,9 +10,15 @@ use storage::Disk;
 use userfile::{Change, Userfile};
 
 /// A bot's end of the link: the hub's where its number is 0, else a leaf's.
-#[derive(Drop)]
 pub struct BotLink<D: Disk> {
     end: Ends<D>,
+}
+
+// By hand, so that this is proved once, and not in each crate in which a bot's end of the link ends.
+impl<D: Disk> Drop for BotLink<D> {
+    fn drop(self) {
+        let BotLink { end: _ } = self;
+    }
 }
 
 impl<D: Disk> Model for BotLink<D> {
@@ -268,7 +274,8 @@ impl<D: Disk> BotLink<D> {
         // Whatever a crash leaves on them is the bot's, with the record in doubt or without it.
         ensures left { MayLeave D.state result.first result.second self }
     {
-        match self.end {
+        let BotLink { end } = self;
+        match end {
             Ends::Hub(hub) => hub.into_disks(),
             Ends::Leaf(leaf) => leaf.into_disks(),
         }

@@ -23,11 +23,21 @@ use userfile::Userfile;
 const MOST_SENT: usize = 1001;
 
 /// Bots over journals, the hub first; the procs that their binds call; and every packet ever sent.
-#[derive(Drop)]
 pub struct World<P: Promise, D: Disk, B: Run = Body> {
     bots: Vec<Bot<D>>,
     packets: Vec<Sent>,
     store: ProcStore<P, B>,
+}
+
+// By hand, so that this is proved once, and not in each crate in which a world ends.
+impl<P: Promise, D: Disk, B: Run> Drop for World<P, D, B> {
+    fn drop(self) {
+        let World {
+            bots: _,
+            packets: _,
+            store: _,
+        } = self;
+    }
 }
 
 impl<P: Promise, D: Disk, B: Run> Model for World<P, D, B> {

@@ -11,10 +11,19 @@ use storage::Disk;
 use userfile::{Change, Userfile, shape};
 
 /// The hub's end: what its journal keeps, and the asks that wait.
-#[derive(Drop)]
 pub struct HubLink<D: Disk> {
     pub(crate) kept: KeptHub<D>,
     waiting: VecDeque<Change>,
+}
+
+// By hand, so that this is proved once, and not in each crate in which a hub ends.
+impl<D: Disk> Drop for HubLink<D> {
+    fn drop(self) {
+        let HubLink {
+            kept: _,
+            waiting: _,
+        } = self;
+    }
 }
 
 impl<D: Disk> Model for HubLink<D> {
@@ -250,6 +259,7 @@ impl<D: Disk> HubLink<D> {
         // Whatever a crash leaves on them is the hub's, with the record in doubt or without it.
         ensures left { MayLeave D.state result.first result.second (kept_in self) }
     {
-        self.kept.into_disks()
+        let HubLink { kept, waiting: _ } = self;
+        kept.into_disks()
     }
 }

@@ -19,12 +19,23 @@ use storage::Disk;
 use userfile::{Change, Userfile, shape};
 
 /// A leaf's end: its userfile at a version, the asks that wait, the request that is out, and the journal.
-#[derive(Drop)]
 pub struct LeafLink<D: Disk> {
     pub(crate) leaves: u16,
     pub(crate) kept: KeptLeaf<D>,
     pub(crate) waiting: VecDeque<Change>,
     pub(crate) parts: Option<KeptParts>,
+}
+
+// By hand, so that this is proved once, and not in each crate in which a leaf ends.
+impl<D: Disk> Drop for LeafLink<D> {
+    fn drop(self) {
+        let LeafLink {
+            leaves: _,
+            kept: _,
+            waiting: _,
+            parts: _,
+        } = self;
+    }
 }
 
 impl<D: Disk> Model for LeafLink<D> {
@@ -293,7 +304,13 @@ impl<D: Disk> LeafLink<D> {
         // Whatever a crash leaves on them is the leaf's, with the record in doubt or without it.
         ensures left { MayLeave D.state result.first result.second (leaf_in self) }
     {
-        self.kept.into_disks()
+        let LeafLink {
+            leaves: _,
+            kept,
+            waiting: _,
+            parts: _,
+        } = self;
+        kept.into_disks()
     }
 }
 

@@ -237,7 +237,8 @@ fn texts_that_no_script_can_spell_are_refused(rt: HostRuntime) {
 
 // Whether a copied change is the change.
 fn a_change_is_copied(alloc: Global) -> bool {
-    match giving(alloc, b"*!*@a.net").map(|change| change.copy(alloc)) {
+    let twin = giving(alloc, b"*!*@a.net").map(|change| change.copy(alloc));
+    match &twin {
         Some(Ok(Change::AddHost { handle, mask })) => {
             handle.is_same(b"al") && mask.is_same(b"*!*@a.net")
         }

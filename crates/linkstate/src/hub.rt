@@ -21,13 +21,25 @@ use usercodec::Record;
 use userfile::{Change, ChangeFault, Userfile};
 
 /// What outlives a restart of a hub: its userfile, the changes accepted since the base, and the last reply to each leaf.
-#[derive(Drop)]
 pub struct HubState {
     floor: u32,
     tail: Vec<AcceptedChange>,
     userfile: Userfile,
     replies: Vec<Option<Reply>>,
     generation: u32,
+}
+
+// By hand, so that this is proved once, and not in each crate in which a hub's state ends.
+impl Drop for HubState {
+    fn drop(self) {
+        let HubState {
+            floor: _,
+            tail: _,
+            userfile: _,
+            replies: _,
+            generation: _,
+        } = self;
+    }
 }
 
 impl Model for HubState {

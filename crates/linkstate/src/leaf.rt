@@ -15,13 +15,25 @@ use userfile::{Change, Userfile};
 
 /// What outlives a restart of a leaf: its version and userfile, the number of its last request, and the change that is
 /// out under that number.
-#[derive(Drop)]
 pub struct LeafState {
     version: u32,
     userfile: Userfile,
     last: u32,
     out: Option<Change>,
     generation: u32,
+}
+
+// By hand, so that this is proved once, and not in each crate in which a leaf's state ends.
+impl Drop for LeafState {
+    fn drop(self) {
+        let LeafState {
+            version: _,
+            userfile: _,
+            last: _,
+            out: _,
+            generation: _,
+        } = self;
+    }
 }
 
 impl Model for LeafState {

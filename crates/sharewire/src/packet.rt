@@ -5,7 +5,7 @@ use usercodec::Record;
 use userfile::{Change, ChangeFault};
 
 /// One packet of the sharing link. Bot 0 is the hub, and leaves are numbered from 1.
-#[derive(Debug, Drop)]
+#[derive(Debug)]
 pub enum Packet {
     /// A leaf tells the hub the version that it is at.
     Hello {
@@ -72,6 +72,50 @@ pub enum Packet {
         /// What is said: see [`is_bot_text`](crate::is_bot_text).
         text: Text,
     },
+}
+
+// By hand, so that this is proved once, and not in each crate in which a packet ends.
+impl Drop for Packet {
+    fn drop(self) {
+        match self {
+            Packet::Hello {
+                leaf: _,
+                version: _,
+            } => {}
+            Packet::Change {
+                number: _,
+                origin: _,
+                request: _,
+                change: _,
+            } => {}
+            Packet::Part {
+                version: _,
+                part: _,
+                count: _,
+                records: _,
+            } => {}
+            Packet::Request {
+                leaf: _,
+                request: _,
+                change: _,
+            } => {}
+            Packet::Accepted {
+                leaf: _,
+                request: _,
+                number: _,
+            } => {}
+            Packet::Refused {
+                leaf: _,
+                request: _,
+                fault: _,
+            } => {}
+            Packet::BotText {
+                from: _,
+                to: _,
+                text: _,
+            } => {}
+        }
+    }
 }
 
 impl TryCopy for Packet {

@@ -7,7 +7,7 @@ use std::alloc::Global;
 
 /// One edit of a userfile, as it is asked for, sent and kept. Handles, masks and channels name what they are the same
 /// as by casemapping.
-#[derive(Debug, Drop)]
+#[derive(Debug)]
 pub enum Change {
     /// Adds a user after the others.
     AddUser {
@@ -76,6 +76,42 @@ pub enum Change {
         /// The ban's hostmask.
         mask: Text,
     },
+}
+
+// By hand, so that this is proved once, and not in each function in which a change ends.
+impl Drop for Change {
+    fn drop(self) {
+        match self {
+            Change::AddUser { handle: _ } => {}
+            Change::DelUser { handle: _ } => {}
+            Change::AddHost { handle: _, mask: _ } => {}
+            Change::DelHost { handle: _, mask: _ } => {}
+            Change::SetGlobal {
+                handle: _,
+                flags: _,
+            } => {}
+            Change::SetChan {
+                handle: _,
+                channel: _,
+                flags: _,
+            } => {}
+            Change::SetBot {
+                handle: _,
+                flags: _,
+            } => {}
+            Change::AddBan {
+                channel: _,
+                mask: _,
+                creator: _,
+                expires: _,
+                comment: _,
+            } => {}
+            Change::DelBan {
+                channel: _,
+                mask: _,
+            } => {}
+        }
+    }
 }
 
 impl TryCopy for Change {
