@@ -28,8 +28,8 @@
 //! tells the line on standard error and ends with status 1, as for input above 1,048,576 bytes; with 3 where reading or
 //! writing fails; with 4 where memory runs out. Nothing stands on standard output then.
 //!
-//! The files `stdin` and `stdout` of `benchmarks/links` hold the cases. What is answered was worked out by an independent
-//! model, `model.py`, whose generator wrote the cases too.
+//! The crate's files `stdin` and `stdout` hold the cases. What is answered was worked out by an independent model,
+//! `benchmarks/links/model.py`, and `scripts.py` beside it wrote the cases.
 #![tactic(auto)]
 
 mod calls;
