@@ -16,7 +16,6 @@ use std::io;
 use std::net::{Net, SocketAddr};
 
 /// The server, the hub's listener, and the bots and their sockets by their numbers.
-#[derive(Drop)]
 pub struct Network {
     pub house: House,
     pub link: LinkHouse,
@@ -28,6 +27,22 @@ pub struct Network {
     pub until_pump: u8,
     server: SocketAddr,
     hub: SocketAddr,
+}
+
+// By hand, so that this is proved once, and not in each function in which a botnet ends.
+impl Drop for Network {
+    fn drop(self) {
+        let Network {
+            house: _,
+            link: _,
+            bots: _,
+            seats: _,
+            now: _,
+            until_pump: _,
+            server: _,
+            hub: _,
+        } = self;
+    }
 }
 
 impl Network {

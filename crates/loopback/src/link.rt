@@ -20,11 +20,21 @@ struct End {
 }
 
 /// The hub's listener, and those who are connected to it.
-#[derive(Drop)]
 pub struct LinkHouse {
     listener: TcpListener,
     ends: Vec<End>,
     leaves: u16,
+}
+
+// By hand, so that this is proved once, and not in each crate in which a hub's side of the link ends.
+impl Drop for LinkHouse {
+    fn drop(self) {
+        let LinkHouse {
+            listener: _,
+            ends: _,
+            leaves: _,
+        } = self;
+    }
 }
 
 impl LinkHouse {

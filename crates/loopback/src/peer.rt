@@ -17,7 +17,6 @@ const MAX_READS: usize = 64;
 const MAX_UNSENT: usize = 262_144;
 
 /// A connection, with the bytes that were read and not taken yet, and those that are still to be written.
-#[derive(Drop)]
 pub struct Peer {
     stream: TcpStream,
     heard: Vec<u8>,
@@ -25,9 +24,23 @@ pub struct Peer {
     is_over: bool,
 }
 
+// By hand, so that this is proved once, and not in each crate in which a connection ends.
+impl Drop for Peer {
+    fn drop(self) {
+        let Peer {
+            stream: _,
+            heard: _,
+            unsent: _,
+            is_over: _,
+        } = self;
+    }
+}
+
 impl Peer {
-    /// A connection that has just been made, or is being made. Takes no memory.
+    /// A connection that has just been made, or is being made. Small writes go at once where the system can do that.
+    /// Takes no memory.
     pub fn new(alloc: Global, stream: TcpStream) -> Peer {
+        let _at_once = stream.set_nodelay(true);
         Peer {
             stream,
             heard: Vec::new(alloc),
