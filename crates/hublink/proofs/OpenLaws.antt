@@ -9,11 +9,12 @@ use Rattle.botjournal.specs.Journal.{IsEither}
 use Rattle.botjournal.specs.Ledger.{Account, IsFound as FindsContents, settled, counted as contents_counted}
 use Rattle.protocol.specs.HubRules.{HubState, HubRecord}
 use Rattle.protocol.specs.Journals.{hub_of, hub_meaning, IsHubState}
-use Rattle.linkstate.specs.States.{empty_base}
+use Rattle.linkstate.specs.States.{empty_base, contents_in}
+use Rattle.linkstate.proofs.FoundLaws.{found-is}
 use Rattle.linkcalls.specs.declared.TheConstants.{MAX_LEAVES}
 use Rattle.hublink.specs.Kept.{Stands, Holds}
-use Rattle.hublink.specs.Opening.{AreOf, contents_in}
-use Rattle.hublink.proofs.RestartLaws.{either-of, found-is}
+use Rattle.hublink.specs.Opening.{AreOf}
+use Rattle.hublink.proofs.RestartLaws.{either-of}
 
 -- ---- made and found
 
@@ -71,12 +72,3 @@ pub untouched-mean : (first second first' second' : State) → Untouched first f
 untouched-mean first second first' second' one other x y left right =
     ap (λ image. meaning image y) (one.settled x left ∙ one.seen)
     ∙ ap (λ image. meaning first.seen image) (other.settled y right ∙ other.seen)
-
--- and so do those that were taken out of a journal at rest
-pub rested-mean : (account : Account) (before : Option Contents) (x y : List ℕ) → account ≡ settled account.contents
-    → before ≡ Some account.contents → IsEither (Some account.contents) (Some (contents_counted account)) x y → meaning x y ≡ before
-rested-mean account before x y rests was either = by either.means ∙ sym was
-  where
-    by : (meaning x y ≡ Some account.contents) ⊎ (meaning x y ≡ Some (contents_counted account)) → meaning x y ≡ Some account.contents
-    by (inl e) = e
-    by (inr e) = e ∙ ap (λ (a : Account). Some (contents_counted a)) rests

@@ -6,12 +6,9 @@ use Rattle.botjournal.specs.Ledger.{Ledger, Account, Failures, IsFound, StaysDow
 use Rattle.protocol.specs.Bots.{counted}
 use Rattle.protocol.specs.HubRules.{HubState, HubRecord, hub_folded}
 use Rattle.protocol.specs.Journals.{hub_meaning, IsHubState}
+use Rattle.linkstate.specs.States.{contents_in}
+use Rattle.linkstate.proofs.FoundLaws.{certain-counted, contents-found, settled-found, found-is}
 use Rattle.hublink.specs.Kept.{KeptHub, Means, MeansEither, Stands, Holds, Restarts}
-use Rattle.hublink.specs.Opening.{contents_in}
-
--- in a journal of which nothing is in doubt, what would count is what is there
-certain-counted : (account : Account) → account.doubt ≡ None → contents_counted account ≡ account.contents
-certain-counted account certain = ap (λ d. written_if d account.contents) certain
 
 pub either-of : (leaves : ℕ) (kept : HubState) (down : Bool) (doubt : Option HubRecord) (account : Account) (contents : Contents)
     → Stands down leaves kept doubt account → (contents ≡ account.contents) ⊎ (contents ≡ contents_counted account)
@@ -24,23 +21,6 @@ either-of leaves kept true doubt account contents is (inl same) =
     subst (λ (c : Contents). MeansEither leaves kept doubt c) (sym same) is.held
 either-of leaves kept true doubt account contents is (inr same) =
     subst (λ (c : Contents). MeansEither leaves kept doubt c) (sym same) is.counted
-
-contents-found : (old new : Account) → (new ≡ settled old.contents) ⊎ (new ≡ settled (contents_counted old))
-    → (new.contents ≡ old.contents) ⊎ (new.contents ≡ contents_counted old)
-contents-found old new (inl e) = inl (ap (λ (a : Account). a.contents) e)
-contents-found old new (inr e) = inr (ap (λ (a : Account). a.contents) e)
-
-settled-found : (old new : Account) → (new ≡ settled old.contents) ⊎ (new ≡ settled (contents_counted old)) → new ≡ settled new.contents
-settled-found old new (inl e) = e ∙ sym (ap (λ (a : Account). settled a.contents) e)
-settled-found old new (inr e) = e ∙ sym (ap (λ (a : Account). settled a.contents) e)
-
--- what is found is what the journal then holds
-pub found-is : (contents : Contents) (generation : ℕ) (found : Found) → generation ≡ contents.generation → IsFound found contents
-    → contents_in generation found ≡ contents
-found-is contents generation found at is =
-    ap (λ n. (let c : Contents = record { generation = n; base = found.base; entries = found.entries } in c)) at
-    ∙ ap (λ b. (let c : Contents = record { generation = contents.generation; base = b; entries = found.entries } in c)) is.0
-    ∙ ap (λ l. (let c : Contents = record { generation = contents.generation; base = contents.base; entries = l } in c)) is.1
 
 -- which state it means
 state-is : (leaves : ℕ) (kept state : HubState) (doubt : Option HubRecord) (contents : Contents) → MeansEither leaves kept doubt contents

@@ -7,7 +7,6 @@ use Rattle.bytejournal.specs.declared.fault.JournalFault.{JournalFault}
 use Rattle.bytejournal.specs.declared.fault.JournalFault.TheVariants.{DiskFault, NotAJournal, Spent, GenerationsSpent}
 use Rattle.bytejournal.specs.declared.opening.Returned.{Returned}
 use Rattle.bytejournal.specs.Opening.{CannotCreate}
-use Rattle.botjournal.specs.declared.found.Found.{Found}
 use Rattle.botjournal.specs.Contents.{Contents, meaning}
 use Rattle.botjournal.specs.Ledger.{Failures}
 use Rattle.botjournal.specs.Recovery.{IsJournal}
@@ -15,10 +14,6 @@ use Rattle.protocol.specs.HubRules.{HubState, HubRecord}
 use Rattle.protocol.specs.Network.{new_hub}
 use Rattle.protocol.specs.Journals.{hub_meaning}
 use Rattle.hublink.specs.Kept.{KeptHub, MeansEither}
-
--- what was found in a journal of this generation
-abbrev pub contents_in : ℕ → Found → Contents
-contents_in generation found = record { generation = generation; base = found.base; entries = found.entries }
 
 -- a hub that takes records, and has nothing in doubt
 abbrev pub at_rest : ℕ → HubState → Failures → KeptHub

@@ -9,9 +9,9 @@ ghost use Rattle.protocol.specs.Numbers.{last_number, item_at};
 ghost use Rattle.protocol.specs.Journals.{hub_meaning, is_next, is_next_of, IsHubState};
 ghost use Rattle.protocol.specs.HubRules.{Accept, Settle, Rebase, version_of};
 ghost use Rattle.linkcalls.specs.declared.TheConstants.{MAX_LEAVES};
-ghost use Rattle.linkstate.specs.States.{Reads, empty_base};
+ghost use Rattle.linkstate.specs.States.{Reads, contents_in, empty_base};
 ghost use Rattle.hublink.specs.Kept.{Journals, Restarts};
-ghost use Rattle.hublink.specs.Opening.{Makes, Finds, MayLeave, contents_in};
+ghost use Rattle.hublink.specs.Opening.{Makes, Finds, MayLeave};
 
 use crate::doubt::Doubt;
 use botjournal::{Base, Found, Ledger, RebaseFault};

@@ -10,9 +10,11 @@ use Rattle.botjournal.specs.Journal.{IsEither}
 use Rattle.botjournal.specs.Ledger.{Account, IsFound as FindsContents, settled, counted as contents_counted}
 use Rattle.protocol.specs.LeafRules.{LeafState, LeafRecord, Apply, Out, Done, leaf_folded}
 use Rattle.protocol.specs.Journals.{read_next, reads, record_if, leaf_of, is_leaf_base, leaf_record, leaf_meaning}
+use Rattle.linkstate.specs.States.{contents_in}
+use Rattle.linkstate.proofs.FoundLaws.{found-is}
 use Rattle.leaflink.specs.Kept.{Means, Stands, Holds}
-use Rattle.leaflink.specs.Opening.{AreOf, contents_in}
-use Rattle.leaflink.proofs.RestartLaws.{either-of, found-is}
+use Rattle.leaflink.specs.Opening.{AreOf}
+use Rattle.leaflink.proofs.RestartLaws.{either-of}
 
 -- ---- handed back
 
@@ -94,12 +96,3 @@ pub found-meaning : (number generation : ℕ) (found : Found) (contents : Conten
     → FindsContents found contents → leaf_meaning number (contents_in generation found) ≡ means → leaf_meaning number contents ≡ means
 found-meaning number generation found contents means at is read =
     ap (λ c. leaf_meaning number c) (sym (found-is contents generation found at is)) ∙ read
-
--- disks that were taken out of a journal at rest mean what they meant
-pub rested-mean : (account : Account) (before : Option Contents) (x y : List ℕ) → account ≡ settled account.contents
-    → before ≡ Some account.contents → IsEither (Some account.contents) (Some (contents_counted account)) x y → meaning x y ≡ before
-rested-mean account before x y rests was either = by either.means ∙ sym was
-  where
-    by : (meaning x y ≡ Some account.contents) ⊎ (meaning x y ≡ Some (contents_counted account)) → meaning x y ≡ Some account.contents
-    by (inl e) = e
-    by (inr e) = e ∙ ap (λ (a : Account). Some (contents_counted a)) rests

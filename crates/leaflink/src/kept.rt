@@ -9,10 +9,10 @@ ghost use Rattle.botjournal.specs.Ledger.{IsGoodFound};
 ghost use Rattle.protocol.specs.Numbers.{last_number};
 ghost use Rattle.protocol.specs.Journals.{leaf_meaning, leaf_base};
 ghost use Rattle.protocol.specs.Network.{new_leaf};
-ghost use Rattle.linkstate.specs.States.{Reads};
+ghost use Rattle.linkstate.specs.States.{Reads, contents_in};
 ghost use Rattle.protocol.specs.LeafRules.{Apply, Out, Done, Install, Compact};
 ghost use Rattle.leaflink.specs.Kept.{Journals, Restarts};
-ghost use Rattle.leaflink.specs.Opening.{Makes, Finds, MayLeave, contents_in};
+ghost use Rattle.leaflink.specs.Opening.{Makes, Finds, MayLeave};
 
 use crate::doubt::Doubt;
 use crate::journaled::{base_journaled, done_journaled, install_journaled, out_journaled};

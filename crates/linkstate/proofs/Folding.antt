@@ -1,5 +1,5 @@
 -- Entries folded in, and an end on a base alone.
-use Rattle.std.proofs.Common.{◌≡◌, ◌<◌, ℕ, ◌+◌, Bool, true, false, if◌then◌else◌, List, [], ◌∷◌, ◌++◌, length, drop, get_or, Option, None, Some, Err, refl, ap, sym, subst, ◌∙◌, eq-eqb}
+use Rattle.std.proofs.Common.{◌≡◌, ◌==◌, ◌<◌, ℕ, ◌+◌, Bool, true, false, if◌then◌else◌, List, [], ◌∷◌, ◌++◌, length, drop, get_or, Option, None, Some, Err, refl, ap, sym, subst, ◌∙◌, eq-eqb}
 use Rattle.std.specs.List.{list_all}
 use Rattle.std.specs.Option.{option_map}
 use Rattle.bytetext.specs.declared.failure.Failure.{Failure}
@@ -18,8 +18,9 @@ use Rattle.protocol.specs.HubRules.{HubState, Accept, Settle, version_of, with_r
 use Rattle.protocol.specs.Journals.{read_next, reads, stand_together, record_if, replies_of, hub_of, is_to_leaf, is_hub_base, hub_record, hub_meaning, leaf_of, is_leaf_base, leaf_record, leaf_meaning}
 use Rattle.protocol.specs.LeafRules.{LeafState, leaf_folded}
 use Rattle.userfile.specs.declared.change.Change.{Change}
+use Rattle.userfile.proofs.RepeatLemmas.{and_true}
 use Rattle.protocol.specs.Network.{new_hub}
-use Rattle.linkstate.specs.States.{Takes, TakesAll, Reads, sound_records, hub_on, leaf_on}
+use Rattle.linkstate.specs.States.{Takes, TakesAll, Reads, sound_records, hub_on, is_hubs, leaf_on}
 use Rattle.linkstate.specs.declared.fault.StateFault.{StateFault}
 use Rattle.linkstate.proofs.Lists.{drop-at, replies_of-none}
 
@@ -40,13 +41,13 @@ sound-is items held e = by (stand_together (records_from items)) refl e
 
 -- a hub on a base
 pub hub_on-is : (leaves generation : ℕ) (base : Base) (tail : List AcceptedChange) (held : Records) (replies : List (Option Reply))
-    → base.bot ≡ 0 → tail ≡ []
-    → list_all (is_to_leaf leaves) base.replies ≡ true → sound_records base.records ≡ Some held
+    → is_hubs leaves base ≡ true → tail ≡ [] → sound_records base.records ≡ Some held
     → replies ≡ replies_of 1 leaves base.replies
     → hub_on leaves generation base ≡ Some (record { floor = base.version; tail = tail; records = held; replies = replies; generation = generation })
-hub_on-is leaves generation base tail held replies bot empty within sound placed =
+hub_on-is leaves generation base tail held replies hubs empty sound placed =
     let stands = sound-is base.records held sound in
-    rw (empty, bot, within, stands.0)
+    let both : ((base.bot == 0) ≡ true) × (list_all (is_to_leaf leaves) base.replies ≡ true) = and_true hubs in
+    rw (empty, both.0, both.1, stands.0)
     (ap (λ records. Some (record { floor = base.version; tail = []; records = records; replies = replies_of 1 leaves base.replies; generation = generation }))
     stands.1 ∙ ap (λ l. Some (record { floor = base.version; tail = []; records = held; replies = l; generation = generation })) (sym placed))
 

@@ -1,5 +1,6 @@
 -- What reading a journal's contents and taking one more entry answer, and what a new end keeps.
-use Rattle.std.specs.Prelude.{◌≡◌, ℕ, suc, Bool, true, false, List, [], slice_get, Option, None, Some, is_some, Result, Ok, Err}
+use Rattle.std.specs.Prelude.{◌≡◌, ◌==◌, ◌&&◌, ℕ, suc, Bool, true, false, List, [], slice_get, Option, None, Some, is_some, Result, Ok, Err}
+use Rattle.std.specs.List.{list_all}
 use Rattle.bytetext.specs.declared.failure.Failure.{Failure}
 use Rattle.bytetext.specs.declared.failure.Failure.TheVariants.{Refused, NoMemory}
 use Rattle.userfile.specs.Records.{Records}
@@ -8,11 +9,13 @@ use Rattle.usercodec.specs.declared.records.Record.{Record as UserfileRecord}
 use Rattle.botjournal.specs.declared.base.Base.{Base}
 use Rattle.botjournal.specs.declared.entry.Entry.{Entry}
 use Rattle.botjournal.specs.declared.reply.Reply.{Reply}
+use Rattle.botjournal.specs.declared.found.Found.{Found}
+use Rattle.botjournal.specs.Contents.{Contents}
 use Rattle.botjournal.specs.declared.entry.Entry.TheVariants.{Accepted, Settled, Applied, ReqOut, ReqDone}
 use Rattle.protocol.specs.Snapshots.{records_from}
 use Rattle.protocol.specs.HubRules.{HubState}
 use Rattle.protocol.specs.LeafRules.{LeafState}
-use Rattle.protocol.specs.Journals.{read_next, reads, stand_together, record_if, hub_of, is_hub_base, leaf_of, is_leaf_base}
+use Rattle.protocol.specs.Journals.{read_next, reads, stand_together, record_if, hub_of, is_hub_base, is_to_leaf, leaf_of, is_leaf_base}
 use Rattle.linkstate.specs.declared.fault.StateFault.{StateFault}
 
 -- what is meant is read, and a refusal says that nothing is meant
@@ -43,9 +46,17 @@ empty_base bot = record { bot = bot; version = 0; records = []; replies = []; la
 abbrev pub sound_records : List UserfileRecord → Option Records
 sound_records items = record_if (stand_together (records_from items)) (records_from items)
 
+-- what was found in a journal of this generation
+abbrev pub contents_in : ℕ → Found → Contents
+contents_in generation found = record { generation = generation; base = found.base; entries = found.entries }
+
 -- a hub on a base alone, where the base is a hub's
 abbrev pub hub_on : ℕ → ℕ → Base → Option HubState
 hub_on leaves generation base = record_if (is_hub_base leaves base) (hub_of leaves generation base)
+
+-- the base is a hub's, and has replies to no more than so many leaves
+abbrev pub is_hubs : ℕ → Base → Bool
+is_hubs leaves base = (base.bot == 0) && list_all (is_to_leaf leaves) base.replies
 
 -- a leaf on a base alone, where the base is that leaf's
 abbrev pub leaf_on : ℕ → ℕ → Base → Option LeafState

@@ -5,9 +5,8 @@ ghost use Rattle.protocol.specs.Numbers.{last_number};
 ghost use Rattle.protocol.specs.Journals.{is_next};
 
 use crate::accepted::AcceptedChange;
+use crate::accepting::{accepted_entry, apply_next, keep_next};
 use crate::fault::{StateError, StateFault};
-use crate::fields::know_change;
-use crate::journaled::change_journaled;
 use crate::records::{items_of, userfile_of};
 use crate::replies::{
     is_next, is_next_of, know_replies, put_reply, replies_in, replies_of, reply_at,
@@ -61,8 +60,9 @@ impl Model for HubState {
 }
 
 impl HubState {
-    ghost use Rattle.std.specs.Prelude.{◌≡◌, ◌≢◌, ◌&&◌, ◌<◌, ◌≤◌, ◌^◌, true, false, nat_lt, is_none, None, Err, IfOk, OnOk, OnErr, length};
-    ghost use Rattle.bytetext.specs.declared.failure.Failure.TheVariants.{NoMemory as no_memory};
+    ghost use Rattle.std.specs.Prelude.{◌≡◌, ◌≢◌, ◌&&◌, ◌<◌, ◌≤◌, ◌^◌, true, false, nat_lt, is_none, None, Err, IfOk, IfErr, OnOk, OnErr, length};
+    ghost use Rattle.bytetext.specs.declared.failure.Failure.TheVariants.{NoMemory as no_memory, Refused};
+    ghost use Rattle.linkstate.specs.declared.fault.StateFault.TheVariants.{NotAJournal};
     ghost use Rattle.userfile.specs.Apply.{refusal};
     ghost use Rattle.usercodec.specs.Records.{IsGoodRecord};
     ghost use Rattle.botjournal.specs.Bases.{AreListed, IsGoodBase};
@@ -73,16 +73,17 @@ impl HubState {
     ghost use Rattle.protocol.specs.Snapshots.{items_of};
     ghost use Rattle.protocol.specs.Network.{new_hub};
     ghost use Rattle.protocol.specs.Journals.{hub_of, hub_base, hub_record, hub_meaning, is_next, is_next_of, IsHubState};
-    ghost use Rattle.linkstate.specs.States.{Reads, Takes, TakesAll, ArePlaced, hub_on, empty_base, is_accepted};
+    ghost use Rattle.linkstate.specs.States.{Reads, Takes, TakesAll, ArePlaced, hub_on, is_hubs, empty_base, is_accepted};
 
     /// A hub with so many leaves before the first change, in the first generation of its journal.
     ///
     /// # Errors
-    /// `NoMemory` where room for the places of the replies is refused.
+    /// `NoMemory` where room for the places of the replies is refused: never without leaves.
     pub fn new(alloc: Global, leaves: u16) -> Result<HubState, NoMemory>
         ensures start { IfOk result (λ hub. hub ≡ (new_hub leaves).kept) }
         ensures empty { IfOk result (λ hub. hub ≡ hub_of leaves 1 (empty_base 0)) }
         ensures state { IfOk result (λ hub. IsHubState leaves hub) }
+        ensures memory { IfErr result (λ _. 0 < leaves) }
     {
         let replies = replies_of(alloc, leaves, &[])?;
         Ok(HubState {
@@ -99,7 +100,8 @@ impl HubState {
     ///
     /// # Errors
     /// `NotAJournal` where they mean nothing: the base is no hub's, has a reply to leaf 0 or to a leaf above the last, or
-    /// records that no userfile holds, or an entry is none that a hub writes in the state before it. Or `NoMemory`.
+    /// records that no userfile holds, or an entry is none that a hub writes in the state before it. Or `NoMemory`, but
+    /// not where the base is no hub's or has such a reply.
     pub fn read(
         alloc: Global,
         leaves: u16,
@@ -109,6 +111,7 @@ impl HubState {
     ) -> Result<HubState, StateError>
         requires good { IsGoodBase base.now }
         ensures reads { Reads (hub_meaning leaves (record { generation = generation; base = base.now; entries = entries.now })) result }
+        ensures foreign { is_hubs leaves base.now ≡ false → result ≡ Err (Refused NotAJournal) }
         // Each leaf has a place for its reply, and each reply is at its leaf's.
         ensures state { IfOk result (λ hub. IsHubState leaves hub) }
         ensures generation { IfOk result (λ hub. hub.generation ≡ generation) }
@@ -128,9 +131,10 @@ impl HubState {
         base: &Base,
     ) -> Result<HubState, StateError>
         requires good { IsGoodBase base.now }
-        ensures { Reads (hub_on leaves generation base.now) result }
+        ensures reads { Reads (hub_on leaves generation base.now) result }
+        ensures foreign { is_hubs leaves base.now ≡ false → result ≡ Err (Refused NotAJournal) }
     {
-        if base.bot != 0 || !are_within(base.replies.as_slice(), leaves) {
+        if !is_hubs(base, leaves) {
             return Err(Failure::Refused(StateFault::NotAJournal));
         }
         let userfile = userfile_of(alloc, base.records.as_slice())?;
@@ -368,11 +372,12 @@ impl HubState {
     /// The userfile's records one by one, its users first: at most 700, each of which has a spelling.
     ///
     /// # Errors
-    /// `NoMemory` where room for copies is refused.
+    /// `NoMemory` where room for copies is refused: never where there are no records.
     pub fn items(&self, alloc: Global) -> Result<Vec<Record>, NoMemory>
         ensures items { IfOk result (λ items. items.items ≡ items_of self.now.records) }
         ensures good { IfOk result (λ items. AreListed IsGoodRecord items.items) }
         ensures few { IfOk result (λ items. length items.items ≤ 700) }
+        ensures memory { IfErr result (λ _. 0 < length (items_of self.now.records)) }
     {
         items_of(alloc, &self.userfile)
     }
@@ -395,6 +400,14 @@ impl HubState {
 
 ghost use Rattle.std.specs.List.{list_all};
 ghost use Rattle.protocol.specs.Journals.{is_to_leaf};
+ghost use Rattle.linkstate.specs.States.{is_hubs};
+
+// Whether a base is a hub's, and has replies to no more than so many leaves.
+fn is_hubs(base: &Base, leaves: u16) -> bool
+    ensures { result ≡ is_hubs leaves base.now }
+{
+    base.bot == 0 && are_within(base.replies.as_slice(), leaves)
+}
 
 // Whether each reply is to one of so many leaves.
 fn are_within(replies: &[Reply], leaves: u16) -> bool
@@ -403,28 +416,6 @@ fn are_within(replies: &[Reply], leaves: u16) -> bool
     replies
         .iter()
         .all(|reply| 0 < reply.leaf && reply.leaf <= leaves)
-}
-
-// Makes a change that isn't refused, and puts it after the others.
-fn apply_next(
-    alloc: Global,
-    userfile: &mut Userfile,
-    tail: &mut Vec<AcceptedChange>,
-    entry: AcceptedChange,
-) -> Result<(), NoMemory>
-    requires taken { refusal userfile.old entry.change ≡ None }
-    ensures records { OnOk result (userfile.new ≡ changed userfile.old entry.change) }
-    ensures tail { OnOk result (tail.new.items ≡ tail.old.items ++ entry ∷ []) }
-    ensures same_records { OnErr result (userfile.new ≡ userfile.old) }
-    ensures same_tail { OnErr result (tail.new.items ≡ tail.old.items) }
-{
-    tail.reserve(1)?;
-    match userfile.apply(alloc, entry.change()) {
-        Ok(()) => {}
-        Err(_) => return Err(NoMemory),
-    }
-    tail.push_reserved(entry);
-    Ok(())
 }
 
 ghost use Rattle.std.specs.Prelude.{true, ◌<◌, ◌^◌};
@@ -453,56 +444,5 @@ fn base_of(version: u32, records: Vec<Record>, replies: Vec<Reply>) -> Base
         replies: Seq::new(replies),
         last_request: 0,
         out: None,
-    }
-}
-
-ghost use Rattle.std.specs.Prelude.{false, IfOk};
-ghost use Rattle.userfile.specs.Apply.{bad_shape};
-ghost use Rattle.botjournal.specs.Ledger.{Appends};
-ghost use Rattle.botjournal.specs.Entries.{IsGoodEntry};
-ghost use Rattle.botjournal.specs.declared.entry.Entry.TheVariants.{Accepted};
-
-// The entry of an accepted change of good shape.
-fn accepted_entry(alloc: Global, accepted: &AcceptedChange) -> Result<Entry, NoMemory>
-    requires shape { bad_shape accepted.now.change ≡ None }
-    ensures entry { IfOk result (λ entry. entry ≡ Accepted accepted.now.origin accepted.now.request accepted.now.change) }
-    ensures good { IfOk result IsGoodEntry }
-{
-    know_change(accepted.change());
-    let origin = accepted.origin();
-    let request = accepted.request();
-    let change = accepted.change().copy(alloc)?;
-    Ok(Entry::Accepted {
-        origin,
-        request,
-        change,
-    })
-}
-
-// Journals an entry, makes the change of it, which isn't refused, and puts the change after the others.
-fn keep_next<D: Disk>(
-    alloc: Global,
-    userfile: &mut Userfile,
-    tail: &mut Vec<AcceptedChange>,
-    ledger: &mut Ledger<D>,
-    entry: &Entry,
-    kept: AcceptedChange,
-) -> Result<(), LedgerError>
-    requires up { ledger.old.account.down ≡ false }
-    requires good { IsGoodEntry entry.now }
-    requires taken { refusal userfile.old kept.change ≡ None }
-    ensures row { Appends ledger.old entry.now result ledger.new }
-    ensures records { OnOk result (userfile.new ≡ changed userfile.old kept.change) }
-    ensures tail { OnOk result (tail.new.items ≡ tail.old.items ++ kept ∷ []) }
-    ensures same_records { OnErr result (userfile.new ≡ userfile.old) }
-    ensures same_tail { OnErr result (tail.new.items ≡ tail.old.items) }
-{
-    tail.reserve(1)?;
-    match change_journaled(alloc, userfile, ledger, kept.change(), entry) {
-        Ok(()) => {
-            tail.push_reserved(kept);
-            Ok(())
-        }
-        Err(error) => Err(error),
     }
 }

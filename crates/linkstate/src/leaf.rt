@@ -53,7 +53,8 @@ impl Model for LeafState {
 impl LeafState {
     ghost use Rattle.std.specs.Prelude.{◌≡◌, ◌≢◌, ◌<◌, ℕ, ◌+◌, ◌==◌, ◌&&◌, true, false, nat_lt, is_none, is_some, None, Err, IfOk, OnOk, OnErr};
     ghost use Rattle.std.specs.Option.{option_copied};
-    ghost use Rattle.bytetext.specs.declared.failure.Failure.TheVariants.{NoMemory as no_memory};
+    ghost use Rattle.bytetext.specs.declared.failure.Failure.TheVariants.{NoMemory as no_memory, Refused};
+    ghost use Rattle.linkstate.specs.declared.fault.StateFault.TheVariants.{NotAJournal};
     ghost use Rattle.userfile.specs.Apply.{refusal, grows};
     ghost use Rattle.std.specs.List.{AllByRecursion};
     ghost use Rattle.botjournal.specs.Bases.{IsGoodBase, IsGoodOut};
@@ -85,7 +86,7 @@ impl LeafState {
     ///
     /// # Errors
     /// `NotAJournal` where they mean nothing: the base is another bot's or has records that no userfile holds, or an
-    /// entry is none that a leaf writes in the state before it. Or `NoMemory`.
+    /// entry is none that a leaf writes in the state before it. Or `NoMemory`, but not where the base is another bot's.
     pub fn read(
         alloc: Global,
         number: u16,
@@ -95,6 +96,7 @@ impl LeafState {
     ) -> Result<LeafState, StateError>
         requires good { IsGoodBase base.now }
         ensures reads { Reads (leaf_meaning number (record { generation = generation; base = base.now; entries = entries.now })) result }
+        ensures foreign { base.now.bot ≢ number → result ≡ Err (Refused NotAJournal) }
         ensures good { IfOk result (λ leaf. AllByRecursion IsGoodEntry entries.now → IsGoodOut leaf.out) }
     {
         let mut leaf = LeafState::on_base(alloc, number, generation, base)?;
@@ -112,7 +114,8 @@ impl LeafState {
         base: &Base,
     ) -> Result<LeafState, StateError>
         requires good { IsGoodBase base.now }
-        ensures { Reads (leaf_on number generation base.now) result }
+        ensures reads { Reads (leaf_on number generation base.now) result }
+        ensures foreign { base.now.bot ≢ number → result ≡ Err (Refused NotAJournal) }
     {
         if base.bot != number {
             return Err(Failure::Refused(StateFault::NotAJournal));

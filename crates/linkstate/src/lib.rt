@@ -18,6 +18,7 @@
 #![tactic(auto)]
 
 mod accepted;
+mod accepting;
 mod fault;
 mod fields;
 mod hub;

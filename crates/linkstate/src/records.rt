@@ -1,5 +1,5 @@
 // The records of a base, and the userfile that holds them.
-ghost use Rattle.std.specs.Prelude.{◌≡◌, ◌≤◌, ◌++◌, true, IfOk, IsTrue, OnOk, length};
+ghost use Rattle.std.specs.Prelude.{◌≡◌, ◌≤◌, ◌<◌, ◌++◌, true, IfOk, IfErr, IsTrue, OnOk, OnErr, length};
 ghost use Rattle.std.specs.List.{AllByRecursion};
 ghost use Rattle.usercodec.specs.Records.{IsGoodRecord};
 ghost use Rattle.botjournal.specs.Bases.{AreListed};
@@ -61,6 +61,7 @@ pub(crate) fn items_of(alloc: Global, userfile: &Userfile) -> Result<Vec<Record>
     ensures items { IfOk result (λ items. items.items ≡ items_of userfile.now) }
     ensures good { IfOk result (λ items. AreListed IsGoodRecord items.items) }
     ensures few { IfOk result (λ items. length items.items ≤ 700) }
+    ensures memory { IfErr result (λ _. 0 < length (items_of userfile.now)) }
 {
     let items = copies_in(alloc, userfile)?;
     userfile.are_sound();
@@ -69,7 +70,8 @@ pub(crate) fn items_of(alloc: Global, userfile: &Userfile) -> Result<Vec<Record>
 }
 
 fn copies_in(alloc: Global, userfile: &Userfile) -> Result<Vec<Record>, NoMemory>
-    ensures { IfOk result (λ items. items.items ≡ items_of userfile.now) }
+    ensures items { IfOk result (λ items. items.items ≡ items_of userfile.now) }
+    ensures memory { IfErr result (λ _. 0 < length (items_of userfile.now)) }
 {
     let mut items = Vec::new(alloc);
     put_users(alloc, &mut items, userfile)?;
@@ -78,7 +80,8 @@ fn copies_in(alloc: Global, userfile: &Userfile) -> Result<Vec<Record>, NoMemory
 }
 
 fn put_users(alloc: Global, items: &mut Vec<Record>, userfile: &Userfile) -> Result<(), NoMemory>
-    ensures { OnOk result (items.new.items ≡ items.old.items ++ user_items userfile.now.users) }
+    ensures added { OnOk result (items.new.items ≡ items.old.items ++ user_items userfile.now.users) }
+    ensures memory { OnErr result (0 < length userfile.now.users) }
 {
     for place in 0..userfile.user_count() {
         let Some(user) = userfile.user_at(place) else {
@@ -90,7 +93,8 @@ fn put_users(alloc: Global, items: &mut Vec<Record>, userfile: &Userfile) -> Res
 }
 
 fn put_bans(alloc: Global, items: &mut Vec<Record>, userfile: &Userfile) -> Result<(), NoMemory>
-    ensures { OnOk result (items.new.items ≡ items.old.items ++ ban_items userfile.now.bans) }
+    ensures added { OnOk result (items.new.items ≡ items.old.items ++ ban_items userfile.now.bans) }
+    ensures memory { OnErr result (0 < length userfile.now.bans) }
 {
     for place in 0..userfile.ban_count() {
         let Some(ban) = userfile.ban_at(place) else {

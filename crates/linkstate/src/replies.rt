@@ -1,5 +1,5 @@
 // The last reply to each leaf, by the leaf's place.
-ghost use Rattle.std.specs.Prelude.{◌≡◌, ◌++◌, ◌<◌, length, true, IfOk, replicate, None};
+ghost use Rattle.std.specs.Prelude.{◌≡◌, ◌++◌, ◌<◌, length, true, IfOk, IfErr, replicate, None};
 ghost use Rattle.std.specs.List.{AllByRecursion};
 ghost use Rattle.botjournal.specs.Bases.{IsGoodReply, IsGoodAnswer};
 ghost use Rattle.protocol.specs.Numbers.{item_at};
@@ -32,7 +32,8 @@ pub(crate) fn replies_of(
     leaves: u16,
     replies: &[Reply],
 ) -> Result<Vec<Option<Reply>>, NoMemory>
-    ensures { IfOk result (λ held. held.items ≡ replies_of 1 leaves replies.now) }
+    ensures placed { IfOk result (λ held. held.items ≡ replies_of 1 leaves replies.now) }
+    ensures memory { IfErr result (λ _. 0 < leaves) }
 {
     let mut held = Vec::new(alloc);
     for place in 0..leaves {

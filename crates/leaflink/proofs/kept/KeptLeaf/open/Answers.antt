@@ -3,8 +3,9 @@ use Rattle.botjournal.specs.Contents.{meaning}
 use Rattle.botjournal.specs.Ledger.{Account}
 use Rattle.protocol.specs.Journals.{leaf_meaning}
 use Rattle.linkstate.specs.States.{Reads}
-use Rattle.leaflink.specs.Opening.{contents_in}
-use Rattle.leaflink.proofs.OpenLaws.{rests-holds, found-meaning, rested-mean}
+use Rattle.linkstate.specs.States.{contents_in}
+use Rattle.linkstate.proofs.FoundLaws.{rested-mean}
+use Rattle.leaflink.proofs.OpenLaws.{rests-holds, found-meaning}
 use Rattle.leaflink.proofs.kept.KeptLeaf.open.Goals as goal
 
 pub invariant_of-result : goal.invariant_of-result

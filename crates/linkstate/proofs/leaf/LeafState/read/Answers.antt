@@ -2,15 +2,17 @@ use Rattle.linkstate.proofs.Folding.{leaf-failed, leaf-read}
 use Rattle.linkstate.proofs.LeafGoodness.{read-good}
 use Rattle.linkstate.proofs.leaf.LeafState.read.Goals as goal
 
-pub returns-in-Ok : goal.returns-in-Ok
-returns-in-Ok c = record {
-  reads = leaf-read c.args.number c.args.generation c.args.base.now c.args.entries.now c.in_ok-leaf.leaf c.take_all.new.self c.in_ok-leaf.ensures
-      c.in-Ok.ensures;
-  good = λ each. read-good c.args.number c.args.generation c.args.base.now c.args.entries.now c.in_ok-leaf.leaf c.take_all.new.self c.requires.good
-      c.in_ok-leaf.ensures c.in-Ok.ensures each;
-}
+pub returns-in-Ok-clause-reads : goal.returns-in-Ok-clause-reads
+returns-in-Ok-clause-reads c =
+    leaf-read c.args.number c.args.generation c.args.base.now c.args.entries.now c.in_ok-leaf.leaf c.take_all.new.self c.in_ok-leaf.ensures.reads
+    c.in-Ok.ensures
+
+pub returns-in-Ok-clause-good : goal.returns-in-Ok-clause-good
+returns-in-Ok-clause-good c each =
+    read-good c.args.number c.args.generation c.args.base.now c.args.entries.now c.in_ok-leaf.leaf c.take_all.new.self c.requires.good
+    c.in_ok-leaf.ensures.reads c.in-Ok.ensures each
 
 pub returns-in-Err-clause-reads : goal.returns-in-Err-clause-reads
 returns-in-Err-clause-reads c =
     leaf-failed c.args.number c.args.generation c.args.base.now c.args.entries.now c.in_ok-leaf.leaf c.take_all.new.self c.in-Err.error
-    c.in_ok-leaf.ensures c.in-Err.ensures
+    c.in_ok-leaf.ensures.reads c.in-Err.ensures
