@@ -1,7 +1,6 @@
 -- What actions leave of the link and the rest.
 use Rattle.std.proofs.Common.{◌≡◌, ◌∙◌, ℕ, ◌+◌, ◌<◌, nat_lt, Bool, true, false, if◌then◌else◌, List, [], ◌∷◌, ◌++◌, length, drop, get_or, refl, ap, sym, subst, append_assoc, Option, Some, None, Result, Ok, Err}
 use Rattle.std.proofs.lemmas.List.{append-nil, drop_more}
-use Rattle.std.proofs.Math.Seq.{take-append_seam}
 use Rattle.userfile.specs.Apply.{bad_shape}
 use Rattle.userfile.specs.declared.change.Change.{Change}
 use Rattle.userfile.specs.declared.error.ChangeFault.{ChangeFault}
@@ -19,17 +18,16 @@ use Rattle.linkcalls.specs.declared.answer.Answer.{Answer}
 use Rattle.linkcalls.specs.declared.error.LinkFault.{LinkFault}
 use Rattle.linkcalls.specs.declared.error.LinkFault.TheVariants as fault
 use Rattle.linkcalls.specs.Calls.{note_of, IsFault}
-use Rattle.linknet.specs.Ends.{End, AtHub, AtLeaf, end_asks, with_asks, with_oldest, end_did}
-use Rattle.botlink.specs.Links.{BotEnd, Asks, asked, keeps_asks}
+use Rattle.linknet.specs.Ends.{End, AtHub, AtLeaf, end_asks, with_asks, end_did}
+use Rattle.botlink.specs.Links.{BotEnd, Asks}
 use Rattle.botcore.specs.declared.fault.ActionFault.{ActionFault}
-use Rattle.botcore.specs.declared.fault.ActionFault.TheVariants.{Link as link_fault}
 use Rattle.botcore.specs.declared.fault.Fault.{Fault}
 use Rattle.botcalls.specs.declared.made_call.MadeCall.{MadeCall}
-use Rattle.botcore.specs.Acting.{Acting, acted, acted_all, asked_if, asked_to, done_to, refused_to, with_fault, action_faults, actions_of}
-use Rattle.botcore.specs.Links.{link_with_asks, ask_count, fault_told}
+use Rattle.botcore.specs.Acting.{Acting, acted, acted_all, with_fault, action_faults, actions_of}
+use Rattle.botcore.specs.Links.{link_with_asks, fault_told}
 use Rattle.botcore.specs.Progress.{Progress, Leaves, LeavesAll, HasMoreAsks, acting_at}
 use Rattle.botcore.specs.Putting.{HasMoreLines}
-use Rattle.botcore.proofs.PutLemmas.{HasMoreLines_same, HasMoreLines-then}
+use Rattle.botcore.proofs.PutLemmas.{HasMoreLines-then}
 
 -- asks -------------------------------------------------------------------------------------------------------------------
 
@@ -44,12 +42,6 @@ with_asks-append : (end : End) (xs ys : List Change)
 with_asks-append (AtHub hub) xs ys = ap (λ (asks : List Change). AtHub (record hub { loose = asks })) (append_assoc hub.loose xs ys)
 with_asks-append (AtLeaf leaf) xs ys =
     ap (λ (asks : List Change). AtLeaf (record leaf { loose = record leaf.loose { waiting = asks } })) (append_assoc leaf.loose.waiting xs ys)
-
-with_oldest-with_asks : (end : End) (more : List Change)
-    → with_oldest (with_asks end (end_asks end ++ more)) (length (end_asks end)) ≡ end
-with_oldest-with_asks (AtHub hub) more = ap (λ (asks : List Change). AtHub (record hub { loose = asks })) (take-append_seam hub.loose more)
-with_oldest-with_asks (AtLeaf leaf) more =
-    ap (λ (asks : List Change). AtLeaf (record leaf { loose = record leaf.loose { waiting = asks } })) (take-append_seam leaf.loose.waiting more)
 
 -- no ask more
 pub HasMoreAsks_refl : (link : BotEnd) → HasMoreAsks link link
@@ -106,24 +98,7 @@ HasMoreAsks-asked old change (Ok answer) new is = (
 HasMoreAsks-asked old change (Err (Refused fault)) new is = subst (HasMoreAsks old) (sym is.1) (HasMoreAsks_refl old)
 HasMoreAsks-asked old change (Err NoMemory) new is = subst (HasMoreAsks old) (sym is.1) (HasMoreAsks_refl old)
 
--- the asks that waited before are the oldest
-keeps_asks-with_asks : (link : BotEnd) (more : List Change) → keeps_asks (link_with_asks link more) (ask_count link) ≡ link
-keeps_asks-with_asks link more = ap (λ (end : End). record link { end = end }) (with_oldest-with_asks link.end more)
-
--- so those that came since can be taken back
-pub asks_taken_back : (old new kept : BotEnd) (count : ℕ) → HasMoreAsks old new → count ≡ ask_count old → kept ≡ keeps_asks new count → kept ≡ old
-asks_taken_back old new kept count more counted back =
-    back ∙ ap (keeps_asks new) counted ∙ ap (λ (l : BotEnd). keeps_asks l (ask_count old)) more.1 ∙ keeps_asks-with_asks old more.0
-
 -- an ask, as an action ----------------------------------------------------------------------------------------------------
-
--- one that is taken is done
-pub asked_done : (old : Acting) (change : Change) (answer : Answer) (new : BotEnd)
-    → Asks old.link change (Ok answer) new → asked_to old (asked old.link change) ≡ done_to (record old { link = new })
-asked_done old change answer new is =
-    ap (λ (said : Result Meaning Meant). asked_if said old (asked old.link change).after) is.0.told
-    ∙ ap (λ (link : BotEnd). done_to (record old { link = link }))
-    (sym (is.1 ∙ ap (λ (end : End). record old.link { end = end }) is.0.after))
 
 -- a fault is told as the link tells it
 pub fault_is : (fault : LinkFault) (said : Result Meaning Meant) → IsFault fault said → (why : Meant) × (said ≡ Err why) × (fault_told why ≡ fault)
@@ -136,14 +111,6 @@ fault_is fault.JournalFault said is = (JournalFault, is, refl)
 fault_is fault.BadBotText said is = (BadBotText, is, refl)
 fault_is fault.TextsFull said is = absurd is
 fault_is fault.DiskFault said is = (DiskFault, is, refl)
-
--- one that is refused changes nothing, and its fault is told
-pub asked_refused : (old : Acting) (change : Change) (why : LinkFault) (new : BotEnd)
-    → Asks old.link change (Err (Refused why)) new → asked_to old (asked old.link change) ≡ refused_to old (link_fault why)
-asked_refused old change why new is =
-    let meant = fault_is why (asked old.link change).told is.0 in
-    ap (λ (said : Result Meaning Meant). asked_if said old (asked old.link change).after) meant.1
-    ∙ ap (λ (f : LinkFault). refused_to old (link_fault f)) meant.2
 
 -- actions after actions ----------------------------------------------------------------------------------------------------
 
@@ -168,9 +135,6 @@ pub record IsActing (before : BotEnd) (old : Progress) (all : List Action) (link
   pub kept : HasMoreAsks before link
   pub lines : HasMoreLines old.queues now.queues
 
-pub IsActing-none : (before : BotEnd) (old : Progress) (all : List Action) → IsActing before old all before old all
-IsActing-none before old all = record { acting = refl; faults = refl; kept = HasMoreAsks_refl before; lines = HasMoreLines_same old.queues old.queues refl }
-
 -- these were done next
 pub IsActing-more : (before : BotEnd) (old : Progress) (all : List Action) (link : BotEnd) (now : Progress) (left xs rest : List Action) (next : BotEnd) (new : Progress)
     → IsActing before old all link now left → left ≡ xs ++ rest → LeavesAll link now xs next new → HasMoreAsks link next
@@ -187,15 +151,6 @@ IsActing-more before old all link now left xs rest next new is here done more li
           ∙ ap (λ (actions : List Action). now.faults ++ action_faults (acting_at link now) actions) (sym here) ∙ is.faults;
       kept = HasMoreAsks-then before link next is.kept more;
       lines = HasMoreLines-then old.queues now.queues new.queues is.lines lines;
-    }
-
--- all were done
-pub IsActing-all : (before : BotEnd) (old : Progress) (all : List Action) (link : BotEnd) (now : Progress) (left : List Action)
-    → IsActing before old all link now left → left ≡ [] → LeavesAll before old all link now
-IsActing-all before old all link now left is none =
-    record {
-      acting = ap (acted_all (acting_at link now)) (sym none) ∙ is.acting;
-      faults = sym (append-nil now.faults) ∙ ap (λ (actions : List Action). now.faults ++ action_faults (acting_at link now) actions) (sym none) ∙ is.faults;
     }
 
 -- one action is all of it

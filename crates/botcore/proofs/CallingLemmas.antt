@@ -1,25 +1,21 @@
 -- What is reported of what calls procs, by the calls that were made.
-use Rattle.std.proofs.Common.{◌≡◌, ◌∙◌, ℕ, List, [], ◌++◌, map, Option, None, refl, ap, sym, subst}
+use Rattle.std.proofs.Common.{◌≡◌, ◌∙◌, ℕ, List, [], ◌++◌, Option, None, refl, ap, sym, subst}
 use Rattle.std.proofs.lemmas.List.{append-nil}
 use Rattle.std.proofs.lemmas.List.Elements.{filter_map-append}
 use Rattle.procstore.specs.declared.action.Action.{Action}
 use Rattle.procstore.specs.declared.call.Call.{Call}
 use Rattle.procstore.specs.declared.reply.Code.{Code}
 use Rattle.botcalls.specs.declared.made_call.MadeCall.{MadeCall}
-use Rattle.botcalls.specs.declared.made_call.Unbound.{Unbound}
-use Rattle.botcore.specs.declared.fault.Fault.{Fault}
 use Rattle.botcore.specs.declared.report.Note.{Note}
 use Rattle.botcore.specs.declared.report.Report.{Report}
-use Rattle.linkcalls.specs.declared.answer.Outgoing.{Outgoing}
 use Rattle.bottimers.specs.Seconds.{seconds_run}
 use Rattle.botcalls.specs.declared.occasion.Occasion.{Occasion}
 use Rattle.botcore.specs.Bots.{Bot, bot_setting}
-use Rattle.botcore.specs.Acting.{faults_of}
 use Rattle.botcalls.specs.Calls.{Telling, called_in, calls_in}
-use Rattle.botcalls.specs.Dispatching.{is_logged, told_of}
+use Rattle.botcalls.specs.Dispatching.{told_of}
 use Rattle.botcore.specs.Happenings.{seconds_of}
-use Rattle.botcore.specs.Lines.{acting_of, acting_after, Finish, finish_reading}
-use Rattle.botcalls.specs.Made.{Made, IsMade, IsFrontMade, AllKept, entry_of}
+use Rattle.botcore.specs.Lines.{Finish, finish_reading}
+use Rattle.botcalls.specs.Made.{Made, IsMade, IsFrontMade}
 use Rattle.botcore.specs.Reports.{cut_short, told as told_as}
 use Rattle.botcore.specs.Steps.{IsCutShort, TakesCalls, TakesSeconds, run_to}
 use Rattle.botcore.specs.Shown.{AreOccasions, AreTaken}
@@ -49,28 +45,6 @@ module _ (code_of : List ℕ → Call → Code) (may : List ℕ → Call → Lis
       subst (λ (r : Report). TakesCalls r.end code_of may told old start came finish r new)
       (sym (told_as ∙ ap cut_short same_calls))
       (IsCutShort-front told old new made front same)
-
-  -- a report of all calls
-  pub told-takes : (told : List Telling) (old start new : Bot) (came : Option Note) (finish : List MadeCall → Finish) (made : Made) (calls : List MadeCall)
-      (unbound : List Unbound) (packets : List Outgoing) (lines : List (List ℕ)) (faults : List Fault) (report : Report)
-      → IsMade code_of may made told → calls ≡ made.calls → unbound ≡ made.unbound
-      → packets ≡ (acting_after start calls).sent → lines ≡ (finish calls).lines
-      → faults ≡ faults_of (acting_of start) calls unbound ++ (finish calls).faults → new ≡ (finish calls).after
-      → report ≡ told_as came calls packets lines faults
-      → TakesCalls report.end code_of may told old start came finish report new
-  told-takes told old start new came finish made calls unbound packets lines faults report is same_calls same_unbound sent went why after reported =
-      let entries : map entry_of calls ≡ calls_in told = ap (map entry_of) same_calls ∙ is.calls in
-      subst (λ (r : Report). TakesCalls r.end code_of may told old start came finish r new) (sym reported)
-      (record {
-        calls = entries;
-        kept = subst (AllKept code_of may) (sym same_calls) is.kept;
-        note = refl;
-        packets = sent;
-        lines = went;
-        faults = why ∙ ap (λ (us : List Unbound). faults_of (acting_of start) calls us ++ (finish calls).faults) (same_unbound ∙ is.unbound);
-        logged = ap is_logged entries;
-        after = after;
-      })
 
   -- the seconds of a reading, of which the first calls were made
   pub cut_short-seconds : (names : List (List ℕ)) (old new : Bot) (now : ℕ) (occasions : List Occasion) (made : Made) (calls : List MadeCall) (report : Report)

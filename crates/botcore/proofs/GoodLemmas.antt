@@ -61,10 +61,6 @@ pub good_reported : (most : ℕ) (answer : Result Answer (Failure LinkFault)) (r
     → AreGood report.packets
 good_reported most answer report out reported = subst (λ (r : Report). AreGood r.packets) (sym reported) (answer_good most answer out)
 
--- where nothing goes out, all of it is good
-pub none_good : (packets : List Outgoing) → packets ≡ [] → AreGood packets
-none_good packets none = subst AreGood (sym none) tt
-
 -- ---- actions
 
 AreGood-append : (xs ys : List Outgoing) → AreGood xs → AreGood ys → AreGood (xs ++ ys)

@@ -8,7 +8,5 @@ pub mod JoiningLemmas
 pub mod PacketLemmas
 pub mod PutLemmas
 pub mod ReachLemmas
-pub mod RowLemmas
 pub mod RunningLemmas
 pub mod SilentLemmas
-pub mod TextLemmas

@@ -2,7 +2,6 @@
 use Rattle.std.proofs.Common.{◌≡◌, ◌∙◌, ℕ, zero, suc, ◌+◌, ◌-◌, ◌<◌, ◌≤◌, ℤ, max, false, List, [], ◌∷◌, ◌++◌, map, Option, Some, None, arith, refl, ap, sym, subst}
 use Rattle.std.proofs.Common.{append_assoc}
 use Rattle.std.proofs.Math.Nat.{le-max_left, max-le, max-eq_right}
-use Rattle.std.proofs.lemmas.List.{append-nil}
 use Rattle.std.proofs.lemmas.Bool.Decides.{nat_tests}
 use Rattle.std.specs.List.{range_with_len}
 use Rattle.bytetext.specs.declared.moment.TheConstants.{MOMENTS_END}
@@ -48,9 +47,6 @@ pub record IsRunning (offset : ℤ) (first : Held) (all : List ℕ) (timers : He
   pub passes : passed_all timers rest ≡ passed_all first all
   pub rises : Rise timers.last rest
 
-pub IsRunning-first : (offset : ℤ) (first : Held) (all : List ℕ) → Rise first.last all → IsRunning offset first all first all []
-IsRunning-first offset first all rises = record { done = []; shown = tt; brings = refl; passes = refl; rises = rises }
-
 -- one more runs
 pub IsRunning-next : (offset : ℤ) (first : Held) (all : List ℕ) (timers new : Held) (rest behind : List ℕ) (t : ℕ) (occasions more after : List Occasion)
     → IsRunning offset first all timers rest occasions → rest ≡ t ∷ behind → new ≡ passed t timers
@@ -66,22 +62,6 @@ IsRunning-next offset first all timers new rest behind t occasions more after is
       passes = ap (λ (h : Held). passed_all h behind) passes ∙ ap (passed_all timers) (sym next) ∙ is.passes;
       rises = subst (λ (h : Held). Rise h.last behind) (sym passes) rises.2;
     }
-
--- all have run
-pub IsRunning-all : (offset : ℤ) (first : Held) (all : List ℕ) (timers : Held) (rest : List ℕ) (occasions : List Occasion)
-    → IsRunning offset first all timers rest occasions → rest ≡ []
-    → AreOccasions (seconds_of offset first all) occasions × (timers ≡ passed_all first all)
-IsRunning-all offset first all timers rest occasions is none = (
-  subst (λ (hs : List Happening). AreOccasions hs occasions)
-      (sym (append-nil is.done) ∙ ap (λ (ts : List ℕ). is.done ++ seconds_of offset timers ts) (sym none) ∙ is.brings) is.shown,
-  ap (passed_all timers) (sym none) ∙ is.passes,
-)
-
--- the next second may be given
-pub IsRunning-given : (offset : ℤ) (first : Held) (all : List ℕ) (timers : Held) (rest behind : List ℕ) (t : ℕ) (occasions : List Occasion)
-    → IsRunning offset first all timers rest occasions → rest ≡ t ∷ behind → IsAbove timers.last t × (t < MOMENTS_END)
-IsRunning-given offset first all timers rest behind t occasions is next =
-    let rises : Rise timers.last (t ∷ behind) = subst (Rise timers.last) next is.rises in (rises.0, rises.1)
 
 -- ---- the seconds that a reading runs
 

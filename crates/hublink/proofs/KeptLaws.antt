@@ -3,7 +3,7 @@ use Rattle.std.proofs.Common.{◌≡◌, ◌+◌, ℕ, Bool, true, false, Option
 use Rattle.std.proofs.lemmas.Bool.{eqb-true}
 use Rattle.botjournal.specs.declared.reply.Reply.{Reply}
 use Rattle.botjournal.specs.Contents.{Contents}
-use Rattle.botjournal.specs.Ledger.{Ledger, Account, Pending, Writes, FailsAt, written}
+use Rattle.botjournal.specs.Ledger.{Ledger, Pending, Writes, FailsAt, written}
 use Rattle.protocol.specs.HubRules.{HubState, HubRecord, Accept, Settle, Rebase, last_request, next_number, hub_folded}
 use Rattle.protocol.specs.Journals.{hub_written, is_next_of, HubMay, IsHubState}
 use Rattle.protocol.proofs.Journals.{hub_reads_back, hub_state_kept}
@@ -61,17 +61,6 @@ down-failed leaves kept false doubt old new entry pending is up state may same f
 
 -- ---- the same of all that holds
 
--- a hub that is up has a journal that is, in the state's generation
-pub journal-up : (leaves : ℕ) (kept : HubState) (down : Bool) (doubt : Option HubRecord) (account : Account) → Holds leaves kept down doubt account
-    → down ≡ false → account.down ≡ false
-journal-up leaves kept true doubt account holds up = absurd (cc)
-journal-up leaves kept false doubt account holds up = holds.stands.up
-
-pub generation-up : (leaves : ℕ) (kept : HubState) (down : Bool) (doubt : Option HubRecord) (account : Account) → Holds leaves kept down doubt account
-    → down ≡ false → kept.generation ≡ account.contents.generation
-generation-up leaves kept true doubt account holds up = absurd (cc)
-generation-up leaves kept false doubt account holds up = holds.stands.means.generation
-
 pub holds-written : (leaves : ℕ) (kept next : HubState) (down : Bool) (doubt : Option HubRecord) (old new : Ledger) (entry : HubRecord) (pending : Pending)
     → Holds leaves kept down doubt old.account → down ≡ false → HubMay kept entry
     → written pending old.account.contents ≡ hub_written old.account.contents kept entry → Writes pending old new
@@ -93,8 +82,3 @@ holds-failed leaves kept next down doubt old new entry pending holds up may same
       state = holds.state;
       stands = down-failed leaves kept down doubt old new entry pending holds.stands up holds.state may same fails;
     })
-
--- nothing moved
-pub holds-still : (leaves : ℕ) (kept next : HubState) (down : Bool) (doubt : Option HubRecord) (old new : Ledger)
-    → Holds leaves kept down doubt old.account → new ≡ old → next ≡ kept → Holds leaves next down doubt new.account
-holds-still leaves kept next down doubt old new holds same stays = rw (same, stays) holds

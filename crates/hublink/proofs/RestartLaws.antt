@@ -2,7 +2,7 @@
 use Rattle.std.proofs.Common.{◌≡◌, ◌⊎◌, ℕ, Bool, true, false, Option, None, Some, Ok, refl, sym, ap, subst, ◌∙◌, inl, inr}
 use Rattle.botjournal.specs.Contents.{Contents}
 use Rattle.botjournal.specs.declared.found.Found.{Found}
-use Rattle.botjournal.specs.Ledger.{Ledger, Account, Failures, IsFound, StaysDown, settled, written_if, counted as contents_counted, Restarts as LedgerRestarts}
+use Rattle.botjournal.specs.Ledger.{Ledger, Account, Failures, settled, counted as contents_counted, Restarts as LedgerRestarts}
 use Rattle.protocol.specs.Bots.{counted}
 use Rattle.protocol.specs.HubRules.{HubState, HubRecord, hub_folded}
 use Rattle.protocol.specs.Journals.{hub_meaning, IsHubState}
@@ -85,18 +85,6 @@ module _ (leaves : ℕ) (kept : HubState) (down : Bool) (doubt : Option HubRecor
           (sym (certain-counted new.account (ap (λ (a : Account). a.doubt) rests))) either;
     };
   }
-
--- a journal that wasn't opened
-pub down-holds : (leaves : ℕ) (kept : HubState) (down : Bool) (doubt : Option HubRecord) (old new : Ledger) → Holds leaves kept down doubt old.account
-    → StaysDown old new → Holds leaves kept true doubt new.account
-down-holds leaves kept down doubt old new holds stays = record {
-  few = holds.few;
-  state = holds.state;
-  stands = record {
-    held = either-of leaves kept down doubt old.account new.account.contents holds.stands (inl (ap (λ (a : Account). a.contents) stays));
-    counted = either-of leaves kept down doubt old.account (contents_counted new.account) holds.stands (inr (ap contents_counted stays));
-  };
-}
 
 -- a restart that ended, as the link shows it
 pub restarted-is : (leaves : ℕ) (kept state : HubState) (down : Bool) (doubt : Option HubRecord) (before now : Failures) (old : KeptHub)

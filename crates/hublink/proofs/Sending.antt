@@ -29,12 +29,6 @@ pub outgoings-length : (xs : List Outgoing) → length (outgoings_of xs) ≡ len
 outgoings-length [] = refl
 outgoings-length (x ∷ xs) = ap suc (outgoings-length xs)
 
-drop-all : {X : Type 0} (xs : List X) (n : ℕ) → length xs ≤ n → drop n xs ≡ []
-drop-all [] zero over = refl
-drop-all [] (suc n) over = refl
-drop-all (x ∷ xs) zero over = absurd (omega (arith, over))
-drop-all (x ∷ xs) (suc n) over = drop-all xs n (omega (arith, over))
-
 -- one more, of those that are left
 pub sent-more : (old new : List Outgoing) (out : Outgoing) (sent : Sent) (rest all : List Sent) → new ≡ old ++ out ∷ [] → outgoing_of out ≡ sent
     → outgoings_of old ++ (sent ∷ rest) ≡ all → outgoings_of new ++ rest ≡ all
@@ -60,16 +54,6 @@ each-more packet old new out place leaves all within pushed is so_far =
     sent-more old new out _ (to_each (place + 1 + 1) (leaves - (place + 1)) packet) all pushed is
     (ap (λ l. outgoings_of old ++ l) (sym (each-next (place + 1) (leaves - place) (leaves - (place + 1)) packet (omega (arith, within)))) ∙ so_far)
 
-pub each-start : (packet : Packet) (front : List Sent) (leaves : ℕ)
-    → front ++ to_each (0 + 1) (leaves - 0) packet ≡ front ++ to_each 1 leaves packet
-each-start packet front leaves = ap (λ n. front ++ to_each 1 n packet) (let same : leaves - 0 ≡ leaves = omega arith in same)
-
-pub each-end : (packet : Packet) (front all : List Sent) (place leaves : ℕ) → leaves ≤ place
-    → front ++ to_each (place + 1) (leaves - place) packet ≡ all → front ≡ all
-each-end packet front all place leaves over is =
-    none-left front (to_each (place + 1) (leaves - place) packet) all
-    (ap (λ n. to_each (place + 1) n packet) (let none : leaves - place ≡ 0 = omega (arith, over) in none)) is
-
 each-length : (first count : ℕ) (packet : Packet) → length (to_each first count packet) ≡ count
 each-length first zero packet = refl
 each-length first (suc count) packet = ap suc (each-length (first + 1) count packet)
@@ -87,11 +71,6 @@ numbered-more leaf number entries index entry old new out all within at pushed i
   where
     first : drop index entries ≡ entry ∷ drop (index + 1) entries
     first = rw (add-one) (drop-cons entries index entry within ∙ ap (λ e. e ∷ drop (suc index) entries) (sym at))
-
-pub numbered-end : (leaf number : ℕ) (entries : List AcceptedChange) (index : ℕ) (front all : List Sent) → length entries ≤ index
-    → front ++ numbered_from leaf number (drop index entries) ≡ all → front ≡ all
-numbered-end leaf number entries index front all over is =
-    none-left front (numbered_from leaf number (drop index entries)) all (ap (λ l. numbered_from leaf number l) (drop-all entries index over)) is
 
 -- ---- records in parts
 
@@ -115,9 +94,6 @@ pub parts-more : (hub : HubState) (leaf place count : ℕ) (old new : List Outgo
 parts-more hub leaf place count old new out all within pushed is so_far =
     sent-more old new out _ (parts_from hub leaf (place + 1 + 1) (count - (place + 1))) all pushed is
     (ap (λ l. outgoings_of old ++ l) (sym (parts-next hub leaf (place + 1) (count - place) (count - (place + 1)) (omega (arith, within)))) ∙ so_far)
-
-pub parts-start : (hub : HubState) (leaf count : ℕ) → parts_from hub leaf (0 + 1) (count - 0) ≡ parts_from hub leaf 1 count
-parts-start hub leaf count = ap (λ n. parts_from hub leaf 1 n) (let same : count - 0 ≡ count = omega arith in same)
 
 pub parts-end : (hub : HubState) (leaf place count : ℕ) (front all : List Sent) → count ≤ place
     → front ++ parts_from hub leaf (place + 1) (count - place) ≡ all → front ≡ all
@@ -285,9 +261,6 @@ pub changes-few : {V E : Type 0} (items : V → List Outgoing) (hub : HubState) 
     → IfOk result (λ v. outgoings_of (items v) ≡ changes_from hub leaf version) → IfOk result (λ v. length (items v) ≤ 255)
 changes-few items hub leaf version (Ok v) is = (goes-changes hub leaf version (items v) is).0
 changes-few items hub leaf version (Err e) is = tt
-
-pub some-changes : (leaf version : ℕ) (entries : List AcceptedChange) → 0 < length entries → 0 < length (numbered_from leaf version entries)
-some-changes leaf version entries some = omega (arith, numbered-length leaf version entries, some)
 
 pub parts-few : (hub : HubState) (leaf first count : ℕ) (packets : List Outgoing) → outgoings_of packets ≡ parts_from hub leaf first count
     → length packets ≡ count

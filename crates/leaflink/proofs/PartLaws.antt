@@ -143,7 +143,3 @@ alone-in kept version count part items answer above within new is =
 pub other-set : (set : PartSet) (version count : ℕ) → ((set.version == version) && (length set.parts == count)) ≡ false
     → (set_for (Some set) version count).parts ≡ no_places count
 other-set set version count is = ap (λ b. (if b then set else record { version = version; parts = no_places count }).parts) is
-
-pub this-set : (set : PartSet) (version count : ℕ) → ((set.version == version) && (length set.parts == count)) ≡ true
-    → set_for (Some set) version count ≡ set
-this-set set version count is = ap (λ b. if b then set else record { version = version; parts = no_places count }) is

@@ -6,7 +6,7 @@ use Rattle.storage.specs.declared.disk.DiskFault.{DiskFault}
 use Rattle.botjournal.specs.Bases.{IsGoodOut}
 use Rattle.botjournal.specs.Contents.{Contents}
 use Rattle.botjournal.specs.declared.found.Found.{Found}
-use Rattle.botjournal.specs.Ledger.{Ledger, Account, Failures, IsFound, StaysDown, settled, written_if, counted as contents_counted, Restarts as LedgerRestarts}
+use Rattle.botjournal.specs.Ledger.{Ledger, Account, Failures, StaysDown, settled, counted as contents_counted, Restarts as LedgerRestarts}
 use Rattle.protocol.specs.Bots.{counted}
 use Rattle.protocol.specs.LeafRules.{LeafState, LeafRecord, leaf_folded}
 use Rattle.protocol.specs.Journals.{leaf_meaning}

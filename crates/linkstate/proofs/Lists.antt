@@ -1,6 +1,6 @@
 -- One item more of what is made of a list item by item: what is made of the rest is what is made of the item and of those
 -- after it.
-use Rattle.std.proofs.Common.{◌≡◌, ◌≢◌, ◌<◌, ℕ, zero, suc, ◌+◌, true, List, [], ◌∷◌, ◌++◌, length, drop, get_or, slice_get, None, Some, refl, ap, sym, ◌∙◌, append_assoc, arith, add-one}
+use Rattle.std.proofs.Common.{◌≡◌, ◌<◌, ℕ, zero, suc, ◌+◌, true, List, [], ◌∷◌, ◌++◌, length, drop, get_or, slice_get, None, Some, refl, ap, sym, ◌∙◌, append_assoc, arith, add-one}
 use Rattle.std.proofs.Math.Seq.{drop-cons}
 use Rattle.std.specs.List.{AllByRecursion, list_all}
 use Rattle.userfile.specs.declared.user.User.{User}
@@ -58,12 +58,6 @@ pub ban-more : (front items all : List Record) (bans : List Ban) (place : ℕ) (
 ban-more front items all bans place ban found pushed so_far =
     ap (λ l. l ++ ban_items (drop (place + 1) bans)) pushed ∙ append_assoc front (records.Ban ban ∷ []) (ban_items (drop (place + 1) bans))
     ∙ ap (λ l. front ++ ban_items l) (sym (drop-found bans place ban found)) ∙ so_far
-
--- there is an item before the last
-pub is_found : {X : Type 0} (xs : List X) (place : ℕ) → place < length xs → slice_get xs place ≢ None
-is_found [] place within none = absurd (omega (arith, within))
-is_found (x ∷ xs) zero within none = cc
-is_found (x ∷ xs) (suc place) within none = is_found xs place (omega (arith, within)) none
 
 -- ---- records of good shape
 

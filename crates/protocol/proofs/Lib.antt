@@ -12,4 +12,3 @@ pub mod Holding
 pub mod Runs
 pub mod Moves
 pub mod Journals
-pub mod Recovery

@@ -47,12 +47,6 @@ pub item_at-within : {X : Type 0} (xs : List X) (n : ℕ) (x : X) → item_at xs
 item_at-within xs zero x e = cc
 item_at-within xs (suc i) x e = slice_get_within xs i x e
 
-pub item_at-there : {X : Type 0} (xs : List X) (n : ℕ) → 1 ≤ n → n ≤ length xs → (x : X) × (item_at xs n ≡ Some x)
-item_at-there xs zero h k = absurd (omega (arith, h))
-item_at-there [] (suc i) h k = absurd (omega (arith, k))
-item_at-there (x ∷ xs) (suc zero) h k = (x, refl)
-item_at-there (x ∷ xs) (suc (suc i)) h k = item_at-there xs (suc i) (omega arith) (omega (arith, k))
-
 pub item_at-take : {X : Type 0} (xs : List X) (n i : ℕ) (x : X) → item_at (take n xs) i ≡ Some x → item_at xs i ≡ Some x
 item_at-take xs n zero x e = cc
 item_at-take xs zero (suc i) x e = cc

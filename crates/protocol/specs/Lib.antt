@@ -12,4 +12,3 @@ pub mod Network
 pub mod Standing
 pub mod Claims
 pub mod Journals
-pub mod Recovery

@@ -1,6 +1,6 @@
 -- Lines one after another.
-use Rattle.std.proofs.Common.{◌≡◌, ℕ, zero, suc, ◌+◌, ◌-◌, ◌<◌, ◌≤◌, List, [], ◌∷◌, ◌++◌, length, drop, get_or, slice_get, refl, sym, ap, ◌∙◌, arith}
-use Rattle.std.proofs.Common.{append_assoc, append-nil, add-one}
+use Rattle.std.proofs.Common.{◌≡◌, ℕ, zero, suc, ◌+◌, ◌-◌, ◌<◌, List, [], ◌∷◌, ◌++◌, length, drop, get_or, slice_get, refl, sym, ap, ◌∙◌, arith}
+use Rattle.std.proofs.Common.{append_assoc, add-one}
 use Rattle.std.specs.List.{flat_map}
 use Rattle.std.proofs.lemmas.List.{drop_more}
 use Rattle.userfile.specs.declared.user.User.{User}
@@ -20,13 +20,6 @@ sent_lines-more packets number behind before after all within added e =
     ∙ append_assoc before _ _
     ∙ ap (λ n. before ++ sent_lines packets number n) (sym count)
     ∙ e
-
--- and at the end nothing is left
-pub sent_lines-all : (packets : List Sent) (number behind : ℕ) (text all : List ℕ) → behind ≤ number
-    → text ++ sent_lines packets number (behind - number) ≡ all → text ≡ all
-sent_lines-all packets number behind text all end e =
-    let count : behind - number ≡ 0 = omega arith in
-    sym (append-nil text) ∙ ap (λ n. text ++ sent_lines packets number n) (sym count) ∙ e
 
 -- the next lines are added
 pub lines-more : {A : Type 0} (f : A → List ℕ) (xs : List A) (place : ℕ) (x : A) (before after all : List ℕ) → place < length xs → x ≡ get_or xs place x

@@ -1,7 +1,7 @@
 -- What lines say one after another.
 use Rattle.std.proofs.Common.{◌≡◌, ℕ, suc, ◌+◌, ◌<◌, ◌≤◌, Bool, true, false, List, [], ◌∷◌, ◌++◌, length, take, drop, get_or, map, refl, sym, ap, ◌∙◌, subst}
 use Rattle.std.proofs.Common.{Option, None, Some, arith, add-one}
-use Rattle.std.proofs.lemmas.List.{take_more, take_all, map-append}
+use Rattle.std.proofs.lemmas.List.{take_more, take_all}
 use Rattle.std.specs.Borrow.{Bor}
 use Rattle.std.proofs.lemmas.List.{length-map, get_or-map}
 use Rattle.script.specs.declared.command.Command.{Command}
@@ -49,10 +49,6 @@ wrong_after-so_far (Some script) = are_told-append script.commands (Wrong ∷ []
 
 pub leaves_after-so_far : (script : Script) (n : ℕ) → begins_script (so_far (Some script) ++ Leaves n ∷ []) ≡ false
 leaves_after-so_far script n = are_told-append script.commands (Leaves n ∷ [])
-
--- one more command
-pub so_far-push : (script : Script) (command : Command) → map Told (script.commands ++ command ∷ []) ≡ map Told script.commands ++ Told command ∷ []
-so_far-push script command = map-append (λ c. Told c) script.commands (command ∷ [])
 
 -- the front of what can go on can go on
 pub are_told-front : (xs ys : List Saying) → are_told (xs ++ ys) ≡ true → are_told xs ≡ true

@@ -1,7 +1,6 @@
 use Rattle.std.proofs.Common.{◌<◌, ◌++◌, List, [], ◌∷◌, length, Result, Ok, Err, IfErr, arith}
 use Rattle.userfile.specs.declared.user.User.{User}
 use Rattle.userfile.specs.declared.ban.Ban.{Ban}
-use Rattle.usercodec.specs.declared.records.Record.{Record}
 use Rattle.protocol.specs.Snapshots.{user_items, ban_items}
 use Rattle.linkstate.proofs.records.copies_in.Goals as goal
 
