@@ -48,13 +48,13 @@ module _ (code_of : List ℕ → Call → Code) (may : List ℕ → Call → Lis
 
   -- the seconds of a reading, of which the first calls were made
   pub cut_short-seconds : (names : List (List ℕ)) (old new : Bot) (now : ℕ) (occasions : List Occasion) (made : Made) (calls : List MadeCall) (report : Report)
-      → AreOccasions (seconds_of old.config.offset old.timers (seconds_run old.clock now)) occasions
+      → AreOccasions (seconds_of old.config.zone old.timers (seconds_run old.clock now)) occasions
       → IsFrontMade code_of may made (told_of (bot_setting code_of names old) occasions) → calls ≡ made.calls → new ≡ old → report ≡ cut_short calls
       → TakesSeconds code_of may names old now report new
   cut_short-seconds names old new now occasions made calls report all front same_calls same reported = (
     occasions,
-    subst (λ (r : Report). AreTaken r.end (seconds_of old.config.offset old.timers (seconds_run old.clock now)) occasions) (sym reported)
-        (AreFirst-all (seconds_of old.config.offset old.timers (seconds_run old.clock now)) occasions all),
+    subst (λ (r : Report). AreTaken r.end (seconds_of old.config.zone old.timers (seconds_run old.clock now)) occasions) (sym reported)
+        (AreFirst-all (seconds_of old.config.zone old.timers (seconds_run old.clock now)) occasions all),
     cut_short-takes (told_of (bot_setting code_of names old) occasions) old new (run_to old now) None (finish_reading (run_to old now) now) made calls report
         front same_calls same reported,
   )

@@ -1,5 +1,5 @@
 -- What the seconds of a reading bring, one after another.
-use Rattle.std.proofs.Common.{◌≡◌, ◌∙◌, ℕ, zero, suc, ◌+◌, ◌-◌, ◌<◌, ◌≤◌, ℤ, max, false, List, [], ◌∷◌, ◌++◌, map, Option, Some, None, arith, refl, ap, sym, subst}
+use Rattle.std.proofs.Common.{◌≡◌, ◌∙◌, ℕ, zero, suc, ◌+◌, ◌-◌, ◌<◌, ◌≤◌, max, false, List, [], ◌∷◌, ◌++◌, map, Option, Some, None, arith, refl, ap, sym, subst}
 use Rattle.std.proofs.Common.{append_assoc}
 use Rattle.std.proofs.Math.Nat.{le-max_left, max-le, max-eq_right}
 use Rattle.std.proofs.lemmas.Bool.Decides.{nat_tests}
@@ -7,6 +7,7 @@ use Rattle.std.specs.List.{range_with_len}
 use Rattle.bytetext.specs.declared.moment.TheConstants.{MOMENTS_END}
 use Rattle.bottimers.specs.Held.{Held, IsAbove, passed}
 use Rattle.bottimers.specs.Seconds.{seconds_run, last_after}
+use Rattle.bottimers.specs.Zones.{TzText}
 use Rattle.botcalls.specs.declared.occasion.Occasion.{Occasion}
 use Rattle.botcalls.specs.declared.occasion.Occasion.TheVariants.{Due as due_occasion}
 use Rattle.botcore.specs.Happenings.{Happening, second_of, seconds_of, passed_all}
@@ -40,25 +41,25 @@ due_occasions (c ∷ cs) = (refl, due_occasions cs)
 -- ---- seconds
 
 -- some seconds have run, from first timers on, and the rest are left
-pub record IsRunning (offset : ℤ) (first : Held) (all : List ℕ) (timers : Held) (rest : List ℕ) (occasions : List Occasion) : Type 0 where
+pub record IsRunning (zone : TzText) (first : Held) (all : List ℕ) (timers : Held) (rest : List ℕ) (occasions : List Occasion) : Type 0 where
   pub done : List Happening
   pub shown : AreOccasions done occasions
-  pub brings : done ++ seconds_of offset timers rest ≡ seconds_of offset first all
+  pub brings : done ++ seconds_of zone timers rest ≡ seconds_of zone first all
   pub passes : passed_all timers rest ≡ passed_all first all
   pub rises : Rise timers.last rest
 
 -- one more runs
-pub IsRunning-next : (offset : ℤ) (first : Held) (all : List ℕ) (timers new : Held) (rest behind : List ℕ) (t : ℕ) (occasions more after : List Occasion)
-    → IsRunning offset first all timers rest occasions → rest ≡ t ∷ behind → new ≡ passed t timers
-    → AreOccasions (second_of offset t timers) more → after ≡ occasions ++ more → IsRunning offset first all new behind after
-IsRunning-next offset first all timers new rest behind t occasions more after is next passes shown appended =
+pub IsRunning-next : (zone : TzText) (first : Held) (all : List ℕ) (timers new : Held) (rest behind : List ℕ) (t : ℕ) (occasions more after : List Occasion)
+    → IsRunning zone first all timers rest occasions → rest ≡ t ∷ behind → new ≡ passed t timers
+    → AreOccasions (second_of zone t timers) more → after ≡ occasions ++ more → IsRunning zone first all new behind after
+IsRunning-next zone first all timers new rest behind t occasions more after is next passes shown appended =
     let rises : Rise timers.last (t ∷ behind) = subst (Rise timers.last) next is.rises in record {
-      done = is.done ++ second_of offset t timers;
-      shown = subst (AreOccasions (is.done ++ second_of offset t timers)) (sym appended)
-          (AreOccasions-append is.done (second_of offset t timers) occasions more is.shown shown);
-      brings = append_assoc is.done (second_of offset t timers) (seconds_of offset new behind)
-          ∙ ap (λ (h : Held). is.done ++ (second_of offset t timers ++ seconds_of offset h behind)) passes
-          ∙ ap (λ (ts : List ℕ). is.done ++ seconds_of offset timers ts) (sym next) ∙ is.brings;
+      done = is.done ++ second_of zone t timers;
+      shown = subst (AreOccasions (is.done ++ second_of zone t timers)) (sym appended)
+          (AreOccasions-append is.done (second_of zone t timers) occasions more is.shown shown);
+      brings = append_assoc is.done (second_of zone t timers) (seconds_of zone new behind)
+          ∙ ap (λ (h : Held). is.done ++ (second_of zone t timers ++ seconds_of zone h behind)) passes
+          ∙ ap (λ (ts : List ℕ). is.done ++ seconds_of zone timers ts) (sym next) ∙ is.brings;
       passes = ap (λ (h : Held). passed_all h behind) passes ∙ ap (passed_all timers) (sym next) ∙ is.passes;
       rises = subst (λ (h : Held). Rise h.last behind) (sym passes) rises.2;
     }

@@ -2,7 +2,6 @@
 use Rattle.std.specs.Prelude.{◌≡◌, ℕ, ◌≤◌, ◌==◌, nat_lt, nat_le, Bool, true, not, ◌&&◌, List, length, slice_index, codes}
 use Rattle.std.specs.List.{list_all}
 use Rattle.rfccase.specs.Channels.{is_channel_name}
-use Rattle.bottimers.specs.Civil.{IsOffset}
 use Rattle.linkcalls.specs.declared.TheConstants.{MAX_LEAVES}
 use Rattle.bytejournal.specs.Faults.{code_of as journal_code}
 use Rattle.botcore.specs.declared.config.Config.{Config}
@@ -27,6 +26,5 @@ is_nick nick = nat_le 1 (length nick) && (nat_le (length nick) MAX_NICK && (not 
 pub record IsGood (config : Config) : Type 0 where
   pub few : config.leaves ≤ MAX_LEAVES
   pub numbered : config.number ≤ config.leaves
-  pub offset : IsOffset config.offset
   pub nick : is_nick config.nick ≡ true
   pub channels : list_all is_channel_name config.channels ≡ true

@@ -1,5 +1,5 @@
 -- What calls procs, as an event makes it happen at a bot.
-use Rattle.std.specs.Prelude.{ℕ, ◌/◌, ◌%◌, ◌==◌, ℤ, pos, ◌+ℤ◌, List, [], ◌∷◌, ◌++◌, map, length, if◌then◌else◌}
+use Rattle.std.specs.Prelude.{ℕ, ◌%◌, ◌==◌, ℤ, List, [], ◌∷◌, ◌++◌, map, length, if◌then◌else◌}
 use Rattle.std.specs.Prelude.{Option, Some, None, Result, Ok, Err}
 use Rattle.ircline.specs.declared.line.Line.TheVariants.{Message as a_message}
 use Rattle.chanstate.specs.declared.event.Event.{Event as MessageEvent}
@@ -7,6 +7,7 @@ use Rattle.chanstate.specs.Events.{events_of}
 use Rattle.chanstate.specs.Speech.{first_word}
 use Rattle.bottimers.specs.Held.{Held, calls_at, passed}
 use Rattle.bottimers.specs.Seconds.{seconds_run}
+use Rattle.bottimers.specs.Zones.{TzText, minute_at}
 use Rattle.protocol.specs.Notes.{Note as Meaning, LinkFault as Meant}
 use Rattle.protocol.specs.Notes.Note.{Text as text_note}
 use Rattle.protocol.specs.Bots.{Works}
@@ -51,18 +52,19 @@ said_if (Some saying) = said saying
 
 -- ---- the clock
 
--- where the clock is so many minutes ahead of UTC, a second that begins a minute is a time event and then a cron event
-abbrev pub minute_of : ℤ → ℕ → List Happening
-minute_of offset t = if t % 60 == 0 then Time (pos (t / 60) +ℤ offset) ∷ Cron (pos (t / 60) +ℤ offset) ∷ [] else []
+-- A second that begins a minute is a time event and then a cron event of the minute that the clock shows then: one that
+-- the zone's clock skips has none, and one that it shows twice has two of each.
+abbrev pub minute_of : TzText → ℕ → List Happening
+minute_of zone t = if t % 60 == 0 then Time (minute_at zone t) ∷ Cron (minute_at zone t) ∷ [] else []
 
 -- what a second brings: the timers that are due, and its minute where it begins one
-abbrev pub second_of : ℤ → ℕ → Held → List Happening
-second_of offset t timers = map (λ c. Due c.1) (calls_at t timers) ++ minute_of offset t
+abbrev pub second_of : TzText → ℕ → Held → List Happening
+second_of zone t timers = map (λ c. Due c.1) (calls_at t timers) ++ minute_of zone t
 
 -- what seconds bring, one after another
-abbrev pub seconds_of : ℤ → Held → List ℕ → List Happening
-seconds_of offset timers [] = []
-seconds_of offset timers (t ∷ ts) = second_of offset t timers ++ seconds_of offset (passed t timers) ts
+abbrev pub seconds_of : TzText → Held → List ℕ → List Happening
+seconds_of zone timers [] = []
+seconds_of zone timers (t ∷ ts) = second_of zone t timers ++ seconds_of zone (passed t timers) ts
 
 -- the timers after these seconds
 abbrev pub passed_all : Held → List ℕ → Held
@@ -75,5 +77,5 @@ passed_all timers (t ∷ ts) = passed_all (passed t timers) ts
 abbrev pub happenings_of : Bot → Event → List Happening
 happenings_of bot (Line (a_message message)) = map Heard (events_of message bot.channels)
 happenings_of bot (Receive packet) = said_if (saying_of (took bot.link packet Works).told)
-happenings_of bot (Clock now) = seconds_of bot.config.offset bot.timers (seconds_run bot.clock now)
+happenings_of bot (Clock now) = seconds_of bot.config.zone bot.timers (seconds_run bot.clock now)
 happenings_of bot other = []

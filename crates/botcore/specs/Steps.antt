@@ -214,7 +214,7 @@ abbrev pub TakesSeconds : (List ℕ → Call → Code) → (List ℕ → Call �
     → Bot → ℕ → Report → Bot → Type 0
 TakesSeconds code_of may names old now report new =
     (occasions : List Occasion)
-    × AreTaken report.end (seconds_of old.config.offset old.timers (seconds_run old.clock now)) occasions
+    × AreTaken report.end (seconds_of old.config.zone old.timers (seconds_run old.clock now)) occasions
     × TakesCalls report.end code_of may (told_of (bot_setting code_of names old) occasions) old (run_to old now)
     None (finish_reading (run_to old now) now) report new
 

@@ -58,13 +58,12 @@ impl<D: Disk> Model for Bot<D> {
 
     ghost use Rattle.botcore.specs.Rising.{IsReached};
     ghost use Rattle.std.specs.Prelude.{◌≡◌};
-    ghost use Rattle.bottimers.specs.Civil.{IsOffset};
     ghost use Rattle.outqueue.specs.Sending.{no_room};
     ghost use Rattle.chanstate.specs.Views.{connected};
 
-    // No timer has seen a second that the clock has not, the clock has an offset of less than a day, no room is kept for
-    // lines to come, and what it goes back to when it leaves all channels is under its configuration's nick.
-    ghost invariant = { λ b. IsReached b.timers.last b.clock × IsOffset b.config.offset × (b.queues.room ≡ no_room)
+    // No timer has seen a second that the clock has not, no room is kept for lines to come, and what it goes back to when
+    // it leaves all channels is under its configuration's nick.
+    ghost invariant = { λ b. IsReached b.timers.last b.clock × (b.queues.room ≡ no_room)
         × (b.channels.first ≡ connected b.config.nick) };
 }
 

@@ -7,7 +7,7 @@ ghost use Rattle.botcore.specs.Configs.{IsGood, is_nick, is_nick_byte};
 
 use crate::fault::BotFault;
 use crate::limits::MAX_NICK;
-use bottimers::MAX_OFFSET;
+use bottimers::Zone;
 use bytetext::{NoMemory, Text, Texts, TryCopy};
 use linkcalls::MAX_LEAVES;
 use rfccase::is_channel_name;
@@ -26,8 +26,8 @@ pub struct Config {
     pub channels: Texts,
     /// Whether a text for which a `msgm` or `pubm` proc was called is no event for `msg` or `pub` binds.
     pub exclusive: bool,
-    /// How many whole minutes its clock is ahead of UTC, -1,439 to 1,439.
-    pub offset: i32,
+    /// How far its clock is ahead of UTC.
+    pub zone: Zone,
 }
 
 impl Config {
@@ -38,9 +38,6 @@ impl Config {
         ensures fault { IfSome result (λ fault. fault ≡ bad_config) }
     {
         if self.leaves > MAX_LEAVES || self.number > self.leaves {
-            return Some(BotFault::BadConfig);
-        }
-        if self.offset < -MAX_OFFSET || self.offset > MAX_OFFSET {
             return Some(BotFault::BadConfig);
         }
         if !is_nick(self.nick.as_bytes()) || !are_channels(self.channels.as_slice()) {
@@ -60,7 +57,7 @@ impl TryCopy for Config {
             nick,
             channels,
             exclusive: self.exclusive,
-            offset: self.offset,
+            zone: self.zone.copy(alloc)?,
         })
     }
 }

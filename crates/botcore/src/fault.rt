@@ -19,7 +19,7 @@ use thiserror::Error;
 #[derive(Clone, Copy, Debug, PartialEq, Eq, Error)]
 pub enum BotFault {
     /// G1: the configuration breaks one of the rules that [`Config`](crate::Config) states.
-    #[error("mend the configuration: number, leaves, nick, channels or offset is out of its range")]
+    #[error("mend the configuration: number, leaves, nick or a channel is out of its range")]
     BadConfig,
     /// J1 where a disk failed, J2 where the disks hold no journal, or not this bot's.
     #[error("{0}")]

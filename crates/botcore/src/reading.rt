@@ -33,7 +33,7 @@ impl<D: Disk> Bot<D> {
     ghost use Rattle.botcore.specs.Happenings.{seconds_of};
     ghost use Rattle.botcore.specs.Lines.{acting_of, acting_after, finish_reading};
     ghost use Rattle.botcore.specs.Progress.{HasMore};
-    ghost use Rattle.outqueue.specs.Sending.{sent, waiting, after as after_sending};
+    ghost use Rattle.outqueue.specs.Sending.{sent, after as after_sending};
     ghost use Rattle.botcore.specs.Shown.{AreOccasions};
     ghost use Rattle.botcore.specs.Steps.{TakesReading, TakesSeconds, is_stale, run_to};
 
@@ -91,7 +91,7 @@ impl<D: Disk> Bot<D> {
         ensures timers { IfOk result (λ ran. ran.timers ≡ (run_to self.now now).timers) }
         ensures reading { IfOk result (λ ran. IsReached ran.timers.last ran.clock) }
         ensures occasions { IfOk result (λ ran. AreOccasions
-            (seconds_of self.now.config.offset self.now.timers (seconds_run self.now.clock now)) ran.occasions.items) }
+            (seconds_of self.now.config.zone self.now.timers (seconds_run self.now.clock now)) ran.occasions.items) }
     {
         let mut clock = self.clock.copy(alloc)?;
         let mut timers = self.timers.copy(alloc)?;
@@ -196,13 +196,13 @@ impl<D: Disk> Bot<D> {
         })
     }
 
-    // Sends what may go. With nothing waiting it takes no memory.
+    // Sends what may go. Where no line goes it takes no memory.
     fn send(&mut self, alloc: Global, now: u64) -> Result<Texts, NoMemory>
         requires { now < end_of_moments }
         ensures lines { IfOk result (λ lines. lines ≡ sent self.old.queues now) }
         ensures ok { OnOk result (self.new ≡ record self.old { queues = after_sending self.old.queues now }) }
         ensures err { OnErr result (self.new ≡ self.old) }
-        ensures nothing_waits { waiting self.old.queues ≡ [] → IsOk result }
+        ensures nothing_goes { sent self.old.queues now ≡ [] → IsOk result }
     {
         self.queues.drain(alloc, now)
     }

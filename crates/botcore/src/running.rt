@@ -1,7 +1,6 @@
 // What the seconds of a reading bring.
 ghost use Rattle.std.specs.Prelude.{◌≡◌, ◌<◌, map, IfOk, OnOk};
 ghost use Rattle.bytetext.specs.declared.moment.TheConstants.{MOMENTS_END};
-ghost use Rattle.bottimers.specs.Civil.{IsOffset};
 ghost use Rattle.bottimers.specs.Held.{IsAbove, calls_at, passed};
 ghost use Rattle.botcore.specs.Happenings.{minute_of, second_of, seconds_of, passed_all};
 ghost use Rattle.botcalls.specs.declared.occasion.Occasion.TheVariants.{Due};
@@ -10,7 +9,7 @@ ghost use Rattle.botcore.specs.Rising.{Rise};
 
 use crate::config::Config;
 use botcalls::Occasion;
-use bottimers::{Timers, civil};
+use bottimers::{Timers, Zone, civil};
 use bytetext::NoMemory;
 use std::alloc::Global;
 
@@ -22,8 +21,7 @@ pub(crate) fn run_seconds(
     seconds: &[u64],
 ) -> Result<Vec<Occasion>, NoMemory>
     requires rise { Rise timers.old.last seconds.now }
-    requires offset { IsOffset config.now.offset }
-    ensures occasions { IfOk result (λ occasions. AreOccasions (seconds_of config.now.offset timers.old seconds.now) occasions.items) }
+    ensures occasions { IfOk result (λ occasions. AreOccasions (seconds_of config.now.zone timers.old seconds.now) occasions.items) }
     ensures passed { OnOk result (timers.new ≡ passed_all timers.old seconds.now) }
 {
     let mut occasions = Vec::new(alloc);
@@ -45,12 +43,11 @@ fn run_second(
 ) -> Result<Vec<Occasion>, NoMemory>
     requires above { IsAbove timers.old.last second }
     requires moment { second < MOMENTS_END }
-    requires offset { IsOffset config.now.offset }
-    ensures occasions { IfOk result (λ occasions. AreOccasions (second_of config.now.offset second timers.old) occasions.items) }
+    ensures occasions { IfOk result (λ occasions. AreOccasions (second_of config.now.zone second timers.old) occasions.items) }
     ensures passed { OnOk result (timers.new ≡ passed second timers.old) }
 {
     let mut occasions = due_of(alloc, timers, second)?;
-    let mut more = minute_of(alloc, config.offset, second)?;
+    let mut more = minute_of(alloc, &config.zone, second)?;
     occasions.append(&mut more)?;
     Ok(occasions)
 }
@@ -71,14 +68,13 @@ fn due_of(alloc: Global, timers: &mut Timers, second: u64) -> Result<Vec<Occasio
 }
 
 // The minute that a second begins, if it begins one.
-fn minute_of(alloc: Global, offset: i32, second: u64) -> Result<Vec<Occasion>, NoMemory>
+fn minute_of(alloc: Global, zone: &Zone, second: u64) -> Result<Vec<Occasion>, NoMemory>
     requires moment { second < MOMENTS_END }
-    requires offset { IsOffset offset }
-    ensures { IfOk result (λ occasions. AreOccasions (minute_of offset second) occasions.items) }
+    ensures { IfOk result (λ occasions. AreOccasions (minute_of zone.now second) occasions.items) }
 {
     let mut occasions = Vec::new(alloc);
     if second % 60 == 0 {
-        let minute = civil(second, offset).unwrap();
+        let minute = civil(second, zone).unwrap();
         occasions.push(Occasion::Time(minute))?;
         occasions.push(Occasion::Cron(minute))?;
     }

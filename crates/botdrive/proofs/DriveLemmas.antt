@@ -1,149 +1,203 @@
 -- What is read piece by piece, and what a whole drive makes of it.
-use Rattle.std.proofs.Common.{◌≡◌, ◌++◌, ℕ, ◌+◌, ◌≤◌, Bool, true, false, List, [], ◌∷◌, length-append, Option, Some, None, Ok, Err, sym, subst, arith, inl, inr}
-use Rattle.std.proofs.KnownBytes.{Consumes-nil, Consumes-trans}
-use Rattle.std.specs.Io.KnownBytes.{Consumes}
+use Rattle.std.proofs.Common.{◌≡◌, ◌++◌, ℕ, ◌+◌, ◌<◌, ◌≤◌, Bool, true, false, List, [], ◌∷◌, take, append-nil, refl, sym, subst, arith, inl, inr}
+use Rattle.streams.specs.State.{Source, Sink}
+use Rattle.streams.specs.Transfers.{Reads}
+use Rattle.streams.proofs.ReadLemmas.{Reads-none, Reads-more, ReadsUntil-end, ReadsUntil-stall, ReadsUntil-fault}
 use Rattle.procstore.specs.declared.action.Action.{Action}
 use Rattle.procstore.specs.declared.call.Call.{Call}
 use Rattle.procstore.specs.declared.reply.Code.{Code}
+use Rattle.linkcalls.specs.declared.answer.Outgoing.{Outgoing}
+use Rattle.botcore.specs.Bots.{Bot}
+use Rattle.botcore.specs.declared.event.Event.TheVariants.{Clock}
 use Rattle.botdrive.specs.declared.driving.DriveEnd.{DriveEnd}
 use Rattle.botdrive.specs.declared.driving.DriveEnd.TheVariants.{Done, Read, Write, NoMemory}
-use Rattle.botcore.specs.declared.event.Event.TheVariants.{Clock}
-use Rattle.botdrive.specs.Driving.{Course, Makes, Hears, HearsPiece, HearsAll, HearsSome, HasRead, HasNoMore, HasEnough, GivesPiece, TakesAll, TakesSome, line_events}
+use Rattle.botdrive.specs.Driving.{Course, Makes, Hears, HearsPiece, HearsNoPiece, HearsAll, HearsSome, ReadsEnough, ReadsSome, TakesAll, TakesFirst, TakesSome, DrivesAll, DrivesTo, course_at, line_events, all_events}
 use Rattle.botdrive.proofs.DrivingLemmas.{Makes-then, MakesFirst-more, Hears-none, Hears-then, HearsFirst-then}
-
--- ---- one piece
-
-pub HearsPiece-none : (stalls : Bool) (code_of : List ℕ → Call → Code) (may : List ℕ → Call → List Action → Type 0) (names : List (List ℕ))
-    (old : Course) (held buffer : List ℕ) (before left : Option (List ℕ)) (piece : Option ℕ) → piece ≡ None
-    → GivesPiece stalls before left buffer (Ok piece) → HearsPiece stalls code_of may names old held before false old held left
-HearsPiece-none stalls code_of may names old held buffer before left None is given =
-    record { bytes = []; read = given.0; hears = Hears-none code_of may names old held; some = λ is. cc; none = λ is. given.1 }
-HearsPiece-none stalls code_of may names old held buffer before left (Some n) is given = cc
-
-pub HearsSome-read : (stalls : Bool) (code_of : List ℕ → Call → Code) (may : List ℕ → Call → List Action → Type 0) (names : List (List ℕ))
-    (old : Course) (held buffer : List ℕ) (before left : Option (List ℕ)) (end : DriveEnd)
-    → GivesPiece stalls before left buffer (Err end) → HearsSome end stalls code_of may names old held before old held left
-HearsSome-read stalls code_of may names old held buffer before left end given =
-    subst (λ x. HearsSome x stalls code_of may names old held before old held left) (sym given.0)
-    (given.1, ([], given.2, Hears-none code_of may names old held))
 
 -- ---- piece after piece
 
 -- so many pieces are read and taken in
-pub record HasHeard (stalls : Bool) (count : ℕ) (code_of : List ℕ → Call → Code) (may : List ℕ → Call → List Action → Type 0)
-    (names : List (List ℕ)) (old : Course) (held : List ℕ) (before : Option (List ℕ)) (new : Course) (after : List ℕ)
-    (left : Option (List ℕ)) : Type 0 where
+pub record HasHeard (count : ℕ) (code_of : List ℕ → Call → Code) (may : List ℕ → Call → List Action → Type 0)
+    (names : List (List ℕ)) (old : Course) (held : List ℕ) (before : Source) (new : Course) (after : List ℕ)
+    (left : Source) : Type 0 where
   pub bytes : List ℕ
-  pub read : Consumes before left bytes
+  pub few : count ≤ 1000
+  pub read : Reads count before bytes left
   pub hears : Hears code_of may names old held bytes new after
-  pub some : HasRead stalls count bytes
 
-HasRead-none : (stalls : Bool) → HasRead stalls 0 []
-HasRead-none true = tt
-HasRead-none false = omega arith
+pub HasHeard-none : (code_of : List ℕ → Call → Code) (may : List ℕ → Call → List Action → Type 0) (names : List (List ℕ))
+    (old : Course) (held : List ℕ) (before : Source) → HasHeard 0 code_of may names old held before old held before
+HasHeard-none code_of may names old held before =
+    record { bytes = []; few = omega arith; read = Reads-none before; hears = Hears-none code_of may names old held }
 
-HasRead-more : (stalls : Bool) (count : ℕ) (bytes more : List ℕ) → HasRead stalls count bytes → HasRead stalls 1 more
-    → HasRead stalls (count + 1) (bytes ++ more)
-HasRead-more true count bytes more p q = tt
-HasRead-more false count bytes more p q = omega (arith, length-append bytes more)
-
-pub HasHeard-none : (stalls : Bool) (code_of : List ℕ → Call → Code) (may : List ℕ → Call → List Action → Type 0) (names : List (List ℕ))
-    (old : Course) (held : List ℕ) (before : Option (List ℕ)) → HasHeard stalls 0 code_of may names old held before old held before
-HasHeard-none stalls code_of may names old held before =
-    record { bytes = []; read = Consumes-nil before; hears = Hears-none code_of may names old held; some = HasRead-none stalls }
-
-pub HasHeard-more : (stalls : Bool) (count : ℕ) (code_of : List ℕ → Call → Code) (may : List ℕ → Call → List Action → Type 0) (names : List (List ℕ))
-    (old mid new : Course) (held between after : List ℕ) (before middle left : Option (List ℕ)) (more : Bool) → more ≡ true
-    → HasHeard stalls count code_of may names old held before mid between middle
-    → HearsPiece stalls code_of may names mid between middle more new after left
-    → HasHeard stalls (count + 1) code_of may names old held before new after left
-HasHeard-more stalls count code_of may names old mid new held between after before middle left more is p q = record {
-  bytes = p.bytes ++ q.bytes;
-  read = Consumes-trans before middle left p.bytes q.bytes p.read q.read;
-  hears = Hears-then code_of may names old mid new held between after p.bytes q.bytes p.hears q.hears;
-  some = HasRead-more stalls count p.bytes q.bytes p.some (q.some is);
+pub HasHeard-more : (count : ℕ) (code_of : List ℕ → Call → Code) (may : List ℕ → Call → List Action → Type 0) (names : List (List ℕ))
+    (old mid new : Course) (held between after : List ℕ) (before middle left : Source) (more : Bool) → more ≡ true → count < 1000
+    → HasHeard count code_of may names old held before mid between middle
+    → HearsPiece code_of may names mid between middle more new after left
+    → HasHeard (count + 1) code_of may names old held before new after left
+HasHeard-more count code_of may names old mid new held between after before middle left false is within p q = cc
+HasHeard-more count code_of may names old mid new held between after before middle left true is within p (n, buffer, gives, hears) = record {
+  bytes = p.bytes ++ take n buffer;
+  few = omega (arith, within);
+  read = Reads-more count n before middle left p.bytes buffer p.read gives;
+  hears = Hears-then code_of may names old mid new held between after p.bytes (take n buffer) p.hears hears;
 }
 
-no-more : (stalls : Bool) (left : Option (List ℕ)) (bytes : List ℕ) → HasNoMore stalls left → HasEnough stalls left bytes
-no-more true left bytes none = tt
-no-more false left bytes none = inl none
+-- what was heard stays where nothing more is taken in
+Hears-same : (code_of : List ℕ → Call → Code) (may : List ℕ → Call → List Action → Type 0) (names : List (List ℕ))
+    (old mid new : Course) (held between after bytes : List ℕ) → new ≡ mid → after ≡ between
+    → Hears code_of may names old held bytes mid between → Hears code_of may names old held bytes new after
+Hears-same code_of may names old mid new held between after bytes same kept hears =
+    subst (λ (x : Course). Hears code_of may names old held bytes x after) (sym same)
+    (subst (λ (x : List ℕ). Hears code_of may names old held bytes mid x) (sym kept) hears)
 
-full : (stalls : Bool) (left : Option (List ℕ)) (count : ℕ) (bytes : List ℕ) → 1000 ≤ count → HasRead stalls count bytes
-    → HasEnough stalls left bytes
-full true left count bytes enough some = tt
-full false left count bytes enough some = inr (omega arith)
-
--- the next read gives nothing
-pub HearsAll-none : (stalls : Bool) (count : ℕ) (code_of : List ℕ → Call → Code) (may : List ℕ → Call → List Action → Type 0) (names : List (List ℕ))
-    (old mid new : Course) (held between after : List ℕ) (before middle left : Option (List ℕ)) (more : Bool) → more ≡ false
-    → HasHeard stalls count code_of may names old held before mid between middle
-    → HearsPiece stalls code_of may names mid between middle more new after left
-    → HearsAll stalls code_of may names old held before new after left
-HearsAll-none stalls count code_of may names old mid new held between after before middle left more is p q = record {
-  bytes = p.bytes ++ q.bytes;
-  read = Consumes-trans before middle left p.bytes q.bytes p.read q.read;
-  hears = Hears-then code_of may names old mid new held between after p.bytes q.bytes p.hears q.hears;
-  enough = no-more stalls left (p.bytes ++ q.bytes) (q.none is);
+-- the next answer has no bytes
+pub HearsAll-none : (count : ℕ) (code_of : List ℕ → Call → Code) (may : List ℕ → Call → List Action → Type 0) (names : List (List ℕ))
+    (old mid new : Course) (held between after : List ℕ) (before middle left : Source) (more : Bool) → more ≡ false → count < 1000
+    → HasHeard count code_of may names old held before mid between middle
+    → HearsPiece code_of may names mid between middle more new after left
+    → HearsAll code_of may names old held before new after left
+HearsAll-none count code_of may names old mid new held between after before middle left true is within p q = cc
+HearsAll-none count code_of may names old mid new held between after before middle left false is within p (buffer, inl gives, same, kept) = record {
+  bytes = p.bytes;
+  read = inl (ReadsUntil-end count 1000 before middle left p.bytes buffer within p.read gives);
+  hears = Hears-same code_of may names old mid new held between after p.bytes same kept p.hears;
+}
+HearsAll-none count code_of may names old mid new held between after before middle left false is within p (buffer, inr gives, same, kept) = record {
+  bytes = p.bytes;
+  read = inr (inl (ReadsUntil-stall count 1000 before middle left p.bytes buffer within p.read gives));
+  hears = Hears-same code_of may names old mid new held between after p.bytes same kept p.hears;
 }
 
--- all reads are made
-pub HearsAll-full : (stalls : Bool) (count : ℕ) (code_of : List ℕ → Call → Code) (may : List ℕ → Call → List Action → Type 0) (names : List (List ℕ))
-    (old new : Course) (held after : List ℕ) (before left : Option (List ℕ))
-    → 1000 ≤ count → HasHeard stalls count code_of may names old held before new after left
-    → HearsAll stalls code_of may names old held before new after left
-HearsAll-full stalls count code_of may names old new held after before left enough p =
-    record { bytes = p.bytes; read = p.read; hears = p.hears; enough = full stalls left count p.bytes enough p.some }
+-- all is asked that may be
+pub HearsAll-full : (count : ℕ) (code_of : List ℕ → Call → Code) (may : List ℕ → Call → List Action → Type 0) (names : List (List ℕ))
+    (old new : Course) (held after : List ℕ) (before left : Source)
+    → 1000 ≤ count → HasHeard count code_of may names old held before new after left
+    → HearsAll code_of may names old held before new after left
+HearsAll-full count code_of may names old new held after before left enough p =
+    let all : count ≡ 1000 = omega (arith, enough, p.few) in
+    record { bytes = p.bytes; read = inr (inr (subst (λ k. Reads k before p.bytes left) all p.read)); hears = p.hears }
 
--- the next read fails, or memory runs out
-pub HearsSome-then : (stalls : Bool) (count : ℕ) (code_of : List ℕ → Call → Code) (may : List ℕ → Call → List Action → Type 0) (names : List (List ℕ))
-    (old mid new : Course) (held between after : List ℕ) (before middle left : Option (List ℕ)) (end : DriveEnd)
-    → HasHeard stalls count code_of may names old held before mid between middle
-    → HearsSome end stalls code_of may names mid between middle new after left
-    → HearsSome end stalls code_of may names old held before new after left
-HearsSome-then stalls count code_of may names old mid new held between after before middle left Done p q = absurd q
-HearsSome-then stalls count code_of may names old mid new held between after before middle left Read p (fails, (more, read, hears)) = (
-  fails,
-  (
-    p.bytes ++ more,
-    Consumes-trans before middle left p.bytes more p.read read,
-    Hears-then code_of may names old mid new held between after p.bytes more p.hears hears,
-  ),
+-- the stream fails, or memory runs out
+pub HearsSome-then : (count : ℕ) (code_of : List ℕ → Call → Code) (may : List ℕ → Call → List Action → Type 0) (names : List (List ℕ))
+    (old mid new : Course) (held between after : List ℕ) (before middle left : Source) (end : DriveEnd) → count < 1000
+    → HasHeard count code_of may names old held before mid between middle
+    → HearsNoPiece end code_of may names mid between middle new after left
+    → HearsSome end code_of may names old held before new after left
+HearsSome-then count code_of may names old mid new held between after before middle left Done within p q = absurd q
+HearsSome-then count code_of may names old mid new held between after before middle left Read within p (buffer, gives, same, kept) = (
+  p.bytes,
+  ReadsUntil-fault count 1000 before middle left p.bytes buffer within p.read gives,
+  Hears-same code_of may names old mid new held between after p.bytes same kept p.hears,
 )
-HearsSome-then stalls count code_of may names old mid new held between after before middle left Write p q = absurd q
-HearsSome-then stalls count code_of may names old mid new held between after before middle left NoMemory p (more, read, hears) = (
-  p.bytes ++ more,
-  Consumes-trans before middle left p.bytes more p.read read,
-  HearsFirst-then code_of may names old mid new held between p.bytes more p.hears hears,
+HearsSome-then count code_of may names old mid new held between after before middle left Write within p q = absurd q
+HearsSome-then count code_of may names old mid new held between after before middle left NoMemory within p (n, buffer, gives, first) = (
+  p.bytes ++ take n buffer,
+  inr (count + 1, omega (arith, within), Reads-more count n before middle left p.bytes buffer p.read gives),
+  HearsFirst-then code_of may names old mid new held between p.bytes (take n buffer) p.hears first,
 )
 
 -- ---- and then the clock
 
-pub TakesAll-of : (stalls : Bool) (code_of : List ℕ → Call → Code) (may : List ℕ → Call → List Action → Type 0) (names : List (List ℕ)) (now : ℕ)
-    (old mid new : Course) (held after : List ℕ) (before left : Option (List ℕ))
-    → HearsAll stalls code_of may names old held before mid after left → Makes code_of may names mid (Clock now ∷ []) new
-    → TakesAll stalls code_of may names now old held before new after left
-TakesAll-of stalls code_of may names now old mid new held after before left p q = record {
+pub TakesAll-of : (code_of : List ℕ → Call → Code) (may : List ℕ → Call → List Action → Type 0) (names : List (List ℕ)) (now : ℕ)
+    (old mid new : Course) (held after : List ℕ) (before left : Source)
+    → HearsAll code_of may names old held before mid after left → Makes code_of may names mid (Clock now ∷ []) new
+    → TakesAll code_of may names now old held before new after left
+TakesAll-of code_of may names now old mid new held after before left p q = record {
   bytes = p.bytes;
   lines = p.hears.lines;
   read = p.read;
-  enough = p.enough;
   ends = p.hears.ends;
   makes = Makes-then code_of may names old mid new (line_events p.hears.lines) (Clock now ∷ []) p.hears.makes q;
 }
 
-pub TakesSome-of : (stalls : Bool) (code_of : List ℕ → Call → Code) (may : List ℕ → Call → List Action → Type 0) (names : List (List ℕ)) (now : ℕ)
-    (old new : Course) (held after : List ℕ) (before left : Option (List ℕ)) (end : DriveEnd)
-    → HearsSome end stalls code_of may names old held before new after left
-    → TakesSome end stalls code_of may names now old held before new after left
-TakesSome-of stalls code_of may names now old new held after before left Done p = absurd p
-TakesSome-of stalls code_of may names now old new held after before left Read p = p
-TakesSome-of stalls code_of may names now old new held after before left Write p = absurd p
-TakesSome-of stalls code_of may names now old new held after before left NoMemory (bytes, read, hears) = record {
+-- memory ran out at the reading
+pub TakesFirst-of : (code_of : List ℕ → Call → Code) (may : List ℕ → Call → List Action → Type 0) (names : List (List ℕ)) (now : ℕ)
+    (old mid new : Course) (held after : List ℕ) (before left : Source)
+    → HearsAll code_of may names old held before mid after left → new ≡ mid
+    → TakesFirst code_of may names now old held before new left
+TakesFirst-of code_of may names now old mid new held after before left p same = record {
+  bytes = p.bytes;
+  lost = [];
+  lines = p.hears.lines;
+  after = after;
+  read = inl (subst (λ bytes. ReadsEnough before bytes left) (sym (append-nil p.bytes)) p.read);
+  ends = p.hears.ends;
+  makes = record {
+    first = line_events p.hears.lines;
+    rest = Clock now ∷ [];
+    all = refl;
+    makes = subst (λ (x : Course). Makes code_of may names old (line_events p.hears.lines) x) (sym same) p.hears.makes;
+  };
+}
+
+pub TakesSome-of : (code_of : List ℕ → Call → Code) (may : List ℕ → Call → List Action → Type 0) (names : List (List ℕ)) (now : ℕ)
+    (old new : Course) (held after : List ℕ) (before left : Source) (end : DriveEnd)
+    → HearsSome end code_of may names old held before new after left
+    → TakesSome end code_of may names now old held before new after left
+TakesSome-of code_of may names now old new held after before left Done p = absurd p
+TakesSome-of code_of may names now old new held after before left Read p = p
+TakesSome-of code_of may names now old new held after before left Write p = absurd p
+TakesSome-of code_of may names now old new held after before left NoMemory (bytes, read, hears) = record {
   bytes = hears.front;
   lost = hears.lost;
   lines = hears.lines;
   after = hears.after;
-  read = subst (Consumes before left) (sym hears.all) read;
+  read = subst (λ (b : List ℕ). ReadsSome before b left) (sym hears.all) read;
   ends = hears.ends;
   makes = MakesFirst-more code_of may names old new (line_events hears.lines) (Clock now ∷ []) hears.makes;
+}
+
+-- ---- and what is written
+
+pub DrivesAll-of : (Writes : Sink → List ℕ → Sink → Type 0) (code_of : List ℕ → Call → Code) (may : List ℕ → Call → List Action → Type 0)
+    (names : List (List ℕ)) (now : ℕ) (start : Course) (old new : Bot) (packets : List Outgoing) (text held after : List ℕ)
+    (before between left : Source) (empty kept full : Sink) → start ≡ course_at old
+    → TakesAll code_of may names now start held before (record { bot = new; packets = packets; text = text }) after between
+    → kept ≡ empty → left ≡ between → Writes kept text full
+    → DrivesAll Writes code_of may names now (record { bot = old; held = held; source = before; sink = empty }) packets
+    (record { bot = new; held = after; source = left; sink = full })
+DrivesAll-of Writes code_of may names now start old new packets text held after before between left empty kept full is p same other writes = record {
+  bytes = p.bytes;
+  lines = p.lines;
+  text = text;
+  read = subst (λ (x : Source). ReadsEnough before p.bytes x) (sym other) p.read;
+  ends = p.ends;
+  makes = subst (λ (x : Course). Makes code_of may names x (all_events p.lines now) (record { bot = new; packets = packets; text = text })) is p.makes;
+  writes = subst (λ (x : Sink). Writes x text full) same writes;
+}
+
+pub DrivesTo-some : (end : DriveEnd) (code_of : List ℕ → Call → Code) (may : List ℕ → Call → List Action → Type 0)
+    (names : List (List ℕ)) (now : ℕ) (start : Course) (old new : Bot) (packets : List Outgoing) (text held after : List ℕ)
+    (before left : Source) (empty kept : Sink) → start ≡ course_at old
+    → TakesSome end code_of may names now start held before (record { bot = new; packets = packets; text = text }) after left
+    → kept ≡ empty
+    → DrivesTo end code_of may names now (record { bot = old; held = held; source = before; sink = empty }) packets
+    (record { bot = new; held = after; source = left; sink = kept })
+DrivesTo-some Done code_of may names now start old new packets text held after before left empty kept is p same = absurd p
+DrivesTo-some Read code_of may names now start old new packets text held after before left empty kept is (bytes, read, hears) same = record {
+  bytes = bytes;
+  lines = hears.lines;
+  text = text;
+  read = read;
+  ends = hears.ends;
+  makes = subst (λ (x : Course). Makes code_of may names x (line_events hears.lines) (record { bot = new; packets = packets; text = text })) is hears.makes;
+  writes = same;
+}
+DrivesTo-some Write code_of may names now start old new packets text held after before left empty kept is p same = absurd p
+DrivesTo-some NoMemory code_of may names now start old new packets text held after before left empty kept is p same = record {
+  bytes = p.bytes;
+  lost = p.lost;
+  lines = p.lines;
+  after = p.after;
+  text = text;
+  read = p.read;
+  ends = p.ends;
+  makes = record {
+    first = p.makes.first;
+    rest = p.makes.rest;
+    all = p.makes.all;
+    makes = subst (λ (x : Course). Makes code_of may names x p.makes.first (record { bot = new; packets = packets; text = text })) is p.makes.makes;
+  };
+  writes = same;
 }

@@ -1,4 +1,3 @@
 pub mod DriveLemmas
 pub mod DrivingLemmas
-pub mod OutputLemmas
 pub mod PacketLemmas

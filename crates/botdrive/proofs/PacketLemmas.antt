@@ -1,5 +1,5 @@
 -- What a drive has to send has records of good shape: lines and readings send nothing but texts.
-use Rattle.std.proofs.Common.{◌≡◌, ◌++◌, ℕ, Bool, List, [], ◌∷◌, refl, sym, ap, subst, ◌∙◌}
+use Rattle.std.proofs.Common.{◌≡◌, ◌++◌, ℕ, List, [], ◌∷◌, refl, sym, ap, subst, ◌∙◌}
 use Rattle.ircline.specs.declared.line.Line.{Line as ReadLine}
 use Rattle.procstore.specs.declared.action.Action.{Action}
 use Rattle.procstore.specs.declared.call.Call.{Call}
@@ -73,15 +73,15 @@ module _ (code_of : List ℕ → Call → Code) (may : List ℕ → Call → Lis
 
 -- ---- a whole drive
 
-pub DrivesTo_good : (end : DriveEnd) (stalls : Bool) (code_of : List ℕ → Call → Code) (may : List ℕ → Call → List Action → Type 0)
+pub DrivesTo_good : (end : DriveEnd) (code_of : List ℕ → Call → Code) (may : List ℕ → Call → List Action → Type 0)
     (names : List (List ℕ)) (now : ℕ) (old : Connection) (packets : List Outgoing) (new : Connection)
-    → DrivesTo end stalls code_of may names now old packets new → AreGood packets
-DrivesTo_good Done stalls code_of may names now old packets new d =
+    → DrivesTo end code_of may names now old packets new → AreGood packets
+DrivesTo_good Done code_of may names now old packets new d =
     steps_good code_of may names (all_events d.lines now) _ _ (all_heard code_of may names d.lines now) d.makes tt
-DrivesTo_good Read stalls code_of may names now old packets new d =
-    steps_good code_of may names (line_events d.1.lines) _ _ (lines_heard code_of may names d.1.lines) d.1.makes tt
-DrivesTo_good Write stalls code_of may names now old packets new d =
+DrivesTo_good Read code_of may names now old packets new d =
+    steps_good code_of may names (line_events d.lines) _ _ (lines_heard code_of may names d.lines) d.makes tt
+DrivesTo_good Write code_of may names now old packets new d =
     steps_good code_of may names (all_events d.lines now) _ _ (all_heard code_of may names d.lines now) d.makes tt
-DrivesTo_good NoMemory stalls code_of may names now old packets new d =
+DrivesTo_good NoMemory code_of may names now old packets new d =
     steps_good code_of may names d.makes.first _ _
     (front_heard code_of may names d.makes.first d.makes.rest _ d.makes.all (all_heard code_of may names d.lines now)) d.makes.makes tt

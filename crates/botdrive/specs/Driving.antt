@@ -1,7 +1,10 @@
 -- Driving a bot: what comes from a server is taken in line by line, then the clock is read, and what the bot says is written.
-use Rattle.std.specs.Prelude.{◌≡◌, ◌≢◌, ◌≤◌, ◌⊎◌, ℕ, Bool, true, false, List, [], ◌∷◌, ◌++◌, length, map, take, Option, Some, None, Result, Ok, Err}
+use Rattle.std.specs.Prelude.{◌≡◌, ◌≢◌, ◌≤◌, ◌⊎◌, ℕ, Bool, true, false, List, [], ◌∷◌, ◌++◌, map, take}
 use Rattle.std.specs.List.{flat_map}
-use Rattle.std.specs.Io.KnownBytes.{Keeps, Appends, Consumes, IsAtEnd}
+use Rattle.streams.specs.declared.stream.Given.TheVariants.{Bytes, End, Stall, Fault}
+use Rattle.streams.specs.State.{Source, Sink}
+use Rattle.streams.specs.Calls.{Gives}
+use Rattle.streams.specs.Transfers.{Reads, ReadsUntil, WritesOut, WritesFront}
 use Rattle.ircline.specs.declared.line.Line.{Line as ReadLine}
 use Rattle.ircline.specs.Stream.{lines_of, held_of}
 use Rattle.procstore.specs.declared.action.Action.{Action}
@@ -90,56 +93,50 @@ pub record HearsFirst (code_of : List ℕ → Call → Code) (may : List ℕ →
 
 -- ---- what is read
 
--- so many bytes were read at least, unless the reader may stall or fail
-abbrev pub HasRead : Bool → ℕ → List ℕ → Type 0
-HasRead true count bytes = Unit {0}
-HasRead false count bytes = count ≤ length bytes
+-- There was no more to read: the stream was at its end or would have to wait, or it was asked 1,000 times.
+abbrev pub ReadsEnough : Source → List ℕ → Source → Type 0
+ReadsEnough old bytes new =
+    ReadsUntil End 1000 old bytes new ⊎ (ReadsUntil Stall 1000 old bytes new ⊎ Reads 1000 old bytes new)
 
--- what it means that a reader has nothing more to give now: it is at its end, unless it may stall
-abbrev pub HasNoMore : Bool → Option (List ℕ) → Type 0
-HasNoMore true left = Unit {0}
-HasNoMore false left = IsAtEnd left
+-- that, or some of it, by at most 1,000 answers
+abbrev pub ReadsSome : Source → List ℕ → Source → Type 0
+ReadsSome old bytes new = ReadsEnough old bytes new ⊎ ((count : ℕ) × (count ≤ 1000) × Reads count old bytes new)
 
--- No byte is left, or 1,000 or more were read. Nothing is said of a reader that may stall: give none though some are left.
-abbrev pub HasEnough : Bool → Option (List ℕ) → List ℕ → Type 0
-HasEnough true left bytes = Unit {0}
-HasEnough false left bytes = IsAtEnd left ⊎ (1000 ≤ length bytes)
+-- The stream gave a piece, which is taken in, and there may be more; or it has none now.
+abbrev pub HearsPiece : (List ℕ → Call → Code) → (List ℕ → Call → List Action → Type 0) → List (List ℕ)
+    → Course → List ℕ → Source → Bool → Course → List ℕ → Source → Type 0
+HearsPiece code_of may names old held before true new after left =
+    (n : ℕ) × (buffer : List ℕ) × Gives before (Bytes n) buffer left × Hears code_of may names old held (take n buffer) new after
+HearsPiece code_of may names old held before false new after left =
+    (buffer : List ℕ) × (Gives before End buffer left ⊎ Gives before Stall buffer left) × (new ≡ old) × (after ≡ held)
 
--- the next piece of a reader stands in the buffer's front, or there is none now, or it fails
-abbrev pub GivesPiece : Bool → Option (List ℕ) → Option (List ℕ) → List ℕ → Result (Option ℕ) DriveEnd → Type 0
-GivesPiece stalls old new buffer (Ok (Some n)) =
-    (n ≤ length buffer) × Consumes old new (take n buffer) × HasRead stalls 1 (take n buffer)
-GivesPiece stalls old new buffer (Ok None) = Consumes old new [] × HasNoMore stalls new
-GivesPiece stalls old new buffer (Err e) = (e ≡ Read) × (stalls ≡ true) × Consumes old new []
-
--- A piece is read and taken in, and then there may be more; or there is none now.
-pub record HearsPiece (stalls : Bool) (code_of : List ℕ → Call → Code) (may : List ℕ → Call → List Action → Type 0)
-    (names : List (List ℕ)) (old : Course) (held : List ℕ) (before : Option (List ℕ)) (more : Bool)
-    (new : Course) (after : List ℕ) (left : Option (List ℕ)) : Type 0 where
-  pub bytes : List ℕ
-  pub read : Consumes before left bytes
-  pub hears : Hears code_of may names old held bytes new after
-  pub some : more ≡ true → HasRead stalls 1 bytes
-  pub none : more ≡ false → HasNoMore stalls left
+-- the stream failed, or memory ran out as its piece was taken in
+abbrev pub HearsNoPiece : DriveEnd → (List ℕ → Call → Code) → (List ℕ → Call → List Action → Type 0) → List (List ℕ)
+    → Course → List ℕ → Source → Course → List ℕ → Source → Type 0
+HearsNoPiece Done code_of may names old held before new after left = ⊥
+HearsNoPiece Read code_of may names old held before new after left =
+    (buffer : List ℕ) × Gives before Fault buffer left × (new ≡ old) × (after ≡ held)
+HearsNoPiece Write code_of may names old held before new after left = ⊥
+HearsNoPiece NoMemory code_of may names old held before new after left =
+    (n : ℕ) × (buffer : List ℕ) × Gives before (Bytes n) buffer left × HearsFirst code_of may names old held (take n buffer) new
 
 -- All that there is now is read and taken in, or enough of it.
-pub record HearsAll (stalls : Bool) (code_of : List ℕ → Call → Code) (may : List ℕ → Call → List Action → Type 0)
-    (names : List (List ℕ)) (old : Course) (held : List ℕ) (before : Option (List ℕ))
-    (new : Course) (after : List ℕ) (left : Option (List ℕ)) : Type 0 where
+pub record HearsAll (code_of : List ℕ → Call → Code) (may : List ℕ → Call → List Action → Type 0)
+    (names : List (List ℕ)) (old : Course) (held : List ℕ) (before : Source)
+    (new : Course) (after : List ℕ) (left : Source) : Type 0 where
   pub bytes : List ℕ
-  pub read : Consumes before left bytes
+  pub read : ReadsEnough before bytes left
   pub hears : Hears code_of may names old held bytes new after
-  pub enough : HasEnough stalls left bytes
 
--- some of it, until reading fails or memory runs out
-abbrev pub HearsSome : DriveEnd → Bool → (List ℕ → Call → Code) → (List ℕ → Call → List Action → Type 0) → List (List ℕ)
-    → Course → List ℕ → Option (List ℕ) → Course → List ℕ → Option (List ℕ) → Type 0
-HearsSome Done stalls code_of may names old held before new after left = ⊥
-HearsSome Read stalls code_of may names old held before new after left =
-    (stalls ≡ true) × ((bytes : List ℕ) × Consumes before left bytes × Hears code_of may names old held bytes new after)
-HearsSome Write stalls code_of may names old held before new after left = ⊥
-HearsSome NoMemory stalls code_of may names old held before new after left =
-    (bytes : List ℕ) × Consumes before left bytes × HearsFirst code_of may names old held bytes new
+-- some of it, until the stream fails or memory runs out
+abbrev pub HearsSome : DriveEnd → (List ℕ → Call → Code) → (List ℕ → Call → List Action → Type 0) → List (List ℕ)
+    → Course → List ℕ → Source → Course → List ℕ → Source → Type 0
+HearsSome Done code_of may names old held before new after left = ⊥
+HearsSome Read code_of may names old held before new after left =
+    (bytes : List ℕ) × ReadsUntil Fault 1000 before bytes left × Hears code_of may names old held bytes new after
+HearsSome Write code_of may names old held before new after left = ⊥
+HearsSome NoMemory code_of may names old held before new after left =
+    (bytes : List ℕ) × ReadsSome before bytes left × HearsFirst code_of may names old held bytes new
 
 -- ---- all steps of a drive
 
@@ -148,77 +145,70 @@ abbrev pub all_events : List ReadLine → ℕ → List Event
 all_events lines now = line_events lines ++ Clock now ∷ []
 
 -- All that there is now is read, or enough of it; each line that it ends is stepped, and then the reading.
-pub record TakesAll (stalls : Bool) (code_of : List ℕ → Call → Code) (may : List ℕ → Call → List Action → Type 0)
-    (names : List (List ℕ)) (now : ℕ) (old : Course) (held : List ℕ) (before : Option (List ℕ))
-    (new : Course) (after : List ℕ) (left : Option (List ℕ)) : Type 0 where
+pub record TakesAll (code_of : List ℕ → Call → Code) (may : List ℕ → Call → List Action → Type 0)
+    (names : List (List ℕ)) (now : ℕ) (old : Course) (held : List ℕ) (before : Source)
+    (new : Course) (after : List ℕ) (left : Source) : Type 0 where
   pub bytes : List ℕ
   pub lines : List ReadLine
-  pub read : Consumes before left bytes
-  pub enough : HasEnough stalls left bytes
+  pub read : ReadsEnough before bytes left
   pub ends : Ends held bytes lines after
   pub makes : Makes code_of may names old (all_events lines now) new
 
 -- memory ran out: of all steps the first are made
 pub record TakesFirst (code_of : List ℕ → Call → Code) (may : List ℕ → Call → List Action → Type 0)
-    (names : List (List ℕ)) (now : ℕ) (old : Course) (held : List ℕ) (before : Option (List ℕ))
-    (new : Course) (left : Option (List ℕ)) : Type 0 where
+    (names : List (List ℕ)) (now : ℕ) (old : Course) (held : List ℕ) (before : Source)
+    (new : Course) (left : Source) : Type 0 where
   pub bytes : List ℕ
   pub lost : List ℕ
   pub lines : List ReadLine
   pub after : List ℕ
-  pub read : Consumes before left (bytes ++ lost)
+  pub read : ReadsSome before (bytes ++ lost) left
   pub ends : Ends held bytes lines after
   pub makes : MakesFirst code_of may names old (all_events lines now) new
 
--- some of them, until reading fails or memory runs out
-abbrev pub TakesSome : DriveEnd → Bool → (List ℕ → Call → Code) → (List ℕ → Call → List Action → Type 0) → List (List ℕ) → ℕ
-    → Course → List ℕ → Option (List ℕ) → Course → List ℕ → Option (List ℕ) → Type 0
-TakesSome Done stalls code_of may names now old held before new after left = ⊥
-TakesSome Read stalls code_of may names now old held before new after left =
-    (stalls ≡ true) × ((bytes : List ℕ) × Consumes before left bytes × Hears code_of may names old held bytes new after)
-TakesSome Write stalls code_of may names now old held before new after left = ⊥
-TakesSome NoMemory stalls code_of may names now old held before new after left =
+-- some of them, until the stream fails or memory runs out
+abbrev pub TakesSome : DriveEnd → (List ℕ → Call → Code) → (List ℕ → Call → List Action → Type 0) → List (List ℕ) → ℕ
+    → Course → List ℕ → Source → Course → List ℕ → Source → Type 0
+TakesSome Done code_of may names now old held before new after left = ⊥
+TakesSome Read code_of may names now old held before new after left =
+    (bytes : List ℕ) × ReadsUntil Fault 1000 before bytes left × Hears code_of may names old held bytes new after
+TakesSome Write code_of may names now old held before new after left = ⊥
+TakesSome NoMemory code_of may names now old held before new after left =
     TakesFirst code_of may names now old held before new left
 
 -- ---- a whole drive
 
--- A bot and the connection that it is driven over: what its reader of lines holds, the bytes that the reader has left, and
--- those that the writer holds.
+-- A bot and the connection that it is driven over: what its reader of lines holds, and both sides of the stream.
 pub record Connection : Type 0 where
   pub bot : Bot
   pub held : List ℕ
-  pub left : Option (List ℕ)
-  pub written : Option (List ℕ)
-
--- a front of the text was written, and nothing else
-abbrev pub AppendsFront : Option (List ℕ) → Option (List ℕ) → List ℕ → Type 0
-AppendsFront old new text = (front : List ℕ) × (rest : List ℕ) × (front ++ rest ≡ text) × Appends old new front
+  pub source : Source
+  pub sink : Sink
 
 -- all lines that were read and the reading are stepped, and what the bot says is written as `Writes` says
-pub record DrivesAll (stalls : Bool) (Writes : Option (List ℕ) → Option (List ℕ) → List ℕ → Type 0)
+pub record DrivesAll (Writes : Sink → List ℕ → Sink → Type 0)
     (code_of : List ℕ → Call → Code) (may : List ℕ → Call → List Action → Type 0) (names : List (List ℕ)) (now : ℕ)
     (old : Connection) (packets : List Outgoing) (new : Connection) : Type 0 where
   pub bytes : List ℕ
   pub lines : List ReadLine
   pub text : List ℕ
-  pub read : Consumes old.left new.left bytes
-  pub enough : HasEnough stalls new.left bytes
+  pub read : ReadsEnough old.source bytes new.source
   pub ends : Ends old.held bytes lines new.held
   pub makes : Makes code_of may names (course_at old.bot) (all_events lines now)
       (record { bot = new.bot; packets = packets; text = text })
-  pub writes : Writes old.written new.written text
+  pub writes : Writes old.sink text new.sink
 
--- the reader failed: all lines that were read are stepped, and nothing is written
+-- the stream failed as it was asked: all lines that were read are stepped, and nothing is written
 pub record DrivesLines (code_of : List ℕ → Call → Code) (may : List ℕ → Call → List Action → Type 0) (names : List (List ℕ))
     (old : Connection) (packets : List Outgoing) (new : Connection) : Type 0 where
   pub bytes : List ℕ
   pub lines : List ReadLine
   pub text : List ℕ
-  pub read : Consumes old.left new.left bytes
+  pub read : ReadsUntil Fault 1000 old.source bytes new.source
   pub ends : Ends old.held bytes lines new.held
   pub makes : Makes code_of may names (course_at old.bot) (line_events lines)
       (record { bot = new.bot; packets = packets; text = text })
-  pub writes : Keeps old.written new.written
+  pub writes : new.sink ≡ old.sink
 
 -- memory ran out: of all steps the first are made, and nothing is written
 pub record DrivesFirst (code_of : List ℕ → Call → Code) (may : List ℕ → Call → List Action → Type 0) (names : List (List ℕ))
@@ -228,23 +218,20 @@ pub record DrivesFirst (code_of : List ℕ → Call → Code) (may : List ℕ �
   pub lines : List ReadLine
   pub after : List ℕ
   pub text : List ℕ
-  pub read : Consumes old.left new.left (bytes ++ lost)
+  pub read : ReadsSome old.source (bytes ++ lost) new.source
   pub ends : Ends old.held bytes lines after
   pub makes : MakesFirst code_of may names (course_at old.bot) (all_events lines now)
       (record { bot = new.bot; packets = packets; text = text })
-  pub writes : Keeps old.written new.written
+  pub writes : new.sink ≡ old.sink
 
 -- what a drive that ends so has done, and what it tells to be sent over the link
-abbrev pub DrivesTo : DriveEnd → Bool → (List ℕ → Call → Code) → (List ℕ → Call → List Action → Type 0) → List (List ℕ)
+abbrev pub DrivesTo : DriveEnd → (List ℕ → Call → Code) → (List ℕ → Call → List Action → Type 0) → List (List ℕ)
     → ℕ → Connection → List Outgoing → Connection → Type 0
-DrivesTo Done stalls code_of may names now old packets new =
-    DrivesAll stalls Appends code_of may names now old packets new
-DrivesTo Read stalls code_of may names now old packets new =
-    (stalls ≡ true) × DrivesLines code_of may names old packets new
-DrivesTo Write stalls code_of may names now old packets new =
-    DrivesAll stalls AppendsFront code_of may names now old packets new
-DrivesTo NoMemory stalls code_of may names now old packets new = DrivesFirst code_of may names now old packets new
+DrivesTo Done code_of may names now old packets new = DrivesAll WritesOut code_of may names now old packets new
+DrivesTo Read code_of may names now old packets new = DrivesLines code_of may names old packets new
+DrivesTo Write code_of may names now old packets new = DrivesAll WritesFront code_of may names now old packets new
+DrivesTo NoMemory code_of may names now old packets new = DrivesFirst code_of may names now old packets new
 
-abbrev pub Drives : Bool → (List ℕ → Call → Code) → (List ℕ → Call → List Action → Type 0) → List (List ℕ)
+abbrev pub Drives : (List ℕ → Call → Code) → (List ℕ → Call → List Action → Type 0) → List (List ℕ)
     → ℕ → Connection → DriveReport → Connection → Type 0
-Drives stalls code_of may names now old report new = DrivesTo report.end stalls code_of may names now old report.packets new
+Drives code_of may names now old report new = DrivesTo report.end code_of may names now old report.packets new

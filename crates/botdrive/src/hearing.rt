@@ -1,10 +1,9 @@
 // What a bot is told over a connection.
 ghost use Rattle.std.specs.Prelude.{◌≡◌, IfOk, OnOk, OnErr, IfErr};
-ghost use Rattle.botdrive.specs.Driving.{Hears, HearsFirst, HearsPiece, HearsAll, HearsSome};
+ghost use Rattle.botdrive.specs.Driving.{Hears, HearsFirst, HearsPiece, HearsNoPiece, HearsAll, HearsSome};
 ghost use Rattle.botdrive.specs.Outboxes.{course_of};
 
 use crate::driving::DriveEnd;
-use crate::input::Input;
 use crate::outbox::{Outbox, step_lines};
 use botcore::Bot;
 use bytetext::NoMemory;
@@ -12,6 +11,7 @@ use ircline::LineReader;
 use procstore::{ProcStore, Promise, Run};
 use std::alloc::Global;
 use storage::Disk;
+use streams::{Given, Stream};
 
 // How often a drive reads at most.
 const MAX_READS: usize = 1000;
@@ -20,23 +20,24 @@ const MAX_READS: usize = 1000;
 const PIECE: usize = 4096;
 
 // Reads all that there is now, or 1,000 pieces of it, and makes a step of each line that they end.
-pub(crate) fn hear_all<P: Promise, D: Disk, B: Run, I: Input>(
+pub(crate) fn hear_all<P: Promise, D: Disk, B: Run, S: Stream>(
     alloc: Global,
     bot: &mut Bot<D>,
     store: &ProcStore<P, B>,
     lines: &mut LineReader,
-    input: &mut I,
+    stream: &mut S,
     outbox: &mut Outbox,
 ) -> Result<(), DriveEnd>
-    ensures ok { OnOk result (HearsAll I.stalls P.code_of P.may store.now
-        (course_of bot.old outbox.old) lines.old (I.left input.old)
-        (course_of bot.new outbox.new) lines.new (I.left input.new)) }
-    ensures err { IfErr result (λ end. HearsSome end I.stalls P.code_of P.may store.now
-        (course_of bot.old outbox.old) lines.old (I.left input.old)
-        (course_of bot.new outbox.new) lines.new (I.left input.new)) }
+    ensures ok { OnOk result (HearsAll P.code_of P.may store.now
+        (course_of bot.old outbox.old) lines.old (S.source stream.old)
+        (course_of bot.new outbox.new) lines.new (S.source stream.new)) }
+    ensures err { IfErr result (λ end. HearsSome end P.code_of P.may store.now
+        (course_of bot.old outbox.old) lines.old (S.source stream.old)
+        (course_of bot.new outbox.new) lines.new (S.source stream.new)) }
+    ensures other { S.sink stream.new ≡ S.sink stream.old }
 {
     for _read in 0..MAX_READS {
-        match hear_piece(alloc, bot, store, lines, input, outbox) {
+        match hear_piece(alloc, bot, store, lines, stream, outbox) {
             Ok(true) => {}
             Ok(false) => return Ok(()),
             Err(end) => return Err(end),
@@ -46,31 +47,32 @@ pub(crate) fn hear_all<P: Promise, D: Disk, B: Run, I: Input>(
 }
 
 // Reads a piece, and makes a step of each line that it ends. Whether there may be more.
-fn hear_piece<P: Promise, D: Disk, B: Run, I: Input>(
+fn hear_piece<P: Promise, D: Disk, B: Run, S: Stream>(
     alloc: Global,
     bot: &mut Bot<D>,
     store: &ProcStore<P, B>,
     lines: &mut LineReader,
-    input: &mut I,
+    stream: &mut S,
     outbox: &mut Outbox,
 ) -> Result<bool, DriveEnd>
-    ensures ok { IfOk result (λ more. HearsPiece I.stalls P.code_of P.may store.now
-        (course_of bot.old outbox.old) lines.old (I.left input.old) more
-        (course_of bot.new outbox.new) lines.new (I.left input.new)) }
-    ensures err { IfErr result (λ end. HearsSome end I.stalls P.code_of P.may store.now
-        (course_of bot.old outbox.old) lines.old (I.left input.old)
-        (course_of bot.new outbox.new) lines.new (I.left input.new)) }
+    ensures ok { IfOk result (λ more. HearsPiece P.code_of P.may store.now
+        (course_of bot.old outbox.old) lines.old (S.source stream.old) more
+        (course_of bot.new outbox.new) lines.new (S.source stream.new)) }
+    ensures err { IfErr result (λ end. HearsNoPiece end P.code_of P.may store.now
+        (course_of bot.old outbox.old) lines.old (S.source stream.old)
+        (course_of bot.new outbox.new) lines.new (S.source stream.new)) }
+    ensures other { S.sink stream.new ≡ S.sink stream.old }
 {
     let mut buffer = [0; PIECE];
-    match input.next_piece(&mut buffer) {
-        Ok(Some(count)) => {
+    match stream.give(&mut buffer) {
+        Given::Bytes(count) => {
             match hear_bytes(alloc, bot, store, lines, &buffer[..count], outbox) {
                 Ok(()) => Ok(true),
                 Err(NoMemory) => Err(DriveEnd::NoMemory),
             }
         }
-        Ok(None) => Ok(false),
-        Err(end) => Err(end),
+        Given::End | Given::Stall => Ok(false),
+        Given::Fault => Err(DriveEnd::Read),
     }
 }
 

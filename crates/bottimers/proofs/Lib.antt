@@ -4,6 +4,8 @@ pub mod Laws
 pub mod EntryLists
 pub mod Adding
 pub mod CivilMinutes
+pub mod ZoneYears
+pub mod ZoneOffsets
 pub mod CronFields
 pub mod Cuts
 pub mod CronBits

@@ -4,6 +4,7 @@ pub mod Occurrences
 pub mod Held
 pub mod Countdown
 pub mod Civil
+pub mod Zones
 pub mod CronSets
 pub mod CronText
 pub mod CronMask

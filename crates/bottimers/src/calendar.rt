@@ -1,12 +1,12 @@
 // Civil time: the minute that a calendar and a clock show at a moment.
-ghost use Rattle.std.specs.Prelude.{◌≡◌, ◌↔◌, ◌/◌, pos, ◌+ℤ◌, IsOk, IfOk, IfErr};
+ghost use Rattle.std.specs.Prelude.{◌≡◌, ◌↔◌, IsOk, IfOk, IfErr};
 ghost use Rattle.bottimers.specs.Seconds.{IsMoment};
-ghost use Rattle.bottimers.specs.Civil.{IsOffset, IsCalendarMinute};
+ghost use Rattle.bottimers.specs.Civil.{IsCalendarMinute};
+ghost use Rattle.bottimers.specs.Zones.{IsInYear, minute_at, year_of};
 
 use crate::fault::ClockFault;
+use crate::zone::Zone;
 use bytetext::{MOMENTS_END, NoMemory, TryCopy};
-use jiff::Timestamp;
-use jiff::tz::Offset;
 use std::alloc::Global;
 
 /// A minute of the calendar. [`civil`] gives the ranges that stand beside the fields.
@@ -36,22 +36,25 @@ impl TryCopy for CivilMinute {
     }
 }
 
-/// The minute that the calendar and the clock show at a moment, where the clock is `offset` whole minutes ahead of UTC.
+/// The minute that the calendar and the clock show at a moment in a zone. It takes no memory.
+///
+/// Where a zone's clock is set forward no moment has the minutes that it skips, and where it is set back two moments have
+/// the same minute.
 ///
 /// # Errors
 /// `BadMoment` where the seconds are no moment.
-pub fn civil(moment: u64, offset: i32) -> Result<CivilMinute, ClockFault>
-    requires { IsOffset offset }
+pub fn civil(moment: u64, zone: &Zone) -> Result<CivilMinute, ClockFault>
     ensures moments { IsOk result ↔ IsMoment moment }
-    ensures minute { IfOk result (IsCalendarMinute (pos (moment / 60) +ℤ offset)) }
+    // The moment plus the offset that the rule has then, in whole minutes.
+    ensures minute { IfOk result (IsCalendarMinute (minute_at zone.now moment)) }
+    // The rule is asked for the year in which the moment lies, in UTC.
+    ensures year { IfOk result (λ _. IsInYear moment (year_of moment)) }
     ensures fault { IfErr result (λ fault. fault ≡ ClockFault.BadMoment) }
 {
     if moment >= MOMENTS_END {
         return Err(ClockFault::BadMoment);
     }
-    let instant = Timestamp::from_second(moment as i64).unwrap();
-    let offset = Offset::from_seconds(offset * 60).unwrap();
-    let shown = offset.to_datetime(instant).to_plain();
+    let shown = zone.shown_at(moment);
     Ok(CivilMinute {
         year: shown.date.year,
         month: shown.date.month,

@@ -22,7 +22,7 @@ use std::marker::Model;
 ///
 /// ```text
 /// let mask = Cron::parse(b"0 0 13 * 5")?;      // midnight on the 13th or any Friday
-/// mask.matches(&civil(moment, offset)?)
+/// mask.matches(&civil(moment, &zone)?)
 /// ```
 #[derive(Clone, Copy, Debug, PartialEq, Eq)]
 pub struct Cron {

@@ -1,4 +1,4 @@
-// What a clock, a timer or a cron mask can be refused for.
+// What a clock, a timer, a zone or a cron mask can be refused for.
 ghost use Rattle.std.specs.Prelude.{◌≡◌, codes};
 ghost use Rattle.bottimers.specs.Faults.{letters_of};
 
@@ -20,10 +20,13 @@ pub enum ClockFault {
     /// No timer has this id.
     #[error("no such timer: look its id up in the list")]
     NoSuchTimer,
+    /// A zone's minutes are not from -1,439 to 1,439, or its text is no rule of POSIX of 1 to 100 bytes.
+    #[error("bad zone: choose -1439 to 1439 minutes, or write a rule as 'CET-1CEST,M3.5.0,M10.5.0/3'")]
+    BadZone,
 }
 
 impl ClockFault {
-    /// The short letters that a transcript prints: `C4`, `C1`, `C3`, `C2`.
+    /// The short letters that a transcript prints: `C4`, `C1`, `C3`, `C2`, `C5`.
     pub fn code(self) -> &'static str
         ensures { result.now ≡ letters_of self }
     {
@@ -32,6 +35,7 @@ impl ClockFault {
             ClockFault::BadInterval => "C1",
             ClockFault::Full => "C3",
             ClockFault::NoSuchTimer => "C2",
+            ClockFault::BadZone => "C5",
         }
     }
 }

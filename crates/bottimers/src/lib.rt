@@ -8,8 +8,8 @@
 //! - [`Timers`] says at each of those seconds which timers are due, utimers before timers. A timer that was made in the
 //!   minute or second s with the interval i and the count q is due in the minutes or seconds s + i, s + 2i and so on, q
 //!   times or with 0 for ever; what falls into seconds that aren't run is lost and used up.
-//! - [`civil`] gives the minute that a calendar and a clock show at a moment, in a fixed offset from UTC. It is the one
-//!   place that knows of the offset. [`time_text`], [`time_args`] and [`cron_args`] write it.
+//! - A [`Zone`] says how far a clock is ahead of UTC at a moment, and [`civil`] gives the minute that such a clock and a
+//!   calendar show then. It is the one place that knows of zones. [`time_text`], [`time_args`] and [`cron_args`] write it.
 //! - A [`Cron`] mask is read once and then tried on minutes.
 //!
 //! ```text
@@ -38,13 +38,15 @@ mod status;
 mod timer;
 mod timers;
 mod words;
+mod zone;
 
 pub use crate::calendar::{CivilMinute, civil};
 pub use crate::clock::Clock;
 pub use crate::cron::Cron;
 pub use crate::fault::{ClockError, ClockFault, CronFault};
-pub use crate::limits::{MAX_ID, MAX_INTERVAL, MAX_OFFSET, MAX_SECONDS, MAX_TIMERS};
+pub use crate::limits::{MAX_ID, MAX_INTERVAL, MAX_OFFSET, MAX_SECONDS, MAX_TIMERS, MAX_ZONE};
 pub use crate::status::TimerStatus;
 pub use crate::timer::{Timer, TimerKind};
 pub use crate::timers::Timers;
 pub use crate::words::{cron_args, time_args, time_text};
+pub use crate::zone::Zone;

@@ -160,13 +160,13 @@ stale_none (Some last) now e =
 moment_calls : (code_of : List ℕ → Call → Code) (may : List ℕ → Call → List Action → Type 0) (names : List (List ℕ)) (old : Bot) (now : ℕ)
     (report : BotReport) (new : Bot) → report.end ≡ Done → (stale : Bool) → is_stale old.clock now ≡ stale
     → TakesMoment stale code_of may names old now report new
-    → AreCalled code_of names old (seconds_of old.config.offset old.timers (seconds_run old.clock now)) (map proc_call report.calls)
+    → AreCalled code_of names old (seconds_of old.config.zone old.timers (seconds_run old.clock now)) (map proc_call report.calls)
 moment_calls code_of may names old now report new done true e t =
     rw (stale_none old.clock now e) (none_called code_of names old report (ap (λ (r : BotReport). map proc_call r.calls) t.0))
 moment_calls code_of may names old now report new done false e t =
     record {
       occasions = t.0;
-      are = subst (λ (end : End). AreTaken end (seconds_of old.config.offset old.timers (seconds_run old.clock now)) t.0) done t.1;
+      are = subst (λ (end : End). AreTaken end (seconds_of old.config.zone old.timers (seconds_run old.clock now)) t.0) done t.1;
       made = made_calls code_of may _ old (run_to old now) _ _ report new report.end done t.2;
     }
 
@@ -175,7 +175,7 @@ refused_done report why done is = let both = sym done ∙ ap (λ (r : BotReport)
 
 reading_calls : (code_of : List ℕ → Call → Code) (may : List ℕ → Call → List Action → Type 0) (names : List (List ℕ)) (old : Bot) (now : ℕ)
     (report : BotReport) (new : Bot) → report.end ≡ Done → (fault : Option ClockFault) → TakesReading fault code_of may names old now report new
-    → AreCalled code_of names old (seconds_of old.config.offset old.timers (seconds_run old.clock now)) (map proc_call report.calls)
+    → AreCalled code_of names old (seconds_of old.config.zone old.timers (seconds_run old.clock now)) (map proc_call report.calls)
 reading_calls code_of may names old now report new done (Some fault) t = absurd (refused_done report (clock_refusal fault) done t.0)
 reading_calls code_of may names old now report new done None t = moment_calls code_of may names old now report new done (is_stale old.clock now) refl t
 

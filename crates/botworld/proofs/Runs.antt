@@ -1,9 +1,9 @@
 -- Runs that go on, and what they leave.
-use Rattle.std.proofs.Common.{◌≡◌, ℕ, zero, suc, List, [], ◌∷◌, ◌++◌, slice_get, Some, refl, ap, sym, subst, ◌∙◌, arith, append_assoc}
+use Rattle.std.proofs.Common.{◌≡◌, ◌≤◌, ℕ, zero, suc, List, [], ◌∷◌, ◌++◌, length, map, slice_get, Some, refl, ap, sym, subst, ◌∙◌, arith, append_assoc}
 use Rattle.std.proofs.lemmas.List.{append-nil}
-use Rattle.protocol.specs.History.{Grows, records_of}
+use Rattle.protocol.specs.History.{Extends, Grows, records_of}
 use Rattle.protocol.proofs.Growing.{Grows-refl, Grows-trans}
-use Rattle.protocol.proofs.Lists.{Extends-trans, records_of-more}
+use Rattle.protocol.proofs.Lists.{Extends-trans, Extends-length, records_of-more}
 use Rattle.procstore.specs.declared.action.Action.{Action}
 use Rattle.procstore.specs.declared.call.Call.{Call}
 use Rattle.procstore.specs.declared.reply.Code.{Code}
@@ -11,7 +11,8 @@ use Rattle.botworld.specs.declared.step.Step.{Step}
 use Rattle.botworld.specs.declared.outcome.Outcome.{Outcome}
 use Rattle.botworld.specs.Net.{Net, NetStep, shown_version, shown_records}
 use Rattle.botworld.specs.Network.{State, accepted_by, IsSound, NeverBack, Follows, KeepsPromises}
-use Rattle.botworld.specs.Standing.{Moment, Run, steps_of, outcomes_of, Past, later, Stands, LeadsTo, SameRecords, SameAlways}
+use Rattle.botworld.specs.Standing.{Moment, Run, steps_of, outcomes_of, Past, later, Stands, LeadsTo, SameRecords}
+use Rattle.botworld.specs.Standing.{states_of, SameAlways, NeverBackAlways, AreAtVersion, AlwaysAtVersion}
 use Rattle.botworld.proofs.Goes.{goes, Follows-refl}
 use Rattle.botworld.proofs.Shown.{keeps_promises, shown_at, same_shown}
 use Rattle.botworld.proofs.Start.{start_sound}
@@ -122,32 +123,73 @@ same_at_once code_of may past w stands =
     let sound = now_sound code_of may w past stands in
     rw stands.net (same_shown past.now past.now sound sound (Grows-refl past.now.links))
 
--- each moment of a run is sound, and what happened by then is of what happened by its end
-record Reached (last m : State) : Type 0 where
-  sound : IsSound m
-  more : Grows m.links last.links
+-- each state of a run is sound, and the end of the run follows it
+record Reached (last s : State) : Type 0 where
+  sound : IsSound s
+  follows : Follows s last
+
+abbrev states_from : State → List Moment → List State
+states_from first ms = first ∷ map (λ (m : Moment). m.after) ms
 
 reached : (code_of : List ℕ → Call → Code) (may : List ℕ → Call → List Action → Type 0) (first : State) (ms : List Moment) (last : State)
-    → Run code_of may first ms last → (i : ℕ) (m : Moment) → slice_get ms i ≡ Some m → Reached last m.after
-reached code_of may first [] last run i m e = cc
-reached code_of may first (x ∷ ms) last run zero m e =
-    let same : x ≡ m = cc in
-    subst (λ (z : Moment). Reached last z.after) same
-    (record { sound = run.1.sound; more = (Run-follows code_of may x.after ms last run.1.sound run.2).links })
-reached code_of may first (x ∷ ms) last run (suc i) m e = reached code_of may x.after ms last run.2 i m e
+    → IsSound first → Run code_of may first ms last → (i : ℕ) (s : State) → slice_get (states_from first ms) i ≡ Some s → Reached last s
+reached code_of may first ms last sound run zero s e =
+    let same : first ≡ s = cc in
+    subst (Reached last) same (record { sound = sound; follows = Run-follows code_of may first ms last sound run })
+reached code_of may first [] last sound run (suc i) s e = cc
+reached code_of may first (m ∷ ms) last sound run (suc i) s e = reached code_of may m.after ms last run.1.sound run.2 i s e
 
--- the records of a version at a moment are those of the end of the run
-shown_in_end : (last m : State) → Reached last m → (i v : ℕ) → shown_version m.net i ≡ Some v
-    → shown_records m.net i ≡ Some (records_of (accepted_by last) v)
-shown_in_end last m there i v e =
-    let at = shown_at m there.sound i v e in
-    at.1 ∙ ap Some (sym (records_of-more (accepted_by m) (accepted_by last) v there.more.hub.accepted at.0))
+-- each state of a run follows the first
+follows_first : (code_of : List ℕ → Call → Code) (may : List ℕ → Call → List Action → Type 0) (first : State) (ms : List Moment) (last : State)
+    → IsSound first → Run code_of may first ms last → (i : ℕ) (s : State) → slice_get (states_from first ms) i ≡ Some s → Follows first s
+follows_first code_of may first ms last sound run zero s e =
+    let same : first ≡ s = cc in subst (Follows first) same (Follows-refl first sound)
+follows_first code_of may first [] last sound run (suc i) s e = cc
+follows_first code_of may first (m ∷ ms) last sound run (suc i) s e =
+    Follows-trans first m.after s (subst (λ (s : State). Follows s m.after) run.0 run.1.follows)
+    (follows_first code_of may m.after ms last run.1.sound run.2 i s e)
 
-pub same_always : (code_of : List ℕ → Call → Code) (may : List ℕ → Call → List Action → Type 0) (w : Net) (past : Past) → Stands code_of may w past
-    → SameAlways past.history
-same_always code_of may w past stands i j m n at_i at_j a b v one other =
-    shown_in_end past.now m.after (reached code_of may past.first past.history past.now stands.run i m at_i) a v one
-    ∙ sym (shown_in_end past.now n.after (reached code_of may past.first past.history past.now stands.run j n at_j) b v other)
+-- and each one before it
+follows_earlier : (code_of : List ℕ → Call → Code) (may : List ℕ → Call → List Action → Type 0) (first : State) (ms : List Moment) (last : State)
+    → IsSound first → Run code_of may first ms last → (i j : ℕ) (s t : State) → i ≤ j → slice_get (states_from first ms) i ≡ Some s
+    → slice_get (states_from first ms) j ≡ Some t → Follows s t
+follows_earlier code_of may first ms last sound run zero j s t le at_i at_j =
+    let same : first ≡ s = cc in
+    subst (λ (s : State). Follows s t) same (follows_first code_of may first ms last sound run j t at_j)
+follows_earlier code_of may first ms last sound run (suc i) zero s t le at_i at_j = absurd (omega (arith, le))
+follows_earlier code_of may first [] last sound run (suc i) (suc j) s t le at_i at_j = cc
+follows_earlier code_of may first (m ∷ ms) last sound run (suc i) (suc j) s t le at_i at_j =
+    follows_earlier code_of may m.after ms last run.1.sound run.2 i j s t (omega (arith, le)) at_i at_j
+
+-- the records of a version at a state are those of the end of the run
+shown_in_end : (last s : State) → Reached last s → (i v : ℕ) → shown_version s.net i ≡ Some v
+    → (v ≤ length (accepted_by last)) × (shown_records s.net i ≡ Some (records_of (accepted_by last) v))
+shown_in_end last s there i v e =
+    let at = shown_at s there.sound i v e in
+    let more : Extends (accepted_by s) (accepted_by last) = there.follows.links.hub.accepted in (
+      omega (arith, at.0, Extends-length (accepted_by s) (accepted_by last) more),
+      at.1 ∙ ap Some (sym (records_of-more (accepted_by s) (accepted_by last) v more at.0)),
+    )
+
+module _ (code_of : List ℕ → Call → Code) (may : List ℕ → Call → List Action → Type 0) (w : Net) (past : Past) (stands : Stands code_of may w past) where
+  reached_in : (i : ℕ) (s : State) → slice_get (states_of past) i ≡ Some s → Reached past.now s
+  reached_in = reached code_of may past.first past.history past.now (start_sound past.first stands.begins) stands.run
+
+  pub always_at_version : AlwaysAtVersion past
+  always_at_version i s at bot v shown = shown_in_end past.now s (reached_in i s at) bot v shown
+
+  pub at_version : AreAtVersion past w
+  at_version bot v shown =
+      let sound = now_sound code_of may w past stands in
+      rw stands.net (shown_at past.now sound bot v (sym (ap (λ (w : Net). shown_version w bot) stands.net) ∙ shown))
+
+  pub same_always : SameAlways past
+  same_always i j s t at_i at_j a b v one other =
+      (shown_in_end past.now s (reached_in i s at_i) a v one).1 ∙ sym (shown_in_end past.now t (reached_in j t at_j) b v other).1
+
+  pub never_back_always : NeverBackAlways past
+  never_back_always i j s t le at_i at_j =
+      (follows_earlier code_of may past.first past.history past.now (start_sound past.first stands.begins) stands.run i j s t le at_i at_j).versions
 
 -- no version goes back
 pub none_back : (code_of : List ℕ → Call → Code) (may : List ℕ → Call → List Action → Type 0) (past : Past) (steps : List Step) (outcomes : List Outcome)

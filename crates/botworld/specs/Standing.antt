@@ -1,12 +1,13 @@
 -- Runs of the network, and what a world stands for.
-use Rattle.std.specs.Prelude.{◌≡◌, ℕ, List, [], ◌∷◌, ◌++◌, slice_get, Some}
+use Rattle.std.specs.Prelude.{◌≡◌, ◌≤◌, ℕ, List, [], ◌∷◌, ◌++◌, length, map, slice_get, Some}
+use Rattle.protocol.specs.History.{records_of}
 use Rattle.procstore.specs.declared.action.Action.{Action}
 use Rattle.procstore.specs.declared.call.Call.{Call}
 use Rattle.procstore.specs.declared.reply.Code.{Code}
 use Rattle.botworld.specs.declared.step.Step.{Step}
 use Rattle.botworld.specs.declared.outcome.Outcome.{Outcome}
 use Rattle.botworld.specs.Net.{Net, shown_version, shown_records}
-use Rattle.botworld.specs.Network.{State, IsStart, LawfulStep, Follows}
+use Rattle.botworld.specs.Network.{State, IsStart, LawfulStep, NeverBack, Follows, accepted_by}
 use Rattle.botworld.specs.Calling.{Calling, IsAlike, calling}
 
 -- one step that was made
@@ -64,9 +65,28 @@ pub record LeadsTo (code_of : List ℕ → Call → Code) (may : List ℕ → Ca
 abbrev pub SameRecords : Net → Net → Type 0
 SameRecords old new = (i j v : ℕ) → shown_version old i ≡ Some v → shown_version new j ≡ Some v → shown_records old i ≡ shown_records new j
 
--- so they did after any two steps
-abbrev pub SameAlways : List Moment → Type 0
-SameAlways history = (i j : ℕ) (m n : Moment) → slice_get history i ≡ Some m → slice_get history j ≡ Some n → SameRecords m.after.net n.after.net
+-- each state so far: how a world began, and what each step left
+abbrev pub states_of : Past → List State
+states_of past = past.first ∷ map (λ (m : Moment). m.after) past.history
+
+-- so they did at any two states so far
+abbrev pub SameAlways : Past → Type 0
+SameAlways past = (i j : ℕ) (s t : State) → slice_get (states_of past) i ≡ Some s → slice_get (states_of past) j ≡ Some t
+    → SameRecords s.net t.net
+
+-- at any two states so far, no bot showed a lower version at the later one
+abbrev pub NeverBackAlways : Past → Type 0
+NeverBackAlways past = (i j : ℕ) (s t : State) → i ≤ j → slice_get (states_of past) i ≡ Some s → slice_get (states_of past) j ≡ Some t
+    → NeverBack s.net t.net
+
+-- a bot that shows a version has its records, which the first so many of all accepted changes make
+abbrev pub AreAtVersion : Past → Net → Type 0
+AreAtVersion past w = (bot v : ℕ) → shown_version w bot ≡ Some v
+    → (v ≤ length (accepted_by past.now)) × (shown_records w bot ≡ Some (records_of (accepted_by past.now) v))
+
+-- so had each bot at each state so far, of the changes that are accepted by now
+abbrev pub AlwaysAtVersion : Past → Type 0
+AlwaysAtVersion past = (i : ℕ) (s : State) → slice_get (states_of past) i ≡ Some s → AreAtVersion past s.net
 
 -- alike bots called the same procs in the same order, at whatever moments
 abbrev pub SameCalls : List Moment → Type 0

@@ -63,7 +63,7 @@ impl<P: Promise, D: Disk, B: Run> World<P, D, B> {
     ghost use Rattle.botcore.specs.Steps.{IsGoodEvent};
     ghost use Rattle.botworld.specs.Network.{AllNew, AreNumbered, start, accepted_by, IsTruePacket, KeepsPromises, NeverBack};
     ghost use Rattle.botworld.specs.Standing.{Past, beginning, Stands, LeadsTo, SameRecords, SameAlways};
-    ghost use Rattle.botworld.specs.Standing.{SameCalls};
+    ghost use Rattle.botworld.specs.Standing.{NeverBackAlways, AreAtVersion, AlwaysAtVersion, SameCalls};
 
     /// A world of these bots, each of which is as [`Bot::create`] left it. Takes no memory.
     ///
@@ -141,10 +141,16 @@ impl<P: Promise, D: Disk, B: Run> World<P, D, B> {
         ensures same_records { (past : Past) → Stands P.code_of P.may self.old past → SameRecords self.old self.new }
         // So do two bots that show one version after the run.
         ensures same_now { (past : Past) → Stands P.code_of P.may self.old past → SameRecords self.new self.new }
-        // And so did any two, after any two steps so far.
-        ensures same_always { (past : Past) → Stands P.code_of P.may self.new past → SameAlways past.history }
+        // And so did any two, before the first step or after any two steps so far.
+        ensures same_always { (past : Past) → Stands P.code_of P.may self.new past → SameAlways past }
+        // The records of a bot are those of its version: what the first so many of the accepted changes make.
+        ensures at_version { (past : Past) → Stands P.code_of P.may self.new past → AreAtVersion past self.new }
+        // So they were before the first step and after each step so far.
+        ensures always_at_version { (past : Past) → Stands P.code_of P.may self.new past → AlwaysAtVersion past }
         // No version goes back, also where a bot is restarted.
         ensures never_back { (past : Past) → Stands P.code_of P.may self.old past → NeverBack self.old self.new }
+        // Nor did one between any two steps so far.
+        ensures never_back_always { (past : Past) → Stands P.code_of P.may self.new past → NeverBackAlways past }
         // All that the links promise of what happened so far holds: a leaf's request is accepted at most once, with the change
         // that the leaf asked for, and is told under its number and never as refused; each change that was ever sent is the
         // accepted one of its number, and each part is one of the records at its version.

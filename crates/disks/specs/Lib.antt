@@ -1,3 +1,5 @@
 pub mod Plans
 pub mod Memory
 pub mod Laws
+pub mod Told
+pub mod Files

@@ -14,10 +14,6 @@ pub record Plan : Type 0 where
 abbrev pub no_plan : Plan
 no_plan = record { tear = Old; works = None; reads = None }
 
--- another tear
-abbrev pub with_tear : Tear → Plan → Plan
-with_tear tear plan = record plan { tear = tear }
-
 -- the stated write or sync (from 1) and all later ones fail
 abbrev pub with_crash : ℕ → Tear → Plan → Plan
 with_crash fail_at tear plan = record plan { tear = tear; works = Some (fail_at - 1) }

@@ -1,61 +1,64 @@
 // A disk in a file, with a mirror in memory of what it holds.
-ghost use Rattle.std.specs.Prelude.{◌≡◌, [], IfOk};
+ghost use Rattle.std.specs.Prelude.{◌≡◌, ◌≤ℤ◌, pos, ◌≤◌, ◌<◌, ◌+◌, [], length, true, false, IsTrue, IfOk, OnOk};
+ghost use Rattle.storage.specs.State.{IsSettled};
+ghost use Rattle.storage.specs.Calls.{Holds, Tears, Elapses, HasCause, Spends, SameBytes};
 ghost use Rattle.disks.specs.Memory.{state_of, Fails};
 ghost use Rattle.disks.specs.Laws.{seen_is_left_of, counts_now_of, only_now_of};
+ghost use Rattle.disks.specs.Files.{IsTold, IsKept};
 
+use crate::file_fault::{FileDiskError, error_of};
+use crate::folder::{folder_of, sync_folder};
 use crate::mem_disk::MemDisk;
-use bytetext::{Failure, NoMemory};
+use crate::told_file::ToldFile;
+use bytetext::NoMemory;
 use std::alloc::Global;
-use std::fs::{File, OpenOptions, TryLockError};
-use std::io;
-use std::io::ErrorKind;
-use std::os::unix::fs::FileExt;
+use std::fs::{File, OpenOptions};
+use std::marker::Model;
+use std::os::unix::fs::OpenOptionsExt;
 use std::rt::Files;
 use storage::{Disk, DiskFault};
-use thiserror::Error;
-
-/// Why a file can't be used as a disk.
-#[derive(Clone, Copy, Debug, PartialEq, Eq, Error)]
-pub enum FileFault {
-    /// Another program, or another disk of this one, holds the file's lock.
-    #[error("the file is in use: end the program that uses it")]
-    InUse,
-    /// The file couldn't be opened, locked, brought to its device or read.
-    #[error("the file can't be read: give one that can be read and written")]
-    Unreadable,
-}
-
-/// Why a file can't be used as a disk, or want of memory for what it holds.
-pub type FileDiskError = Failure<FileFault>;
 
 /// A disk in a file. Each write and sync goes to the file, and a read gives what the mirror in memory holds.
 ///
-/// What contracts say of a `FileDisk` is said of its mirror. That the file holds what the mirror says, and that a crash
-/// leaves of it what the mirror says may be left, is assumed of the system and the device, and no contract can say it.
+/// What contracts say of a `FileDisk` is said of its mirror, and of what the file was told: after a write it was told
+/// all that a read gives, and after a sync or an opening that was brought to its device. That the file holds what it was
+/// told, and that a crash leaves of it what the mirror says may be left, is assumed of the system and the device, and no
+/// contract can say it.
 ///
 /// After a fault of the file each read, write and sync refuses, also after `reopen`: what a failed write left in the
 /// file is known to a new program alone, which reads it.
 #[derive(Drop)]
 pub struct FileDisk {
-    file: File,
+    file: ToldFile,
     mirror: MemDisk,
     broken: bool,
 }
 
+impl Model for FileDisk {
+    ghost use Rattle.disks.specs.Files.{FileState, IsInStep};
+
+    ghost Value = { FileState };
+
+    ghost view = { λ d. record { mirror = d.mirror; file = d.file; broken = d.broken } };
+
+    ghost invariant = { λ d. IsInStep (record { mirror = d.mirror; file = d.file; broken = d.broken }) };
+}
+
 impl FileDisk {
     /// The disk in a file that was opened for reading and writing. The file is locked until the disk is dropped, so
-    /// that no second program uses it; what it holds is brought to its device, and is then read.
+    /// that no second program uses it; it is read, and what it holds is written once more and brought to its device. It
+    /// stays under its descriptor, but for one of the three that are the standard streams': then it gets another.
     ///
     /// # Errors
-    /// `InUse` and `Unreadable` as they say; `NoMemory` where room for what the file holds is refused, or the system
-    /// has none.
+    /// `InUse`, `Unreadable` and `NotKept` as they say; `NoMemory` where room for what the file holds is refused, or
+    /// the system has none.
     pub fn new(alloc: Global, file: File) -> Result<FileDisk, FileDiskError>
-        ensures { IfOk result (λ disk. disk.mirror.events ≡ []) }
+        ensures settled { IfOk result (λ disk. disk.mirror.events ≡ []) }
+        ensures kept { IfOk result IsKept }
+        ensures own { IfOk result (λ disk. pos 3 ≤ℤ disk.file.descriptor) }
     {
-        lock(&file)?;
-        let content = read_file(alloc, &file)?;
-        let mut mirror = MemDisk::holding(alloc, content)?;
-        mirror.keep_writes();
+        let (file, content) = ToldFile::open(alloc, file)?;
+        let mirror = MemDisk::holding(alloc, content)?;
         Ok(FileDisk {
             file,
             mirror,
@@ -63,64 +66,81 @@ impl FileDisk {
         })
     }
 
-    /// The disk in the file at a path, which is made where it is missing; else as of `new`.
+    /// The disk in the file at a path. Its name is brought to its device too.
     ///
     /// # Errors
-    /// `Unreadable` where the file can't be opened for reading and writing; else as of `new`.
+    /// `Missing` where there is no such file, `Unreadable` where it can't be opened for reading and writing; else as of
+    /// `new`.
     pub fn open<R: AllocGlobal + Files<File = File>>(
         rt: &R,
         path: &str,
     ) -> Result<FileDisk, FileDiskError>
-        ensures { IfOk result (λ disk. disk.mirror.events ≡ []) }
+        ensures settled { IfOk result (λ disk. disk.mirror.events ≡ []) }
+        ensures kept { IfOk result IsKept }
+        ensures own { IfOk result (λ disk. pos 3 ≤ℤ disk.file.descriptor) }
     {
         let mut options = OpenOptions::new();
-        options.read(true).write(true).create(true);
-        match options.open(rt, path) {
-            Ok(file) => FileDisk::new(rt.alloc(), file),
-            Err(error) => Err(error_of(error)),
-        }
+        options.read(true).write(true);
+        open_at(rt, path, options)
     }
 
-    /// Notes a fault of the file.
-    fn break_off(&mut self) -> DiskFault
-        ensures { Fails self.old.mirror self.new.mirror }
+    /// The disk in the file at a path, which is made where it is missing, for its owner's eyes alone (mode 600). Its
+    /// name is brought to its device.
+    ///
+    /// # Errors
+    /// `Missing` where its folder is; else as of `open`.
+    pub fn make<R: AllocGlobal + Files<File = File>>(
+        rt: &R,
+        path: &str,
+    ) -> Result<FileDisk, FileDiskError>
+        ensures settled { IfOk result (λ disk. disk.mirror.events ≡ []) }
+        ensures kept { IfOk result IsKept }
+        ensures own { IfOk result (λ disk. pos 3 ≤ℤ disk.file.descriptor) }
     {
-        self.broken = true;
-        self.mirror.fail();
-        DiskFault
+        let mut options = OpenOptions::new();
+        options.read(true).write(true).create(true).mode(0o600);
+        open_at(rt, path, options)
     }
 }
 
-/// Takes a file's lock.
-fn lock(file: &File) -> Result<(), FileDiskError> {
-    match file.try_lock() {
-        Ok(()) => Ok(()),
-        Err(TryLockError::WouldBlock) => Err(Failure::Refused(FileFault::InUse)),
-        Err(TryLockError::Error(error)) => Err(error_of(error)),
-    }
-}
-
-/// Why a file that the system refuses can't be used.
-fn error_of(error: io::Error) -> FileDiskError {
-    match error.kind() {
-        ErrorKind::OutOfMemory => Failure::NoMemory,
-        _ => Failure::Refused(FileFault::Unreadable),
-    }
-}
-
-/// What a file holds, after it was brought to its device.
-fn read_file(alloc: Global, file: &File) -> Result<Vec<u8>, FileDiskError> {
-    if let Err(error) = file.sync_all() {
-        return Err(error_of(error));
-    }
-    let len = match file.metadata() {
-        Ok(metadata) => metadata.len() as usize,
+/// The disk in the file at a path that is opened so.
+fn open_at<R: AllocGlobal + Files<File = File>>(
+    rt: &R,
+    path: &str,
+    options: OpenOptions,
+) -> Result<FileDisk, FileDiskError>
+    ensures settled { IfOk result (λ disk. disk.mirror.events ≡ []) }
+    ensures kept { IfOk result IsKept }
+    ensures own { IfOk result (λ disk. pos 3 ≤ℤ disk.file.descriptor) }
+{
+    let file = match options.open(rt, path) {
+        Ok(file) => file,
         Err(error) => return Err(error_of(error)),
     };
-    let mut bytes = vec![in alloc; 0; len]?;
-    match file.read_exact_at(&mut bytes, 0) {
-        Ok(()) => Ok(bytes),
-        Err(error) => Err(error_of(error)),
+    let disk = FileDisk::new(rt.alloc(), file)?;
+    sync_folder(rt, folder_of(path))?;
+    Ok(disk)
+}
+
+/// Notes a fault of the file.
+fn break_off(broken: &mut bool, mirror: &mut MemDisk) -> DiskFault
+    ensures broken { broken.new ≡ true }
+    ensures fails { Fails mirror.old mirror.new }
+{
+    *broken = true;
+    mirror.fail();
+    DiskFault
+}
+
+/// Brings what was written to a file to its device, or notes that it is broken.
+fn sync_or_break_off(file: &mut ToldFile, broken: &mut bool)
+    ensures same { file.new.holds ≡ file.old.holds }
+    ensures kept { broken.new ≡ false → IsTrue file.new.kept }
+    ensures still { broken.new ≡ false → broken.old ≡ false }
+{
+    match file.sync() {
+        Ok(()) => {}
+        Err(_) => *broken = true,
     }
 }
 
@@ -143,7 +163,7 @@ impl Disk for FileDisk {
 
     fn read(&mut self, at: usize, buf: &mut [u8]) -> Result<usize, DiskFault> {
         if self.broken {
-            return Err(self.break_off());
+            return Err(break_off(&mut self.broken, &mut self.mirror));
         }
         self.mirror.read(at, buf)
     }
@@ -152,28 +172,65 @@ impl Disk for FileDisk {
         self.mirror.reserve(end, calls)
     }
 
-    fn write_at(&mut self, at: usize, bytes: &[u8]) -> Result<(), DiskFault> {
+    /// At `Ok` the file was told what the disk now holds.
+    fn write_at(&mut self, at: usize, bytes: &[u8]) -> Result<(), DiskFault>
+        requires inside { at ≤ length (state_of self.old.mirror).seen }
+        requires room { at + length bytes.now ≤ (state_of self.old.mirror).end }
+        requires call { 0 < (state_of self.old.mirror).calls }
+        ensures written { OnOk result (Holds (state_of self.old.mirror).seen at bytes.now (state_of self.new.mirror).seen) }
+        ensures tears { Tears at (length bytes.now) (state_of self.old.mirror) (state_of self.new.mirror) }
+        ensures time { Elapses (state_of self.old.mirror) (state_of self.new.mirror) }
+        ensures room { Spends 1 (state_of self.old.mirror) (state_of self.new.mirror) }
+        ensures cause { HasCause (state_of self.old.mirror) (state_of self.new.mirror) result }
+
+        ensures told { OnOk result (IsTold self.new) }
+    {
         if self.broken {
-            return Err(self.break_off());
+            return Err(break_off(&mut self.broken, &mut self.mirror));
         }
-        self.mirror.write_at(at, bytes)?;
-        match self.file.write_all_at(bytes, at as u64) {
+        match self.mirror.write_at(at, bytes) {
+            Ok(()) => {}
+            Err(fault) => {
+                self.broken = true;
+                return Err(fault);
+            }
+        }
+        match self.file.write_at(at, bytes) {
             Ok(()) => Ok(()),
-            Err(_) => Err(self.break_off()),
+            Err(_) => Err(break_off(&mut self.broken, &mut self.mirror)),
         }
     }
 
-    fn sync(&mut self) -> Result<(), DiskFault> {
+    /// At `Ok` the file was told what the disk holds, and that was brought to its device.
+    fn sync(&mut self) -> Result<(), DiskFault>
+        requires { 0 < (state_of self.old.mirror).calls }
+        ensures settled { OnOk result (IsSettled (state_of self.new.mirror)) }
+        ensures same { SameBytes (state_of self.old.mirror) (state_of self.new.mirror) }
+        ensures room { Spends 1 (state_of self.old.mirror) (state_of self.new.mirror) }
+        ensures cause { HasCause (state_of self.old.mirror) (state_of self.new.mirror) result }
+
+        ensures kept { OnOk result (IsKept self.new) }
+    {
         if self.broken {
-            return Err(self.break_off());
+            return Err(break_off(&mut self.broken, &mut self.mirror));
         }
-        match self.file.sync_data() {
+        match self.file.sync() {
             Ok(()) => self.mirror.sync(),
-            Err(_) => Err(self.break_off()),
+            Err(_) => Err(break_off(&mut self.broken, &mut self.mirror)),
         }
     }
 
-    fn reopen(&mut self) {
-        self.mirror.reopen();
+    /// What was written is brought to its device: a file loses nothing where the program goes on. Where that fails, each
+    /// later call refuses.
+    fn reopen(&mut self)
+        ensures left { (state_of self.old.mirror).may_leave (state_of self.new.mirror).seen }
+        ensures settled { IsSettled (state_of self.new.mirror) }
+        ensures time { Elapses (state_of self.old.mirror) (state_of self.new.mirror) }
+        ensures never_fails { (state_of self.new.mirror).failed ≡ (state_of self.old.mirror).failed }
+
+        ensures kept { self.new.broken ≡ false → IsKept self.new }
+    {
+        sync_or_break_off(&mut self.file, &mut self.broken);
+        let _ = self.mirror.sync();
     }
 }

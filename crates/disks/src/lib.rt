@@ -12,15 +12,32 @@
 //! disk.reopen();                     // holds what the crash left
 //! ```
 //!
-//! A [`FileDisk`] keeps its bytes in a file, and a mirror of them in memory.
+//! A [`FileDisk`] keeps its bytes in a file, and a mirror of them in memory. A [`Pair`] is the two of a journal. Two
+//! files that are to be there both or not at all are made in a folder that then gets its name:
+//!
+//! ```text
+//! make_folder(rt, "bot/new")?;
+//! let pair = Pair::make(rt, "bot/new/first", "bot/new/second")?;
+//! // .. a journal is made on the pair
+//! rename_folder(rt, "bot/new", "bot/journal")?;
+//! // at each later start
+//! let pair = Pair::open(rt, "bot/journal/first", "bot/journal/second")?;
+//! ```
 #![tactic(auto)]
 
 mod bytes;
 mod countdown;
 mod file_disk;
+mod file_fault;
+mod folder;
 mod mem_disk;
+mod pair;
 mod tear;
+mod told_file;
 
-pub use crate::file_disk::{FileDisk, FileDiskError, FileFault};
+pub use crate::file_disk::FileDisk;
+pub use crate::file_fault::{FileDiskError, FileFault};
+pub use crate::folder::{make_folder, rename_folder, sync_folder};
 pub use crate::mem_disk::MemDisk;
+pub use crate::pair::Pair;
 pub use crate::tear::Tear;

@@ -2,8 +2,7 @@
 ghost use Rattle.std.specs.Prelude.{◌≡◌, ◌<◌, ◌≤◌, ◌+◌, ◌++◌, ◌↔◌, [], length, take, drop, IfOk, OnOk, OnErr, IsErr};
 ghost use Rattle.storage.specs.State.{IsSettled};
 ghost use Rattle.storage.specs.Calls.{Holds, Tears, Elapses, HasCause, Spends, SameBytes, read_count};
-ghost use Rattle.disks.specs.declared.tear.Tear.TheVariants.{New as all_written};
-ghost use Rattle.disks.specs.Plans.{IsDue, Leaves, no_plan, with_crash, with_read, with_tear, after_call, after_read, after_crash};
+ghost use Rattle.disks.specs.Plans.{IsDue, Leaves, no_plan, with_crash, with_read, after_call, after_read, after_crash};
 ghost use Rattle.disks.specs.Memory.{state_of, empty, with_plan, Fails};
 ghost use Rattle.disks.specs.Laws.{seen_is_left_of, counts_now_of, only_now_of};
 
@@ -92,13 +91,6 @@ impl MemDisk {
             failures: 0,
             history: History::new(),
         })
-    }
-
-    /// Lets a crash leave all that was written.
-    pub(crate) fn keep_writes(&mut self)
-        ensures { self.new ≡ with_plan (with_tear all_written self.old.plan) self.old }
-    {
-        self.tear = Tear::New;
     }
 
     /// Plans a crash: of the writes and syncs from now on the stated one (from 1) and all later ones fail, until
@@ -217,6 +209,7 @@ impl Disk for MemDisk {
         ensures plan { self.new.plan ≡ after_call self.old.plan }
         ensures kept { OnOk result (self.new.left ≡ self.old.content) }
         ensures not_kept { OnErr result (self.new.left ≡ self.old.left) }
+        ensures quiet { OnOk result (self.new.failures ≡ self.old.failures) }
     {
         if is_over(&mut self.works) {
             self.failures = self.failures.saturating_add(1);

@@ -36,6 +36,7 @@ use std::process::ExitCode;
 use std::rt::Env;
 use std::time::Clock;
 use std::{env, io};
+use streams::Duplex;
 
 /// The status of a script that breaks a rule.
 const SCRIPT_FAULT: u8 = 1;
@@ -232,9 +233,8 @@ fn replayed<R: Input + Print + Eprint + AllocGlobal, B: Run>(
     rt: &R,
     store: ProcStore<Ours, B>,
 ) -> u8 {
-    let mut reader = rt.reader();
-    let mut writer = io::writer(rt);
-    match replay(rt.alloc(), store, &mut reader, &mut writer) {
+    let mut stream = Duplex::new(rt.reader(), io::writer(rt));
+    match replay(rt.alloc(), store, &mut stream) {
         Ok(()) => 0,
         Err(error) => told(rt, error),
     }
@@ -245,9 +245,8 @@ fn lived<R: Input + Print + Eprint + AllocGlobal + Net, B: Run>(
     rt: &R,
     store: ProcStore<Ours, B>,
 ) -> u8 {
-    let mut reader = rt.reader();
-    let mut writer = io::writer(rt);
-    match live(rt, store, &mut reader, &mut writer) {
+    let mut stream = Duplex::new(rt.reader(), io::writer(rt));
+    match live(rt, store, &mut stream) {
         Ok(()) => 0,
         Err(error) => live_told(rt, error),
     }

@@ -1,19 +1,21 @@
-//! A bot of one's own: two procs, what they promise, and a botnet of one bot that reads a few lines.
+//! A bot of one's own: two procs, what they promise, and a bot that is told a few things.
 //!
-//! It prints of each line how many procs it called and whether it is logged, and at the end how many users there are.
+//! It prints of each how many procs it called and whether it is logged, and at the end how many users there are.
 #![tactic(auto)]
 
 ghost use Rattle.std.specs.Prelude.{◌≡◌, codes, IfOk};
-ghost use Rattle.botworld.specs.Network.{AllNew};
+ghost use Rattle.botcore.specs.Steps.{IsGoodEvent};
 ghost use Rattle.examplebot.specs.Ours.{hushed, nick_of, welcomed, Keeps};
 
 use bindtable::BindKind;
-use botcore::{Bot, Config, Event, NewBind};
-use botworld::{Outcome, Step, World};
+use botcore::{Bot, BotError, Config, Event, NewBind};
+use bottimers::Zone;
 use bytetext::{NoMemory, Text, Texts};
 use disks::MemDisk;
 use ircline::read_line;
-use procstore::{Action, Actions, Body, Call, Code, Proc, ProcStore, Promise, Reply, Run};
+use procstore::{
+    Action, Actions, AddError, Body, Call, Code, Proc, ProcStore, Promise, Reply, Run,
+};
 use std::alloc::Global;
 use userfile::Change;
 
@@ -75,11 +77,11 @@ fn main(rt: HostRuntime) -> Result<(), anyhow::Error> {
             ensures { IfOk result (λ reply. reply ≡ hushed) }
         { Ok(hush(alloc)) },
     )?;
-    read_lines(&rt, welcoming, hushing)
+    run(&rt, welcoming, hushing)
 }
 
-// Makes a store of the two procs and a world of one bot, and has it read a few lines.
-fn read_lines<R: Print + AllocGlobal, B: Run>(
+// Makes a store of the two procs and a bot, and tells it what there is to tell.
+fn run<R: Print + AllocGlobal, B: Run>(
     rt: &R,
     welcoming: B,
     hushing: B,
@@ -91,83 +93,115 @@ fn read_lines<R: Print + AllocGlobal, B: Run>(
 {
     let alloc = rt.alloc();
     let mut store: ProcStore<Ours, B> = ProcStore::new(alloc);
-    let name = Text::from_slice(alloc, b"welcome")?;
-    if let Err(refused) = store.add(alloc, Proc::new(name, welcoming)) {
-        return Err(refused.why.into());
-    }
-    let name = Text::from_slice(alloc, b"hush")?;
-    if let Err(refused) = store.add(alloc, Proc::new(name, hushing)) {
-        return Err(refused.why.into());
-    }
-    let mut world = match World::new(alloc, hub(alloc)?, store) {
-        Ok(world) => world,
-        Err(refused) => return Err(refused.why.into()),
-    };
-    let transcript = world.run(alloc, &steps(alloc)?);
-    for outcome in transcript.outcomes.as_slice() {
-        tell(rt, outcome)?;
-    }
-    let users = world
-        .userfile(0)
-        .map_or(0, |userfile| userfile.user_count());
-    println!(rt; "{users} users")?;
+    add(alloc, &mut store, b"welcome", welcoming)?;
+    add(alloc, &mut store, b"hush", hushing)?;
+    let mut bot = hub(alloc)?;
+    tell_all(rt, &mut bot, &store)?;
+    println!(rt; "{} users", bot.userfile().user_count())?;
     Ok(())
 }
 
-// The only bot: the hub of a net without leaves, with its journal on two disks in memory.
-fn hub(alloc: Global) -> Result<Vec<Bot<MemDisk>>, anyhow::Error>
-    ensures { IfOk result (λ bots. AllNew bots.items) }
+// Adds a proc of this name.
+fn add<B: Run>(
+    alloc: Global,
+    store: &mut ProcStore<Ours, B>,
+    name: &[u8],
+    body: B,
+) -> Result<(), AddError>
+    requires runs { B.can_run body }
+    requires keeps { Keeps name.now (B.answers body) }
 {
+    let name = Text::from_slice(alloc, name)?;
+    match store.add(alloc, Proc::new(name, body)) {
+        Ok(()) => Ok(()),
+        Err(refused) => Err(refused.why),
+    }
+}
+
+// The hub of a net without leaves, with its journal on two disks in memory.
+fn hub(alloc: Global) -> Result<Bot<MemDisk>, BotError> {
     let config = Config {
         number: 0,
         leaves: 0,
         nick: Text::from_slice(alloc, b"egg")?,
         channels: Texts::empty(alloc),
         exclusive: false,
-        offset: 0,
+        zone: Zone::fixed(0).unwrap(),
     };
     match Bot::create(alloc, config, MemDisk::new(alloc), MemDisk::new(alloc)) {
-        Ok(hub) => Ok(vec![in alloc; hub]?),
-        Err(returned) => Err(returned.error.into()),
+        Ok(hub) => Ok(hub),
+        Err(returned) => Err(returned.error),
     }
 }
 
-// Two binds, three lines, and a pump, which does what a proc asked for.
-fn steps(alloc: Global) -> Result<[Step; 6], NoMemory> {
-    Ok([
-        at_hub(bind(alloc, BindKind::Msg, b"hello", b"welcome")?),
-        at_hub(bind(alloc, BindKind::Pubm, b"% *secret*", b"hush")?),
-        at_hub(line(alloc, b":egg!egg@host JOIN #egg")?),
-        at_hub(line(alloc, b":ann!a@host PRIVMSG egg :hello")?),
-        at_hub(line(alloc, b":ann!a@host PRIVMSG #egg :the secret word")?),
-        at_hub(Event::Pump),
-    ])
+// What the bot reads.
+const LINES: [&[u8]; 3] = [
+    b":egg!egg@host JOIN #egg",
+    b":ann!a@host PRIVMSG egg :hello",
+    b":ann!a@host PRIVMSG #egg :the secret word",
+];
+
+// Two binds, the lines, and a pump, which does what a proc asked for.
+fn tell_all<R: Print + AllocGlobal, B: Run>(
+    rt: &R,
+    bot: &mut Bot<MemDisk>,
+    store: &ProcStore<Ours, B>,
+) -> Result<(), anyhow::Error> {
+    let alloc = rt.alloc();
+    tell(
+        rt,
+        bot,
+        store,
+        bind(alloc, BindKind::Msg, b"hello", b"welcome")?,
+    )?;
+    tell(
+        rt,
+        bot,
+        store,
+        bind(alloc, BindKind::Pubm, b"% *secret*", b"hush")?,
+    )?;
+    for text in LINES {
+        tell(rt, bot, store, line(alloc, text)?)?;
+    }
+    tell(rt, bot, store, Event::Pump)
 }
 
-fn at_hub(event: Event) -> Step {
-    Step::At { bot: 0, event }
+// Does one step of the bot, and prints what it called.
+fn tell<R: Print + AllocGlobal, B: Run>(
+    rt: &R,
+    bot: &mut Bot<MemDisk>,
+    store: &ProcStore<Ours, B>,
+    event: Event,
+) -> Result<(), anyhow::Error>
+    requires { IsGoodEvent event }
+{
+    let report = bot.step(rt.alloc(), store, event);
+    println!(rt; "{} calls, logged {}", report.calls.len(), report.logged)?;
+    Ok(())
 }
 
 // A bind that anybody may call.
-fn bind(alloc: Global, kind: BindKind, mask: &[u8], proc: &[u8]) -> Result<Event, NoMemory> {
-    Ok(Event::Bind(NewBind {
-        kind,
-        flags: Text::from_slice(alloc, b"*")?,
-        mask: Text::from_slice(alloc, mask)?,
-        proc: Text::from_slice(alloc, proc)?,
-    }))
-}
-
-fn line(alloc: Global, text: &[u8]) -> Result<Event, NoMemory> {
-    Ok(Event::Line(read_line(alloc, text)?))
-}
-
-// Prints what a step called.
-fn tell<R: Print>(rt: &R, outcome: &Outcome) -> Result<(), anyhow::Error> {
-    if let Outcome::Report(report) = outcome {
-        let calls = report.calls.len();
-        let logged = report.logged;
-        println!(rt; "{calls} calls, logged {logged}")?;
+fn bind(alloc: Global, kind: BindKind, mask: &[u8], proc: &[u8]) -> Result<Event, NoMemory>
+    ensures { IfOk result IsGoodEvent }
+{
+    match (
+        Text::from_slice(alloc, b"*"),
+        Text::from_slice(alloc, mask),
+        Text::from_slice(alloc, proc),
+    ) {
+        (Ok(flags), Ok(mask), Ok(proc)) => Ok(Event::Bind(NewBind {
+            kind,
+            flags,
+            mask,
+            proc,
+        })),
+        (_, _, _) => Err(NoMemory),
     }
-    Ok(())
+}
+
+// A line of the server.
+fn line(alloc: Global, text: &[u8]) -> Result<Event, NoMemory>
+    ensures { IfOk result IsGoodEvent }
+{
+    Ok(Event::Line(read_line(alloc, text)?))
 }

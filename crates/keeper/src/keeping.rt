@@ -4,51 +4,71 @@ ghost use Rattle.storage.specs.State.{IsSettled};
 ghost use Rattle.botcore.specs.Steps.{IsGoodEvent};
 
 use crate::stop::Stop;
+use crate::words::Asked;
 use botcore::{Bot, Config, End, Event};
+use bottimers::Zone;
 use bytetext::{NoMemory, Text, Texts};
-use disks::FileDisk;
-use noprocs::Nobodies;
-use procstore::ProcStore;
+use disks::{FileDisk, Pair};
+use journalstart::was_never_made;
+use procstore::{Nobodies, ProcStore};
 use std::alloc::Global;
 use std::fs::File;
 use std::rt::Files;
-use storage::Disk;
 use userfile::{Change, Userfile};
 
 /// After how many changes the journal is written anew.
 const A_BASE: u32 = 50;
 
-/// Has the hub in these files accept so many changes, and prints the number of each.
+/// Has the hub in the files accept so many changes, and prints the number of each.
 pub fn keep<R: AllocGlobal + Files<File = File> + Print>(
     rt: &R,
-    first: &str,
-    second: &str,
-    count: u64,
+    asked: &Asked,
 ) -> Result<(), Stop> {
-    let first = FileDisk::open(rt, first)?;
-    let second = FileDisk::open(rt, second)?;
-    let mut hub = hub_on(rt.alloc(), first, second)?;
+    let first = asked.first.as_str();
+    let second = asked.second.as_str();
+    let mut hub = if asked.is_old {
+        old_hub(rt.alloc(), Pair::open(rt, first, second)?)?
+    } else {
+        hub_on(rt.alloc(), Pair::make(rt, first, second)?)?
+    };
     let store: Nobodies = ProcStore::new(rt.alloc());
     println!(rt; "held {}", hub.version())?;
-    for _ in 0..count {
+    for _ in 0..asked.count {
         accept_one(rt.alloc(), &mut hub, &store)?;
         println!(rt; "{}", hub.version())?;
     }
     Ok(())
 }
 
-// The hub whose journal these disks hold, which is made where both are empty.
-fn hub_on(alloc: Global, first: FileDisk, second: FileDisk) -> Result<Bot<FileDisk>, Stop>
-    requires first_settled { IsSettled (state_of first.mirror) }
-    requires second_settled { IsSettled (state_of second.mirror) }
+// The hub whose journal these disks hold, which is made where none ever was: then nothing was told of one.
+fn hub_on(alloc: Global, disks: Pair) -> Result<Bot<FileDisk>, Stop>
+    requires first_settled { IsSettled (state_of disks.first.mirror) }
+    requires second_settled { IsSettled (state_of disks.second.mirror) }
 {
-    let config = lone_hub(alloc)?;
-    let hub = if first.len() == 0 && second.len() == 0 {
-        Bot::create(alloc, config, first, second)
-    } else {
-        Bot::open(alloc, config, first, second)
-    };
-    match hub {
+    let mut disks = disks;
+    if was_never_made(&mut disks.first, &mut disks.second)? {
+        return new_hub(alloc, disks);
+    }
+    old_hub(alloc, disks)
+}
+
+// A new hub, whose journal these disks hold from now on.
+fn new_hub(alloc: Global, disks: Pair) -> Result<Bot<FileDisk>, Stop>
+    requires first_settled { IsSettled (state_of disks.first.mirror) }
+    requires second_settled { IsSettled (state_of disks.second.mirror) }
+{
+    match Bot::create(alloc, lone_hub(alloc)?, disks.first, disks.second) {
+        Ok(hub) => Ok(hub),
+        Err(returned) => Err(Stop::from(returned.error)),
+    }
+}
+
+// The hub whose journal these disks hold.
+fn old_hub(alloc: Global, disks: Pair) -> Result<Bot<FileDisk>, Stop>
+    requires first_settled { IsSettled (state_of disks.first.mirror) }
+    requires second_settled { IsSettled (state_of disks.second.mirror) }
+{
+    match Bot::open(alloc, lone_hub(alloc)?, disks.first, disks.second) {
         Ok(hub) => Ok(hub),
         Err(returned) => Err(Stop::from(returned.error)),
     }
@@ -62,7 +82,7 @@ fn lone_hub(alloc: Global) -> Result<Config, NoMemory> {
         nick: Text::from_slice(alloc, b"keeper")?,
         channels: Texts::empty(alloc),
         exclusive: false,
-        offset: 0,
+        zone: Zone::fixed(0).unwrap(),
     })
 }
 

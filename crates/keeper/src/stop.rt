@@ -5,6 +5,7 @@ use disks::{FileDiskError, FileFault};
 use std::alloc::AllocError;
 use std::io;
 use std::io::ErrorKind;
+use storage::DiskFault;
 use thiserror::Error;
 
 /// Why the program ends early.
@@ -20,11 +21,14 @@ pub enum Stop {
     #[error("the hub in these files has other users: give other files")]
     OtherUsers,
     /// The command line is not understood.
-    #[error("say keeper FILE FILE [COUNT]")]
+    #[error("say keeper [--old] FILE FILE [COUNT]")]
     Words,
     /// A file can't be used as a disk.
     #[error("{0}")]
     File(FileFault),
+    /// A disk failed before the hub was there.
+    #[error("{0}")]
+    Disk(DiskFault),
     /// The command line can't be read, or standard output can't be written.
     #[error("the command line can't be read, or standard output can't be written")]
     Stream,
@@ -37,7 +41,7 @@ impl Stop {
     /// The status that the program ends with.
     pub fn status(self) -> u8 {
         match self {
-            Stop::Bot(_) | Stop::Step(_) | Stop::OtherUsers => 1,
+            Stop::Bot(_) | Stop::Step(_) | Stop::OtherUsers | Stop::Disk(_) => 1,
             Stop::Words => 2,
             Stop::File(_) | Stop::Stream => 3,
             Stop::NoMemory => 4,
@@ -60,6 +64,12 @@ impl From<FileDiskError> for Stop {
             FileDiskError::Refused(fault) => Stop::File(fault),
             FileDiskError::NoMemory => Stop::NoMemory,
         }
+    }
+}
+
+impl From<DiskFault> for Stop {
+    fn from(fault: DiskFault) -> Stop {
+        Stop::Disk(fault)
     }
 }
 

@@ -6,6 +6,8 @@ use std::rt::Env;
 /// What the command line asks for.
 #[derive(Drop)]
 pub struct Asked {
+    /// Whether the hub has to be there already.
+    pub is_old: bool,
     pub first: String,
     pub second: String,
     /// How many changes to ask for.
@@ -16,7 +18,12 @@ pub struct Asked {
 pub fn asked_of<R: AllocGlobal + Env>(rt: &R) -> Result<Asked, Stop> {
     let mut words = env::args(rt)?;
     let _program = words.next();
-    let (Some(first), Some(second)) = (words.next(), words.next()) else {
+    let Some(word) = words.next() else {
+        return Err(Stop::Words);
+    };
+    let is_old = word.as_str() == "--old";
+    let first = if is_old { words.next() } else { Some(word) };
+    let (Some(first), Some(second)) = (first, words.next()) else {
         return Err(Stop::Words);
     };
     let count = match words.next() {
@@ -27,6 +34,7 @@ pub fn asked_of<R: AllocGlobal + Env>(rt: &R) -> Result<Asked, Stop> {
         return Err(Stop::Words);
     }
     Ok(Asked {
+        is_old,
         first,
         second,
         count,

@@ -1,21 +1,13 @@
 //! Tests of the pure parts, of what no clause says and no line of `vectors` shows: each public call once where it does its
-//! work, with whole values, and worked examples that need more than one line. A module is the tests of one library.
+//! work, with whole values. A module is the tests of one library.
 #![tactic(auto)]
 
 #[cfg(test)]
-mod channels;
-#[cfg(test)]
-mod clock;
+mod duplexes;
 #[cfg(test)]
 mod flags;
 #[cfg(test)]
 mod folding;
-#[cfg(test)]
-mod lines;
-#[cfg(test)]
-mod masks;
-#[cfg(test)]
-mod queues;
 #[cfg(test)]
 mod texts;
 #[cfg(test)]

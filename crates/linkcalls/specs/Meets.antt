@@ -43,8 +43,8 @@ module _ {S : Type 0} where
     pub sends : row.sends ≡ []
     pub after : new ≡ row.after
 
-  -- what takes memory: an ask or a part that is kept, a text that is told, a reply or anything else that is journaled, and
-  -- packets, if there are any; and parts are put together before it is known whether they are a userfile
+  -- What takes memory: an ask or a part that is kept, a text that is told, a reply or anything else that is journaled, and
+  -- packets, if there are any. No refusal does: also that records differ is known before anything is kept.
   abbrev pub TakesMemory : (How → Row S) → Result Meaning Fault → Type 0
   TakesMemory row (Ok Queued) = Unit {0}
   TakesMemory row (Ok Idle) = 0 < length (row Works).sends
@@ -64,7 +64,7 @@ module _ {S : Type 0} where
   TakesMemory row (Ok (Text from text)) = Unit {0}
   TakesMemory row (Ok Stray) = ⊥
   TakesMemory row (Ok (Restarted version)) = Unit {0}
-  TakesMemory row (Err Apart) = Unit {0}
+  TakesMemory row (Err Apart) = ⊥
   TakesMemory row (Err IsDown) = ⊥
   TakesMemory row (Err (BadAsk fault)) = ⊥
   TakesMemory row (Err NoRoom) = ⊥

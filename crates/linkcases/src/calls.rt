@@ -7,7 +7,7 @@ use crate::net::{Good, Net, Place, Sent};
 use crate::print::{put, put_code, put_note, put_number, put_packet, records_text};
 use crate::stop::CaseError;
 use botlink::BotLink;
-use bytetext::{Failure, NoMemory};
+use bytetext::{Failure, NoMemory, TryCopy};
 use disks::MemDisk;
 use linkcalls::{Answer, LinkError, Outgoing};
 use std::alloc::Global;
@@ -64,7 +64,7 @@ fn answer_of(alloc: Global, link: &mut BotLink<MemDisk>, call: Call) -> Result<A
     }
 }
 
-// Prints what a call answered, and sends its packets.
+// Prints what a call answered, and sends its packets, both by a copy of the answer.
 fn tell(
     alloc: Global,
     net: &mut Net,
@@ -75,15 +75,25 @@ fn tell(
     requires { GoOut (MAX_LEAVES + 1) answer }
 {
     match answer {
-        Ok(answer) => {
-            send(alloc, net, bot, answer.packets.as_slice(), out)?;
-            put_number(out, u64::from(bot))?;
-            put_note(out, &answer.note)?;
-            put(out, b"\n")
-        }
+        Ok(answer) => tell_copy(alloc, net, bot, answer.copy(alloc)?, out),
         Err(Failure::Refused(fault)) => put_code(out, bot, b"refused", fault.code()),
         Err(Failure::NoMemory) => Err(NoMemory),
     }
+}
+
+fn tell_copy(
+    alloc: Global,
+    net: &mut Net,
+    bot: u16,
+    answer: Answer,
+    out: &mut Vec<u8>,
+) -> Result<(), NoMemory>
+    requires { AreGood answer.packets }
+{
+    send(alloc, net, bot, answer.packets.as_slice(), out)?;
+    put_number(out, u64::from(bot))?;
+    put_note(out, &answer.note)?;
+    put(out, b"\n")
 }
 
 // send K A>B KIND DETAIL

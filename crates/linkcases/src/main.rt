@@ -29,11 +29,10 @@
 //! writing fails; with 4 where memory runs out. Nothing stands on standard output then.
 //!
 //! The crate's files `stdin` and `stdout` hold the cases. What is answered was worked out by an independent model,
-//! `benchmarks/links/model.py`, and `scripts.py` beside it wrote the cases.
+//! `trials/links/model.py`, and `scripts.py` beside it wrote the cases.
 #![tactic(auto)]
 
 mod calls;
-mod changes;
 mod devices;
 mod net;
 mod play;

@@ -4,13 +4,13 @@ ghost use Rattle.std.specs.List.{AllByRecursion};
 ghost use Rattle.sharewire.specs.Frames.{IsGoodPacket};
 
 use crate::calls::{Call, make};
-use crate::changes::change_of;
 use crate::devices::{hold, plan, plan_read};
 use crate::net::{Good, Leaves, Net, Place};
 use crate::print::{put, put_number, records_text};
 use crate::stop::{CaseError, NO_STEP, Stop};
 use crate::words::{bytes_of, cut, number};
 use bytetext::{NoMemory, Seq};
+use scriptwords::change_of;
 use sharewire::{Packet, WireReader};
 use std::alloc::Global;
 
@@ -134,8 +134,10 @@ fn ask(
     change: &[u8],
     out: &mut Vec<u8>,
 ) -> Result<(), CaseError> {
-    let change = change_of(alloc, change)?;
-    make(alloc, net, bot, Call::Ask(change), out)
+    match change_of(alloc, change)? {
+        Some(change) => make(alloc, net, bot, Call::Ask(change), out),
+        None => Err(NO_STEP),
+    }
 }
 
 // `leaves N`

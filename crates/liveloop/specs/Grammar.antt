@@ -11,11 +11,11 @@ use Rattle.script.specs.Words.{words_of}
 use Rattle.script.specs.declared.command.Command.{Command as ReplayCommand}
 use Rattle.script.specs.declared.command.Command.TheVariants.{Steps as replay_steps, Show as replay_show}
 use Rattle.script.specs.declared.saying.Saying.{Saying as ReplaySaying}
-use Rattle.script.specs.declared.saying.Saying.TheVariants.{Nothing as replay_nothing, Leaves as replay_leaves, Told as replay_told, Wrong as replay_wrong}
+use Rattle.script.specs.declared.saying.Saying.TheVariants.{Nothing as replay_nothing, Leaves as replay_leaves, Zone as replay_zone, Told as replay_told, Wrong as replay_wrong}
 use Rattle.liveloop.specs.declared.command.Command.{Command}
 use Rattle.liveloop.specs.declared.command.Command.TheVariants.{Tell, Connect as connects, Show, Until, Turns, Guest, Say, Heard, Clock as shows}
 use Rattle.liveloop.specs.declared.saying.Saying.{Saying}
-use Rattle.liveloop.specs.declared.saying.Saying.TheVariants.{Nothing, Leaves, Told, Wrong}
+use Rattle.liveloop.specs.declared.saying.Saying.TheVariants.{Nothing, Leaves, Zone, Told, Wrong}
 use Rattle.liveloop.specs.Words.{own_command}
 
 -- the server gives a bot its lines, the hub its packets, and one clock is all bots'
@@ -49,6 +49,7 @@ shared_command (replay_steps steps) = shared_step (last_step steps)
 abbrev pub shared_saying : ReplaySaying → Saying
 shared_saying replay_nothing = Nothing
 shared_saying (replay_leaves leaves) = Leaves leaves
+shared_saying (replay_zone rule) = Zone rule
 shared_saying (replay_told command) = shared_command command
 shared_saying replay_wrong = Wrong
 
@@ -75,5 +76,6 @@ IsGoodCommand (shows moment) = Unit {0}
 abbrev pub IsGoodSaying : Saying → Type 0
 IsGoodSaying Nothing = Unit {0}
 IsGoodSaying (Leaves leaves) = Unit {0}
+IsGoodSaying (Zone rule) = Unit {0}
 IsGoodSaying (Told command) = IsGoodCommand command
 IsGoodSaying Wrong = Unit {0}

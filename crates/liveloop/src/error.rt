@@ -11,10 +11,10 @@ pub enum LiveError {
     /// The script breaks a rule. No socket was opened, and nothing was written.
     #[error("{0}")]
     Script(ScriptFault),
-    /// The reader answered a fault. No socket was opened, and nothing was written.
+    /// The stream failed as it was asked for bytes. No socket was opened, and nothing was written.
     #[error("read fault")]
     Read,
-    /// The writer answered a fault, or took nothing.
+    /// The stream failed as it was offered bytes, or took none.
     #[error("write fault")]
     Write,
     /// A socket can't be opened, or its port can't be told.

@@ -5,7 +5,7 @@ ghost use Rattle.botcore.specs.Steps.{IsGoodEvent};
 
 use crate::moment::Moment;
 use botcore::{Bot, End, Event, Report};
-use botdrive::{DriveEnd, drive_bytes};
+use botdrive::{DriveEnd, drive};
 use bytetext::NoMemory;
 use ircline::LineReader;
 use linkcalls::Outgoings;
@@ -13,6 +13,7 @@ use loopback::Peer;
 use procstore::{ProcStore, Promise, Run};
 use std::alloc::Global;
 use storage::Disk;
+use streams::Memory;
 
 /// Does one step of a bot. What its lines to the server and its notes are is not told here: lines go with the clock, and
 /// the clock with [`hear`].
@@ -56,19 +57,11 @@ pub fn hear<P: Promise, D: Disk, B: Run>(
     ensures sends { IfOk result AreGood }
 {
     let heard = irc.take_heard(alloc);
-    let mut bytes = heard.as_slice();
-    let report = drive_bytes(
-        alloc,
-        bot,
-        store,
-        lines,
-        &mut bytes,
-        irc.unsent(),
-        now.seconds(),
-    );
+    let mut stream = Memory::new(heard.as_slice(), irc.unsent());
+    let report = drive(alloc, bot, store, lines, &mut stream, now.seconds());
     match report.end {
         DriveEnd::Done => Ok(report.packets),
-        // Bytes that are all there have no fault, and what is written to memory fails for want of it alone.
+        // A stream in memory never fails to give, and to take for want of memory alone.
         DriveEnd::Read | DriveEnd::Write | DriveEnd::NoMemory => Err(NoMemory),
     }
 }

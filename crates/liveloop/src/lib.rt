@@ -14,7 +14,7 @@
 //! `say` or `heard` of one who is no guest does nothing. Only `show` and `heard` print.
 //!
 //! ```text
-//! live(&rt, store, &mut reader, &mut writer)?;     // leaves 0, until 0, show 0: 0 version 0 users 0 bans 0
+//! live(&rt, store, &mut Duplex::new(reader, writer))?;     // leaves 0, until 0, show 0: 0 version 0 users 0 bans 0
 //! ```
 #![tactic(auto)]
 

@@ -4,15 +4,17 @@ ghost use Rattle.liveloop.specs.Grammar.{IsGoodCommand, IsGoodSaying};
 use crate::MAX_LEAVES;
 use crate::command::{Command, Commands};
 use crate::saying::{Saying, saying_of};
+use bottimers::Zone;
 use bytetext::{Failure, NoMemory};
 use script::{MAX_SCRIPT, ScriptError, ScriptFault, pieces_of};
 use std::alloc::Global;
 use std::marker::Model;
 
-/// A live script: how many leaves the botnet has, and what is done with it.
+/// A live script: how many leaves the botnet has, in which zone, and what is done with it.
 #[derive(Drop)]
 pub struct LiveScript {
     leaves: u16,
+    zone: Option<Zone>,
     commands: Commands,
 }
 
@@ -23,7 +25,7 @@ impl Model for LiveScript {
 
     ghost Value = { Script };
 
-    ghost view = { λ s. record { leaves = s.leaves; commands = s.commands } };
+    ghost view = { λ s. record { leaves = s.leaves; zone = s.zone; commands = s.commands } };
 
     ghost use Rattle.std.specs.List.{AllByRecursion};
     ghost use Rattle.liveloop.specs.Grammar.{IsGoodCommand};
@@ -32,7 +34,7 @@ impl Model for LiveScript {
 }
 
 impl LiveScript {
-    ghost use Rattle.std.specs.Prelude.{◌≡◌, ◌≤◌};
+    ghost use Rattle.std.specs.Prelude.{◌≡◌, ◌≤◌, None};
     ghost use Rattle.std.specs.List.{AllByRecursion};
     ghost use Rattle.liveloop.specs.Grammar.{IsGoodCommand};
     ghost use Rattle.liveloop.specs.declared.TheConstants.{MAX_LEAVES};
@@ -56,6 +58,14 @@ impl LiveScript {
         ensures few { result ≤ MAX_LEAVES }
     {
         self.leaves
+    }
+
+    /// Takes the zone of all bots' clocks out, where the script says it. Takes no memory.
+    pub fn take_zone(&mut self) -> Option<Zone>
+        ensures value { result ≡ self.old.zone }
+        ensures kept { self.new ≡ record self.old { zone = None } }
+    {
+        self.zone.take()
     }
 
     /// The commands, in order. Takes no memory.
@@ -94,6 +104,7 @@ fn go_on(alloc: Global, script: &mut Option<LiveScript>, saying: Saying) -> Resu
     match saying {
         Saying::Nothing => Ok(true),
         Saying::Leaves(leaves) => Ok(set_leaves(alloc, script, leaves)),
+        Saying::Zone(zone) => Ok(set_zone(script, zone)),
         Saying::Told(command) => add_command(script, command),
         Saying::Wrong => Ok(false),
     }
@@ -105,8 +116,26 @@ fn set_leaves(alloc: Global, script: &mut Option<LiveScript>, leaves: u16) -> bo
         return false;
     }
     let commands = Commands::empty(alloc);
-    *script = Some(LiveScript { leaves, commands });
+    *script = Some(LiveScript {
+        leaves,
+        zone: None,
+        commands,
+    });
     true
+}
+
+// Sets the zone, which is said once, after the number of leaves and before any command.
+fn set_zone(script: &mut Option<LiveScript>, zone: Zone) -> bool {
+    match script {
+        Some(begun) => {
+            if begun.zone.is_some() || !begun.commands.is_empty() {
+                return false;
+            }
+            begun.zone = Some(zone);
+            true
+        }
+        None => false,
+    }
 }
 
 // Adds a command, after the number of leaves.

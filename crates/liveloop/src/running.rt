@@ -11,62 +11,63 @@ use crate::error::LiveError;
 use crate::network::Network;
 use crate::reading::LiveScript;
 use crate::turns::{tell, turn};
+use bottimers::Zone;
 use bytetext::{NoMemory, Text};
 use procstore::{ProcStore, Promise, Run};
-use replay::{new_bots, put_records, script_bytes, write_text};
+use replay::{new_bots, put_records, script_bytes, write_text, zone_or_utc};
 use std::alloc::Global;
-use std::io::{Read, Write};
 use std::net::Net;
+use streams::Stream;
 
 /// Reads a live script whole, and does its commands with a botnet over sockets, whose binds call the procs of this
 /// store. What a `show` or `heard` prints is written when that command is done.
 ///
-/// The reader is read to its end, or to the first byte above 1,048,576.
+/// The stream is read to its end, or to the first byte above 1,048,576.
 ///
 /// # Errors
-/// `Read` where the reader answers a fault; then `Script` with the first line that breaks a rule; each before a socket
+/// `Read` where the stream fails or would have to wait for bytes; then `Script` with the first line that breaks a rule; each before a socket
 /// is opened. Then the first that a command meets: `Socket` where the system opens no socket, `Stalled` where a bot is
-/// below its version after the turns of an `until`, `Write` where the writer answers a fault or takes nothing. `NoMemory`
-/// where a growth is refused.
-pub fn live<R: Net + AllocGlobal, P: Promise, B: Run, I: Read, W: Write>(
+/// below its version after the turns of an `until`, `Write` where the stream fails as it is offered bytes or takes none.
+/// `NoMemory` where a growth is refused.
+pub fn live<R: Net + AllocGlobal, P: Promise, B: Run, S: Stream>(
     rt: &R,
     store: ProcStore<P, B>,
-    reader: &mut I,
-    writer: &mut W,
+    stream: &mut S,
 ) -> Result<(), LiveError> {
-    let script = read_script(rt.alloc(), reader)?;
-    play(rt, &store, script, writer)
+    let script = read_script(rt.alloc(), stream)?;
+    play(rt, &store, script, stream)
 }
 
-// The script that a reader gives.
-fn read_script<I: Read>(alloc: Global, reader: &mut I) -> Result<LiveScript, LiveError> {
-    let bytes = script_bytes(alloc, reader)?;
+// The script that a stream gives.
+fn read_script<S: Stream>(alloc: Global, stream: &mut S) -> Result<LiveScript, LiveError> {
+    let bytes = script_bytes(alloc, stream)?;
     Ok(LiveScript::read(alloc, bytes.as_slice())?)
 }
 
 // Does a script with a botnet of its own.
-fn play<R: Net + AllocGlobal, P: Promise, B: Run, W: Write>(
+fn play<R: Net + AllocGlobal, P: Promise, B: Run, S: Stream>(
     rt: &R,
     store: &ProcStore<P, B>,
     script: LiveScript,
-    writer: &mut W,
+    stream: &mut S,
 ) -> Result<(), LiveError> {
     match Network::open(rt, script.leaves()) {
-        Ok(mut net) => begin(rt, &mut net, store, script, writer),
+        Ok(mut net) => begin(rt, &mut net, store, script, stream),
         Err(fault) => Err(LiveError::from(fault)),
     }
 }
 
 // Does a script with a botnet that has no bot yet.
-fn begin<R: Net + AllocGlobal, P: Promise, B: Run, W: Write>(
+fn begin<R: Net + AllocGlobal, P: Promise, B: Run, S: Stream>(
     rt: &R,
     net: &mut Network,
     store: &ProcStore<P, B>,
-    script: LiveScript,
-    writer: &mut W,
+    mut script: LiveScript,
+    stream: &mut S,
 ) -> Result<(), LiveError> {
-    fill(rt, net, store, script.leaves())?;
-    do_all(rt, net, store, script.into_commands(), writer)
+    let zone = zone_or_utc(script.take_zone());
+    fill(rt, net, store, script.leaves(), &zone)?;
+    do_all(rt, net, store, script.into_commands(), stream)
 }
 
 // Gives a botnet its bots.
@@ -75,26 +76,27 @@ fn fill<R: Net + AllocGlobal, P: Promise, B: Run>(
     net: &mut Network,
     store: &ProcStore<P, B>,
     leaves: u16,
+    zone: &Zone,
 ) -> Result<(), LiveError>
     requires { leaves ≤ most_leaves }
 {
-    net.bots = new_bots(rt.alloc(), leaves)?;
+    net.bots = new_bots(rt.alloc(), leaves, zone)?;
     net.connect_all(rt, store)
 }
 
 // Does commands, and writes what each prints.
-fn do_all<R: Net + AllocGlobal, P: Promise, B: Run, W: Write>(
+fn do_all<R: Net + AllocGlobal, P: Promise, B: Run, S: Stream>(
     rt: &R,
     net: &mut Network,
     store: &ProcStore<P, B>,
     commands: Commands,
-    writer: &mut W,
+    stream: &mut S,
 ) -> Result<(), LiveError>
     requires good { AllByRecursion IsGoodCommand commands }
 {
     for command in commands.into_vec() {
         let text = done(rt, net, store, command)?;
-        write_text(writer, text.as_slice())?;
+        write_text(stream, text.as_slice())?;
     }
     Ok(())
 }

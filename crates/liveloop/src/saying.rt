@@ -5,6 +5,7 @@ ghost use Rattle.liveloop.specs.Grammar.{IsGoodSaying, last_step, saying_of, sha
 use crate::command::Command;
 use crate::own_words::own_command;
 use botcore::Event;
+use bottimers::Zone;
 use botworld::Step;
 use bytetext::NoMemory;
 use script::{Command as ReplayCommand, Saying as ReplaySaying, Steps, pieces_of};
@@ -17,6 +18,8 @@ pub enum Saying {
     Nothing,
     /// The number of leaves, at most 1,000.
     Leaves(u16),
+    /// The zone of all bots.
+    Zone(Zone),
     /// A command.
     Told(Command),
     /// It breaks a rule.
@@ -45,6 +48,7 @@ fn shared_saying(saying: ReplaySaying) -> Saying
     match saying {
         ReplaySaying::Nothing => Saying::Nothing,
         ReplaySaying::Leaves(leaves) => Saying::Leaves(leaves),
+        ReplaySaying::Zone(zone) => Saying::Zone(zone),
         ReplaySaying::Told(command) => shared_command(command),
         ReplaySaying::Wrong => Saying::Wrong,
     }

@@ -2,8 +2,9 @@
 ghost use Rattle.std.specs.Prelude.{IfOk};
 ghost use Rattle.botcore.specs.Steps.{IsGoodEvent};
 
-use crate::procs::no_procs;
+use crate::nets::no_procs;
 use botcore::{Bot, Config, Event, Returned};
+use bottimers::Zone;
 use bytejournal::Disks;
 use bytetext::{Failure, NoMemory, Text, Texts};
 use disks::MemDisk;
@@ -19,7 +20,7 @@ fn config(alloc: Global, number: u16) -> Result<Config, NoMemory> {
         nick: Text::from_slice(alloc, b"egg")?,
         channels: Texts::empty(alloc),
         exclusive: false,
-        offset: 0,
+        zone: Zone::fixed(0).unwrap(),
     })
 }
 

@@ -1,9 +1,10 @@
 // Where a replay's streams fail, and where its script does: `replay`.
-use crate::procs::no_procs;
+use crate::nets::no_procs;
 use replay::{ReplayError, replay};
 use std::alloc::Global;
 use std::io;
 use std::io::{ErrorKind, Read, Write};
+use streams::Duplex;
 
 // Whether a script fault is of this line.
 fn is_fault_of(answer: Result<(), ReplayError>, line: u64) -> bool {
@@ -16,7 +17,11 @@ fn is_fault_of(answer: Result<(), ReplayError>, line: u64) -> bool {
 // Whether a replay of what this reader gives ends with a fault of this line, and nothing written.
 fn is_fault<R: Read + Drop>(alloc: Global, mut reader: R, line: u64) -> bool {
     let mut written = Vec::new(alloc);
-    let answer = replay(alloc, no_procs(alloc), &mut reader, &mut written);
+    let answer = replay(
+        alloc,
+        no_procs(alloc),
+        &mut Duplex::new(&mut reader, &mut written),
+    );
     is_fault_of(answer, line) && written.is_empty()
 }
 
@@ -63,7 +68,11 @@ impl Write for Full {
 fn written_into(alloc: Global, room: usize) -> (Result<(), ReplayError>, usize) {
     let mut writer = Full { room, taken: 0 };
     let mut reader: &[u8] = b"leaves 0\nshow 0\n";
-    let answer = replay(alloc, no_procs(alloc), &mut reader, &mut writer);
+    let answer = replay(
+        alloc,
+        no_procs(alloc),
+        &mut Duplex::new(&mut reader, &mut writer),
+    );
     (answer, writer.taken)
 }
 
@@ -71,7 +80,11 @@ fn written_into(alloc: Global, room: usize) -> (Result<(), ReplayError>, usize) 
 fn a_stream_that_fails_is_a_read_or_a_write_fault(rt: HostRuntime) {
     let mut reader = Broken(b"leaves 0\nshow 0\n");
     let mut written = Vec::new(rt.alloc());
-    let answer = replay(rt.alloc(), no_procs(rt.alloc()), &mut reader, &mut written);
+    let answer = replay(
+        rt.alloc(),
+        no_procs(rt.alloc()),
+        &mut Duplex::new(&mut reader, &mut written),
+    );
     assert!(rt; answer == Err(ReplayError::Read) && written.is_empty());
     // Of a transcript of 27 bytes the last is left over, or none is and the flush fails.
     assert!(rt; written_into(rt.alloc(), 26) == (Err(ReplayError::Write), 26));

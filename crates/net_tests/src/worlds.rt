@@ -1,16 +1,17 @@
 // All bots and their packets: `botworld`.
-use crate::nets::{lone_hub, new_bots};
-use crate::procs::no_procs;
+use crate::nets::{new_bots, no_procs};
 use botcore::Event;
 use botworld::{Outcome, Step, Transcript, World};
 use bytetext::TryCopy;
+use disks::MemDisk;
 use linkcalls::Packet;
+use procstore::Nobody;
 use std::alloc::Global;
 use std::slice;
 
 // Whether so many bots, each with so many leaves, are no world, and all of them are handed back.
 fn is_refused(alloc: Global, count: u16, leaves: u16) -> bool {
-    let Ok(bots) = new_bots(alloc, count, leaves, false) else {
+    let Ok(bots) = new_bots(alloc, count, leaves) else {
         return false;
     };
     match World::new(alloc, bots, no_procs(alloc)) {
@@ -40,9 +41,17 @@ fn receiving(packet: Packet) -> Step {
     Step::At { bot: 0, event }
 }
 
+// A hub without leaves.
+fn lone_hub(alloc: Global) -> Option<World<Nobody, MemDisk, Nobody>> {
+    match new_bots(alloc, 1, 0) {
+        Ok(bots) => World::new(alloc, bots, no_procs(alloc)).ok(),
+        Err(_) => None,
+    }
+}
+
 // What comes of a step at a lone hub.
 fn told(alloc: Global, step: &Step) -> Option<Transcript> {
-    let mut world = lone_hub(alloc, no_procs(alloc), false)?;
+    let mut world = lone_hub(alloc)?;
     Some(world.run(alloc, slice::from_ref(step)))
 }
 

@@ -154,10 +154,20 @@ Drained_more old now lines line q d e =
     let goes = next_line-Some q now line e in
     subst (Drained old now (lines ++ line ∷ [])) (sym (after_line-Some q now line e)) (more_gone old now lines line q d goes.0 goes.1)
 
--- there is room for it among five, and fewer lines wait
+-- how many go at a moment
+pub length-sent : (q : Sending) (now : ℕ) → length (sent q now) ≡ count_at q now
+unfolding sent
+length-sent q now = length-take (count_at q now) (waiting q) ∙ omega arith
+
+-- five at most
+pub few-sent : (q : Sending) (now : ℕ) → length (sent q now) ≤ 5
+few-sent q now = let count : length (sent q now) ≡ count_at q now = length-sent q now in omega arith
+
+-- it is one of those that go
 pub Drained-room : (old : Sending) (now : ℕ) (lines : List (List ℕ)) (line : List ℕ) (q : Sending) → Drained old now lines q
-    → next_line q now ≡ Some line → length lines < min (length (waiting old)) 5
+    → next_line q now ≡ Some line → length lines < length (sent old now)
 Drained-room old now lines line q d e =
+    let count : length (sent old now) ≡ count_at old now = length-sent old now in
     let goes = next_line-Some q now line e in
     let soon : max q.timer now < now + AHEAD = goes.0 in
     let before : max q.timer now ≡ max old.timer now + COST * length lines = d.timer in
@@ -257,10 +267,6 @@ sent_over-order q (now ∷ moments) =
     append_assoc (sent q now) (sent_over (after q now) moments) (waiting (after_over (after q now) moments))
     ∙ ap (λ rest. sent q now ++ rest) (sent_over-order (after q now) moments)
     ∙ waiting-after q now
-
-length-sent : (q : Sending) (now : ℕ) → length (sent q now) ≡ count_at q now
-unfolding sent
-length-sent q now = length-take (count_at q now) (waiting q) ∙ omega arith
 
 timer-after : (q : Sending) (now : ℕ) → (after q now).timer ≡ max q.timer now + COST * count_at q now
 unfolding after

@@ -247,7 +247,8 @@ impl Queues {
     /// none. There are five at most.
     ///
     /// # Errors
-    /// `NoMemory` where room for the list is refused; nothing has changed then. With nothing waiting none is asked for.
+    /// `NoMemory` where room for the list is refused; nothing has changed then. Where no line goes, because none waits or the
+    /// timer is ten seconds ahead, none is asked for.
     pub fn drain(&mut self, alloc: Global, now: u64) -> Result<Texts, NoMemory>
         requires { now < MOMENTS_END }
         ensures lines { IfOk result (λ lines. lines ≡ sent self.old now) }
@@ -258,13 +259,24 @@ impl Queues {
         ensures rest { IfOk result (λ lines. waiting self.old ≡ lines ++ waiting self.new) }
         ensures err { OnErr result (self.new ≡ self.old) }
         ensures room { self.new.room ≡ self.old.room }
-        ensures nothing_waits { waiting self.old ≡ [] → IsOk result }
+        ensures few { IfOk result (λ lines. length lines ≤ MAX_AT_ONCE) }
+        ensures nothing_goes { sent self.old now ≡ [] → IsOk result }
     {
-        let mut lines = Vec::with_capacity(alloc, self.len(Which::All).min(MAX_AT_ONCE))?;
+        let mut lines = Vec::with_capacity(alloc, self.due(now))?;
         while let Some(line) = self.take(now) {
             lines.push_reserved(line);
         }
         Ok(Texts::new(lines))
+    }
+
+    // How many lines go at a moment.
+    fn due(&self, now: u64) -> usize
+        requires { now < MOMENTS_END }
+        ensures { result ≡ length (sent self.now now) }
+    {
+        let behind = (now + AHEAD).saturating_sub(self.timer.max(now));
+        let allowed = (behind + (COST - 1)) / COST;
+        self.len(Which::All).min(allowed as usize)
     }
 }
 

@@ -1,8 +1,10 @@
 -- How a replay ends.
-use Rattle.std.proofs.Common.{◌≡◌, ℕ, ◌+◌, List, [], ◌++◌, take, ap, subst, ◌∙◌, Option, None, Some, Result, Ok, Err, IfOk, IfErr, IfSome}
+use Rattle.std.proofs.Common.{◌≡◌, ℕ, ◌+◌, List, take, sym, ap, subst, ◌∙◌, Option, None, Some, Result, Ok, Err, OnOk, IfOk, IfErr, IfSome}
 use Rattle.std.specs.declared.vec.Vec.{Vec}
 use Rattle.std.specs.declared.alloc.Global.{Global}
-use Rattle.std.specs.Option.{option_map}
+use Rattle.streams.specs.State.{Source, Sink}
+use Rattle.streams.specs.Transfers.{ReadsUpTo, WritesFront, WritesOut}
+use Rattle.streams.proofs.ReadLemmas.{ReadsUpTo-known}
 use Rattle.bytetext.specs.declared.failure.Failure.{Failure}
 use Rattle.bytetext.specs.declared.failure.Failure.TheVariants.{Refused, NoMemory as failed_no_memory}
 use Rattle.procstore.specs.declared.action.Action.{Action}
@@ -11,12 +13,12 @@ use Rattle.procstore.specs.declared.reply.Code.{Code}
 use Rattle.script.specs.declared.TheConstants.{MAX_SCRIPT}
 use Rattle.script.specs.declared.error.ScriptFault.{ScriptFault}
 use Rattle.script.specs.Outcomes.{ReadsAs}
-use Rattle.script.specs.Reading.{HasFault}
+use Rattle.script.specs.Reading.{HasFault, Spells}
 use Rattle.script.proofs.Faults.{HasFault-not_spelled, HasFault-same, Spells-take, HasFault-take}
 use Rattle.replay.specs.declared.error.ReplayError.{ReplayError}
 use Rattle.replay.specs.declared.error.ReplayError.TheVariants.{Script as script_fault, Read, Write, NoMemory}
 use Rattle.replay.specs.Transcript.{IsTranscript, TellsFault}
-use Rattle.replay.specs.Ending.{IsTranscriptFault, IsScriptFault, Ends, TellsLine}
+use Rattle.replay.specs.Ending.{IsTranscriptFault, GivesScript, GivesNone, Plays, EndsEarly, Ends, TellsLine}
 
 -- faults ----------------------------------------------------------------------------------------------------------------
 
@@ -28,55 +30,93 @@ TellsFault-read T bytes line failed_no_memory reads fault = tt
 
 -- reading ---------------------------------------------------------------------------------------------------------------
 
--- what a limited reader gives
-pub taken : (known : Option (List ℕ)) (limit : ℕ) (old new : List ℕ) → limit ≡ MAX_SCRIPT + 1 → old ≡ []
-    → IfSome (option_map (take limit) known) (λ xs. new ≡ old ++ xs) → IfSome known (λ input. new ≡ take (MAX_SCRIPT + 1) input)
-taken None limit old new e none h = tt
-taken (Some xs) limit old new e none h = h ∙ ap (λ o. o ++ take limit xs) none ∙ ap (λ n. take n xs) e
+pub GivesScript-of : (old new : Source) (bytes : List ℕ) → ReadsUpTo (MAX_SCRIPT + 1) old bytes new → GivesScript old bytes new
+GivesScript-of old new bytes read = record { read = read; known = ReadsUpTo-known (MAX_SCRIPT + 1) old new bytes read }
 
--- the bytes of a script, of what the reader has
-abbrev pub AreRead : Option (List ℕ) → List ℕ → Type 0
-AreRead known bytes = IfSome known (λ input. bytes ≡ take (MAX_SCRIPT + 1) input)
+-- an error of reading is one before the first write
+pub EndsEarly-read : (e : ReplayError) (old new : Source) → GivesNone e old new → EndsEarly e old new
+EndsEarly-read (script_fault fault) old new gives = absurd gives
+EndsEarly-read Read old new gives = gives
+EndsEarly-read Write old new gives = gives
+EndsEarly-read NoMemory old new gives = gives
 
-IsScriptFault-take : (input : List ℕ) (e : ReplayError) → IsTranscriptFault (take (MAX_SCRIPT + 1) input) e → IsScriptFault input e
-IsScriptFault-take input (script_fault fault) has = HasFault-take input fault.line has
-IsScriptFault-take input Read has = tt
-IsScriptFault-take input Write has = has
-IsScriptFault-take input NoMemory has = tt
+EndsEarly-bytes : (e : ReplayError) (old new : Source) (bytes : List ℕ) → GivesScript old bytes new → IsTranscriptFault bytes e → EndsEarly e old new
+EndsEarly-bytes (script_fault fault) old new bytes gives has = (bytes, gives, has)
+EndsEarly-bytes Read old new bytes gives has = absurd has
+EndsEarly-bytes Write old new bytes gives has = has
+EndsEarly-bytes NoMemory old new bytes gives has = tt
 
-pub IsScriptFault-read : {T : Type 0} (known : Option (List ℕ)) (given bytes : List ℕ) (r : Result T ReplayError) → given ≡ bytes → AreRead known bytes
-    → IfErr r (λ e. IsTranscriptFault given e) → IfErr r (λ e. IfSome known (λ input. IsScriptFault input e))
-IsScriptFault-read None given bytes (Err e) same read has = tt
-IsScriptFault-read (Some input) given bytes (Err e) same read has = IsScriptFault-take input e (subst (λ bs. IsTranscriptFault bs e) (same ∙ read) has)
-IsScriptFault-read known given bytes (Ok t) same read has = tt
+pub EndsEarly-of : {T : Type 0} (old new : Source) (given bytes : List ℕ) (r : Result T ReplayError) → given ≡ bytes → GivesScript old bytes new
+    → IfErr r (λ e. IsTranscriptFault given e) → IfErr r (λ e. EndsEarly e old new)
+EndsEarly-of old new given bytes (Ok t) same gives has = tt
+EndsEarly-of old new given bytes (Err e) same gives has =
+    EndsEarly-bytes e old new bytes gives (subst (λ (xs : List ℕ). IsTranscriptFault xs e) same has)
 
 -- what was asked of a replay with these procs ---------------------------------------------------------------------------
 
 module _ (code_of : List ℕ → Call → Code) (may : List ℕ → Call → List Action → Type 0) (names : List (List ℕ)) where
-  IsTranscript-take : (input text : List ℕ) → IsTranscript code_of may names (take (MAX_SCRIPT + 1) input) text → IsTranscript code_of may names input text
-  IsTranscript-take input text is = record { script = is.script; spells = Spells-take input is.script is.spells; tells = is.tells }
+  pub Plays-of : {E : Type 0} (old new : Source) (given bytes : List ℕ) (r : Result (Vec ℕ Global) E) → given ≡ bytes → GivesScript old bytes new
+      → IfOk r (λ text. IsTranscript code_of may names given text.items) → IfOk r (λ text. Plays code_of may names old text.items new)
+  Plays-of old new given bytes (Ok text) same gives is =
+      (bytes, gives, subst (λ (xs : List ℕ). IsTranscript code_of may names xs text.items) same is)
+  Plays-of old new given bytes (Err e) same gives is = tt
 
-  -- what holds of the bytes that were read holds of what the reader had
-  pub IsTranscript-read : {E : Type 0} (known : Option (List ℕ)) (given bytes : List ℕ) (r : Result (Vec ℕ Global) E) → given ≡ bytes → AreRead known bytes
-      → IfOk r (λ text. IsTranscript code_of may names given text.items) → IfOk r (λ text. IfSome known (λ input. IsTranscript code_of may names input text.items))
-  IsTranscript-read None given bytes (Ok text) same read is = tt
-  IsTranscript-read (Some input) given bytes (Ok text) same read is = IsTranscript-take input text.items
-      (subst (λ bs. IsTranscript code_of may names bs text.items) (same ∙ read) is)
-  IsTranscript-read known given bytes (Err e) same read is = tt
+  -- where nothing is written
+  pub Ends-early : (e : ReplayError) (source left : Source) (sink taken : Sink) → EndsEarly e source left → taken ≡ sink
+      → Ends code_of may names source sink (Err e) left taken
+  Ends-early (script_fault fault) source left sink taken early same = (early, same)
+  Ends-early Read source left sink taken early same = (early, same)
+  Ends-early Write source left sink taken early same = absurd early
+  Ends-early NoMemory source left sink taken early same = same
 
-  pub TellsLine-ends : (input : List ℕ) (line : ℕ) (result : Result Unit ReplayError) (old new : Option (List ℕ)) → Ends code_of may names input result old new
-      → HasFault input line → TellsLine line result
-  TellsLine-ends input line (Ok u) old new ends fault = HasFault-not_spelled input line ends.1.script fault ends.1.spells
-  TellsLine-ends input line (Err (script_fault told)) old new ends fault = HasFault-same input told.line line ends.0 fault
-  TellsLine-ends input line (Err Read) old new ends fault = tt
-  TellsLine-ends input line (Err Write) old new ends fault = HasFault-not_spelled input line ends.1.script fault ends.1.spells
-  TellsLine-ends input line (Err NoMemory) old new ends fault = tt
+  -- where a text is
+  pub Ends-written : (r : Result Unit ReplayError) (source between left : Source) (sink middle taken : Sink) (text written : List ℕ)
+      → Plays code_of may names source text between → written ≡ text → left ≡ between → middle ≡ sink → OnOk r (WritesOut middle written taken)
+      → IfErr r (λ e. (e ≡ Write) × WritesFront middle written taken) → Ends code_of may names source sink r left taken
+  Ends-written (Ok u) source between left sink middle taken text written plays is other same whole front = (
+    text,
+    subst (λ (x : Source). Plays code_of may names source text x) (sym other) plays,
+    subst (λ (x : Sink). WritesOut x text taken) same (subst (λ (xs : List ℕ). WritesOut middle xs taken) is whole),
+  )
+  Ends-written (Err Write) source between left sink middle taken text written plays is other same whole front = (
+    text,
+    subst (λ (x : Source). Plays code_of may names source text x) (sym other) plays,
+    subst (λ (x : Sink). WritesFront x text taken) same (subst (λ (xs : List ℕ). WritesFront middle xs taken) is front.1),
+  )
+  Ends-written (Err (script_fault fault)) source between left sink middle taken text written plays is other same whole front =
+      let told : script_fault fault ≡ Write = front.0 in cc
+  Ends-written (Err Read) source between left sink middle taken text written plays is other same whole front =
+      let told : Read ≡ Write = front.0 in cc
+  Ends-written (Err NoMemory) source between left sink middle taken text written plays is other same whole front =
+      let told : NoMemory ≡ Write = front.0 in cc
 
-  abbrev pub EndsAt : Option (List ℕ) → Result Unit ReplayError → Option (List ℕ) → Option (List ℕ) → Type 0
-  EndsAt known result old new = IfSome known (λ input. Ends code_of may names input result old new)
+  -- a transcript of what was read has no fault, nor has what was known
+  no_fault : (known : Option (List ℕ)) (bytes text input : List ℕ) (line : ℕ) → IfSome known (λ xs. bytes ≡ take (MAX_SCRIPT + 1) xs)
+      → IsTranscript code_of may names bytes text → known ≡ Some input → HasFault input line → ⊥
+  no_fault None bytes text input line first is e fault = cc
+  no_fault (Some xs) bytes text input line first is e fault =
+      let all : xs ≡ input = cc in
+      let spells = subst (λ (b : List ℕ). Spells b is.script) (first ∙ ap (take (MAX_SCRIPT + 1)) all) is.spells in
+      HasFault-not_spelled input line is.script fault (Spells-take input is.script spells)
+
+  -- the fault that was told is that of what was known
+  same_fault : (known : Option (List ℕ)) (bytes input : List ℕ) (told line : ℕ) → IfSome known (λ xs. bytes ≡ take (MAX_SCRIPT + 1) xs)
+      → HasFault bytes told → known ≡ Some input → HasFault input line → told ≡ line
+  same_fault None bytes input told line first has e fault = cc
+  same_fault (Some xs) bytes input told line first has e fault =
+      let all : xs ≡ input = cc in
+      let there = subst (λ (b : List ℕ). HasFault b told) (first ∙ ap (take (MAX_SCRIPT + 1)) all) has in
+      HasFault-same input told line (HasFault-take input told there) fault
 
   -- so a fault is told
-  pub TellsLine-at : (known : Option (List ℕ)) (result : Result Unit ReplayError) (old new : Option (List ℕ)) → EndsAt known result old new
-      → (input : List ℕ) (line : ℕ) → known ≡ Some input → HasFault input line → TellsLine line result
-  TellsLine-at known result old new ends input line e fault =
-      TellsLine-ends input line result old new (subst (λ (k : Option (List ℕ)). EndsAt k result old new) e ends) fault
+  pub TellsLine-at : (source left : Source) (sink taken : Sink) (result : Result Unit ReplayError)
+      → Ends code_of may names source sink result left taken
+      → (input : List ℕ) (line : ℕ) → source.left ≡ Some input → HasFault input line → TellsLine line result
+  TellsLine-at source left sink taken (Ok u) (text, (bytes, gives, is), writes) input line e fault =
+      no_fault source.left bytes text input line gives.known is e fault
+  TellsLine-at source left sink taken (Err (script_fault told)) ((bytes, gives, has), same) input line e fault =
+      same_fault source.left bytes input told.line line gives.known has e fault
+  TellsLine-at source left sink taken (Err Read) ends input line e fault = tt
+  TellsLine-at source left sink taken (Err Write) (text, (bytes, gives, is), writes) input line e fault =
+      no_fault source.left bytes text input line gives.known is e fault
+  TellsLine-at source left sink taken (Err NoMemory) ends input line e fault = tt

@@ -1,6 +1,6 @@
 -- The bots of a script are good, new and in order.
 use Rattle.std.proofs.Common.{◌≡◌, inl, inr, ℕ, zero, suc, ◌+◌, ◌<◌, ◌≤◌, ◌^◌, ◌%◌, Bool, true, ◌&&◌, ◌==◌, not, nat_le, List, [], ◌∷◌, ◌++◌, length, slice_get, slice_index}
-use Rattle.std.proofs.Common.{refl, sym, ap, subst, ◌∙◌, arith, Some, decimal, codes, length-append, zero-add, rules}
+use Rattle.std.proofs.Common.{refl, sym, ap, subst, ◌∙◌, arith, Some, decimal, codes, length-append, zero-add}
 use Rattle.std.specs.List.{list_all}
 use Rattle.std.proofs.lemmas.Bool.Decides.{nat_tests}
 use Rattle.std.proofs.lemmas.List.Folds.{list_all-append}
@@ -14,6 +14,7 @@ use Rattle.bytejournal.specs.declared.fault.JournalFault.TheVariants.{DiskFault,
 use Rattle.bytejournal.specs.Opening.{CannotCreate}
 use Rattle.botjournal.specs.Ledger.{Failures}
 use Rattle.disks.specs.Memory.{Memory}
+use Rattle.bottimers.specs.Zones.{TzText}
 use Rattle.botcore.specs.declared.limits.TheConstants.{MAX_NICK}
 use Rattle.botcore.specs.declared.config.Config.{Config}
 use Rattle.botcore.specs.declared.fault.BotFault.{BotFault}
@@ -57,11 +58,10 @@ is_nick-egg n few =
     all_four (nat_le 1 (length nick)) (nat_le (length nick) MAX_NICK) (not (slice_index nick 0 == 58)) (list_all is_nick_byte nick)
     (nat_le-true 1 (length nick) (omega arith)) (nat_le-true (length nick) MAX_NICK (omega arith)) refl bytes
 
-pub IsGood-config : (leaves number : ℕ) → leaves ≤ MAX_LEAVES → number ≤ leaves → IsGood (config_of leaves number)
-IsGood-config leaves number few within = record {
+pub IsGood-config : (leaves : ℕ) (zone : TzText) (number : ℕ) → leaves ≤ MAX_LEAVES → number ≤ leaves → IsGood (config_of leaves zone number)
+IsGood-config leaves zone number few within = record {
   few = few;
   numbered = within;
-  offset = search rules;
   nick = is_nick-egg number (omega arith);
   channels = refl;
 }
@@ -80,75 +80,80 @@ never_faulty first second first' second' Spent never = never
 never_faulty first second first' second' GenerationsSpent never = never
 
 -- so no bot of a script is refused
-never_refused_for : (leaves number : ℕ) (config : Config) (fault : BotFault) (first second first' second' : Memory) → leaves ≤ MAX_LEAVES
-    → number ≤ leaves → config ≡ config_of leaves number → NotMade steady_state config first second (Refused fault) first' second' → ⊥
-never_refused_for leaves number config BadConfig first second first' second' few within is bad =
-    bad.0 (subst IsGood (sym is) (IsGood-config leaves number few within))
-never_refused_for leaves number config (Journal fault) first second first' second' few within is bad =
+never_refused_for : (leaves : ℕ) (zone : TzText) (number : ℕ) (config : Config) (fault : BotFault)
+    (first second first' second' : Memory) → leaves ≤ MAX_LEAVES
+    → number ≤ leaves → config ≡ config_of leaves zone number → NotMade steady_state config first second (Refused fault) first' second' → ⊥
+never_refused_for leaves zone number config BadConfig first second first' second' few within is bad =
+    bad.0 (subst IsGood (sym is) (IsGood-config leaves zone number few within))
+never_refused_for leaves zone number config (Journal fault) first second first' second' few within is bad =
     never_faulty first second first' second' fault bad.1
 
-pub never_refused : (leaves number : ℕ) (config : Config) (error : Failure BotFault) (fault : BotFault) (first second first' second' : Memory)
-    → leaves ≤ MAX_LEAVES → number ≤ leaves → config ≡ config_of leaves number → error ≡ Refused fault
+pub never_refused : (leaves : ℕ) (zone : TzText) (number : ℕ) (config : Config) (error : Failure BotFault)
+    (fault : BotFault) (first second first' second' : Memory)
+    → leaves ≤ MAX_LEAVES → number ≤ leaves → config ≡ config_of leaves zone number → error ≡ Refused fault
     → NotMade steady_state config first second error first' second' → ⊥
-never_refused leaves number config error fault first second first' second' few within is told bad =
-    never_refused_for leaves number config fault first second first' second' few within is
+never_refused leaves zone number config error fault first second first' second' few within is told bad =
+    never_refused_for leaves zone number config fault first second first' second' few within is
     (subst (λ (e : Failure BotFault). NotMade steady_state config first second e first' second') told bad)
 
 -- bots ------------------------------------------------------------------------------------------------------------------
 
-bots_from-at : (leaves first : ℕ) (failures : List Failures) (place : ℕ) (b : Bot) → slice_get (bots_from leaves first failures) place ≡ Some b
-    → b ≡ new_bot (config_of leaves (first + place)) b.link.failures
-bots_from-at leaves first [] place b e = cc
-bots_from-at leaves first (f ∷ fs) zero b e =
+bots_from-at : (leaves : ℕ) (zone : TzText) (first : ℕ) (failures : List Failures) (place : ℕ) (b : Bot)
+    → slice_get (bots_from leaves zone first failures) place ≡ Some b
+    → b ≡ new_bot (config_of leaves zone (first + place)) b.link.failures
+bots_from-at leaves zone first [] place b e = cc
+bots_from-at leaves zone first (f ∷ fs) zero b e =
     let same : first + 0 ≡ first = omega arith in
-    let here : new_bot (config_of leaves first) f ≡ b = cc in
-    sym here ∙ ap (λ n. new_bot (config_of leaves n) f) (sym same)
-    ∙ ap (new_bot (config_of leaves (first + 0))) (ap (λ (x : Bot). x.link.failures) here)
-bots_from-at leaves first (f ∷ fs) (suc place) b e =
+    let here : new_bot (config_of leaves zone first) f ≡ b = cc in
+    sym here ∙ ap (λ n. new_bot (config_of leaves zone n) f) (sym same)
+    ∙ ap (new_bot (config_of leaves zone (first + 0))) (ap (λ (x : Bot). x.link.failures) here)
+bots_from-at leaves zone first (f ∷ fs) (suc place) b e =
     let same : first + 1 + place ≡ first + suc place = omega arith in
-    bots_from-at leaves (first + 1) fs place b e ∙ ap (λ n. new_bot (config_of leaves n) b.link.failures) same
+    bots_from-at leaves zone (first + 1) fs place b e ∙ ap (λ n. new_bot (config_of leaves zone n) b.link.failures) same
 
-length-bots_from : (leaves first : ℕ) (failures : List Failures) → length (bots_from leaves first failures) ≡ length failures
-length-bots_from leaves first [] = refl
-length-bots_from leaves first (f ∷ fs) = ap suc (length-bots_from leaves (first + 1) fs)
+length-bots_from : (leaves : ℕ) (zone : TzText) (first : ℕ) (failures : List Failures) → length (bots_from leaves zone first failures) ≡ length failures
+length-bots_from leaves zone first [] = refl
+length-bots_from leaves zone first (f ∷ fs) = ap suc (length-bots_from leaves zone (first + 1) fs)
 
 -- one bot more
-bots_from-more : (leaves first : ℕ) (failures : List Failures) (f : Failures)
-    → bots_from leaves first (failures ++ f ∷ []) ≡ bots_from leaves first failures ++ new_bot (config_of leaves (first + length failures)) f ∷ []
-bots_from-more leaves first [] f = let same : first + 0 ≡ first = omega arith in ap (λ n. new_bot (config_of leaves n) f ∷ []) (sym same)
-bots_from-more leaves first (g ∷ gs) f =
+bots_from-more : (leaves : ℕ) (zone : TzText) (first : ℕ) (failures : List Failures) (f : Failures)
+    → bots_from leaves zone first (failures ++ f ∷ [])
+    ≡ bots_from leaves zone first failures ++ new_bot (config_of leaves zone (first + length failures)) f ∷ []
+bots_from-more leaves zone first [] f = let same : first + 0 ≡ first = omega arith in ap (λ n. new_bot (config_of leaves zone n) f ∷ []) (sym same)
+bots_from-more leaves zone first (g ∷ gs) f =
     let same : first + 1 + length gs ≡ first + suc (length gs) = omega arith in
-    ap (λ (l : List Bot). new_bot (config_of leaves first) g ∷ l) (bots_from-more leaves (first + 1) gs f)
-    ∙ ap (λ n. new_bot (config_of leaves first) g ∷ (bots_from leaves (first + 1) gs ++ new_bot (config_of leaves n) f ∷ [])) same
+    ap (λ (l : List Bot). new_bot (config_of leaves zone first) g ∷ l) (bots_from-more leaves zone (first + 1) gs f)
+    ∙ ap (λ n. new_bot (config_of leaves zone first) g ∷ (bots_from leaves zone (first + 1) gs ++ new_bot (config_of leaves zone n) f ∷ [])) same
 
 -- none, and one more
-pub AreNew-none : (leaves : ℕ) (bots : List Bot) → bots ≡ [] → AreNew leaves 0 bots
-AreNew-none leaves bots none = record { failures = []; each = refl; are = none }
+pub AreNew-none : (leaves : ℕ) (zone : TzText) (bots : List Bot) → bots ≡ [] → AreNew leaves zone 0 bots
+AreNew-none leaves zone bots none = record { failures = []; each = refl; are = none }
 
-pub AreNew-next : (leaves count : ℕ) (bots new : List Bot) (b : Bot) → AreNew leaves count bots → b ≡ new_bot (config_of leaves count) b.link.failures
-    → new ≡ bots ++ b ∷ [] → AreNew leaves (count + 1) new
-AreNew-next leaves count bots new b old same added =
+pub AreNew-next : (leaves : ℕ) (zone : TzText) (count : ℕ) (bots new : List Bot) (b : Bot) → AreNew leaves zone count bots
+    → b ≡ new_bot (config_of leaves zone count) b.link.failures
+    → new ≡ bots ++ b ∷ [] → AreNew leaves zone (count + 1) new
+AreNew-next leaves zone count bots new b old same added =
     let f = b.link.failures in
     let here : 0 + length old.failures ≡ count = zero-add (length old.failures) ∙ old.each in
     record {
       failures = old.failures ++ f ∷ [];
       each = length-append old.failures (f ∷ []) ∙ ap (λ n. n + 1) old.each;
-      are = added ∙ ap (λ (l : List Bot). l ++ b ∷ []) old.are ∙ ap (λ (x : Bot). bots_from leaves 0 old.failures ++ x ∷ []) same
-          ∙ ap (λ n. bots_from leaves 0 old.failures ++ new_bot (config_of leaves n) f ∷ []) (sym here) ∙ sym (bots_from-more leaves 0 old.failures f);
+      are = added ∙ ap (λ (l : List Bot). l ++ b ∷ []) old.are ∙ ap (λ (x : Bot). bots_from leaves zone 0 old.failures ++ x ∷ []) same
+          ∙ ap (λ n. bots_from leaves zone 0 old.failures ++ new_bot (config_of leaves zone n) f ∷ []) (sym here) ∙ sym (bots_from-more leaves zone 0 old.failures f);
     }
 
-pub AreNew-all_new : (leaves count : ℕ) (bots : List Bot) → AreNew leaves count bots → AllNew bots
-AreNew-all_new leaves count bots are = λ place b e.
-    let same = bots_from-at leaves 0 are.failures place b (ap (λ (l : List Bot). slice_get l place) (sym are.are) ∙ e) in
+pub AreNew-all_new : (leaves : ℕ) (zone : TzText) (count : ℕ) (bots : List Bot) → AreNew leaves zone count bots → AllNew bots
+AreNew-all_new leaves zone count bots are = λ place b e.
+    let same = bots_from-at leaves zone 0 are.failures place b (ap (λ (l : List Bot). slice_get l place) (sym are.are) ∙ e) in
     same ∙ ap (λ (c : Config). new_bot c b.link.failures) (sym (ap (λ (x : Bot). x.config) same))
 
-pub AreNew-numbered : (leaves : ℕ) (bots : List Bot) → AreNew leaves (leaves + 1) bots → AreNumbered bots
-AreNew-numbered leaves bots are =
-    let count : length bots ≡ leaves + 1 = ap length are.are ∙ length-bots_from leaves 0 are.failures ∙ are.each in
+pub AreNew-numbered : (leaves : ℕ) (zone : TzText) (bots : List Bot) → AreNew leaves zone (leaves + 1) bots → AreNumbered bots
+AreNew-numbered leaves zone bots are =
+    let count : length bots ≡ leaves + 1 = ap length are.are ∙ length-bots_from leaves zone 0 are.failures ∙ are.each in
     record {
       hub = omega (arith, count);
       each = λ place b e.
-          let here = bots_from-at leaves 0 are.failures place b (ap (λ (l : List Bot). slice_get l place) (sym are.are) ∙ e) in
+          let here = bots_from-at leaves zone 0 are.failures place b (ap (λ (l : List Bot). slice_get l place) (sym are.are) ∙ e) in
           record {
             number = ap (λ (x : Bot). x.config.number) here ∙ zero-add place;
             leaves = ap (λ (x : Bot). x.config.leaves + 1) here ∙ sym count;

@@ -3,6 +3,7 @@ use Rattle.std.specs.Prelude.{◌≡◌, ℕ, List, ◌++◌}
 use Rattle.procstore.specs.declared.action.Action.{Action}
 use Rattle.procstore.specs.declared.call.Call.{Call}
 use Rattle.procstore.specs.declared.reply.Code.{Code}
+use Rattle.bottimers.specs.Zones.{TzText}
 use Rattle.botworld.specs.Net.{Net}
 use Rattle.botworld.specs.Network.{State, AllMade}
 use Rattle.botworld.specs.Standing.{Moment, Past, Run, Stands, later, steps_of, outcomes_of}
@@ -32,9 +33,9 @@ pub record IsDoneFrom (code_of : List ℕ → Call → Code) (may : List ℕ →
   pub made : AllMade (outcomes_of moments)
   pub tells : text ≡ deeds_text first deeds moments
 
--- The same from a hub and its leaves, of which each is new.
+-- The same from a hub and its leaves in a zone, of which each is new.
 pub record IsDoneByNew (code_of : List ℕ → Call → Code) (may : List ℕ → Call → List Action → Type 0)
-    (leaves : ℕ) (names : List (List ℕ)) (deeds : List Deed) (text : List ℕ) : Type 0 where
+    (leaves : ℕ) (zone : TzText) (names : List (List ℕ)) (deeds : List Deed) (text : List ℕ) : Type 0 where
   pub first : State
-  pub begins : IsFirst leaves names first
+  pub begins : IsFirst leaves zone names first
   pub done : IsDoneFrom code_of may first deeds text

@@ -1,34 +1,40 @@
 -- The botnet of a script before its first step.
-use Rattle.std.specs.Prelude.{◌≡◌, ℕ, ◌+◌, false, List, [], ◌∷◌, ◌++◌, length, pos, codes, decimal}
+use Rattle.std.specs.Prelude.{◌≡◌, ℕ, ◌+◌, false, List, [], ◌∷◌, ◌++◌, length, Option, None, Some, pos, codes, decimal}
 use Rattle.botjournal.specs.Ledger.{Failures}
+use Rattle.bottimers.specs.Zones.{TzText, fixed_rule}
 use Rattle.botcore.specs.declared.config.Config.{Config}
 use Rattle.botcore.specs.Bots.{Bot, new_bot}
 use Rattle.botworld.specs.Network.{State, start}
 
--- bot 3, say, has the nick egg3; each bot has the channel #egg, exclusive off and a clock of UTC
-abbrev pub config_of : ℕ → ℕ → Config
-config_of leaves number = record {
+-- the zone that a script says, or UTC
+abbrev pub zone_or_utc : Option TzText → TzText
+zone_or_utc None = fixed_rule (pos 0)
+zone_or_utc (Some rule) = rule
+
+-- bot 3, say, has the nick egg3; each bot has the channel #egg, exclusive off and a clock of this zone
+abbrev pub config_of : ℕ → TzText → ℕ → Config
+config_of leaves zone number = record {
   number = number;
   leaves = leaves;
   nick = codes "egg" ++ decimal number;
   channels = codes "#egg" ∷ [];
   exclusive = false;
-  offset = pos 0;
+  zone = zone;
 }
 
 -- new bots, numbered on from the first, one for each of these, which say how often its disks have failed
-abbrev pub bots_from : ℕ → ℕ → List Failures → List Bot
-bots_from leaves first [] = []
-bots_from leaves first (f ∷ fs) = new_bot (config_of leaves first) f ∷ bots_from leaves (first + 1) fs
+abbrev pub bots_from : ℕ → TzText → ℕ → List Failures → List Bot
+bots_from leaves zone first [] = []
+bots_from leaves zone first (f ∷ fs) = new_bot (config_of leaves zone first) f ∷ bots_from leaves zone (first + 1) fs
 
--- these are so many new bots of a net of so many leaves, the hub first
-pub record AreNew (leaves count : ℕ) (bots : List Bot) : Type 0 where
+-- these are so many new bots of a net of so many leaves in a zone, the hub first
+pub record AreNew (leaves : ℕ) (zone : TzText) (count : ℕ) (bots : List Bot) : Type 0 where
   pub failures : List Failures
   pub each : length failures ≡ count
-  pub are : bots ≡ bots_from leaves 0 failures
+  pub are : bots ≡ bots_from leaves zone 0 failures
 
 -- a hub and its leaves before the first step, with procs of these names
-pub record IsFirst (leaves : ℕ) (names : List (List ℕ)) (s : State) : Type 0 where
+pub record IsFirst (leaves : ℕ) (zone : TzText) (names : List (List ℕ)) (s : State) : Type 0 where
   pub bots : List Bot
-  pub new : AreNew leaves (leaves + 1) bots
+  pub new : AreNew leaves zone (leaves + 1) bots
   pub starts : s ≡ start bots names

@@ -10,6 +10,7 @@ use Rattle.script.specs.declared.error.ScriptFault.{ScriptFault}
 use Rattle.script.specs.Reading.{Spells, HasFault}
 use Rattle.replay.specs.Deeds.{deeds_of}
 use Rattle.replay.specs.Doing.{IsDoneByNew}
+use Rattle.replay.specs.Starting.{zone_or_utc}
 
 -- This text is a transcript of the script that these bytes spell, with procs of these names. What the procs answer is
 -- bound by their promise alone, so a script may have more than one.
@@ -17,7 +18,7 @@ pub record IsTranscript (code_of : List ℕ → Call → Code) (may : List ℕ �
     (names : List (List ℕ)) (bytes text : List ℕ) : Type 0 where
   pub script : Script
   pub spells : Spells bytes script
-  pub tells : IsDoneByNew code_of may script.leaves names (deeds_of script.commands) text
+  pub tells : IsDoneByNew code_of may script.leaves (zone_or_utc script.zone) names (deeds_of script.commands) text
 
 -- a fault is told only where the bytes have it
 abbrev pub IsRefusedRightly : {T : Type 0} → List ℕ → Result T (Failure ScriptFault) → Type 0

@@ -8,10 +8,10 @@ pub enum ReplayError {
     /// The script breaks a rule. Nothing was done or written.
     #[error("{0}")]
     Script(ScriptFault),
-    /// The reader answered a fault. Nothing was done or written.
+    /// The stream failed as it was asked for bytes, or would have to wait for them. Nothing was done or written.
     #[error("read fault")]
     Read,
-    /// The writer answered a fault, or took nothing. A front of the transcript was written.
+    /// The stream failed as it was offered bytes or flushed, or took none. A front of the transcript was written.
     #[error("write fault")]
     Write,
     /// A growth was refused. Nothing was written.

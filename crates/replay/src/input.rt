@@ -1,23 +1,24 @@
 // A script's bytes.
-ghost use Rattle.std.specs.Prelude.{◌≡◌, ◌+◌, IfOk, IfErr, IfSome, take};
-ghost use Rattle.script.specs.declared.TheConstants.{MAX_SCRIPT};
-ghost use Rattle.replay.specs.Ending.{IsReadFault};
+ghost use Rattle.std.specs.Prelude.{◌≡◌, IfOk, IfErr};
+ghost use Rattle.replay.specs.Ending.{GivesScript, GivesNone};
 
-use crate::answers::read_error;
 use crate::error::ReplayError;
 use script::MAX_SCRIPT;
 use std::alloc::Global;
-use std::io::Read;
+use streams::{ReadError, Stream, read_up_to};
 
 /// The bytes of a script, or one more than a script has.
-pub fn script_bytes<R: Read>(alloc: Global, reader: &mut R) -> Result<Vec<u8>, ReplayError>
-    ensures read { IfOk result (λ bytes. IfSome (R.remaining reader.old)
-        (λ input. bytes.items ≡ take (MAX_SCRIPT + 1) input)) }
-    ensures fails { IfErr result IsReadFault }
+///
+/// # Errors
+/// `Read` where the stream fails or would have to wait, `NoMemory` where a growth is refused.
+pub fn script_bytes<S: Stream>(alloc: Global, stream: &mut S) -> Result<Vec<u8>, ReplayError>
+    ensures read { IfOk result (λ bytes. GivesScript (S.source stream.old) bytes.items (S.source stream.new)) }
+    ensures fails { IfErr result (λ e. GivesNone e (S.source stream.old) (S.source stream.new)) }
+    ensures other { S.sink stream.new ≡ S.sink stream.old }
 {
-    let mut bytes = Vec::new(alloc);
-    match reader.take(MAX_SCRIPT as u64 + 1).read_to_end(&mut bytes) {
-        Ok(_) => Ok(bytes),
-        Err(error) => Err(read_error(&error)),
+    match read_up_to(alloc, stream, MAX_SCRIPT + 1) {
+        Ok(bytes) => Ok(bytes),
+        Err(ReadError::Fault) => Err(ReplayError::Read),
+        Err(ReadError::NoMemory) => Err(ReplayError::NoMemory),
     }
 }

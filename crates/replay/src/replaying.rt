@@ -1,8 +1,8 @@
-// From a reader to a writer.
-ghost use Rattle.std.specs.Prelude.{ℕ, List, Some, ◌≡◌, IfSome, IfOk, IfErr};
+// From what a stream gives to what it takes.
+ghost use Rattle.std.specs.Prelude.{ℕ, List, Some, ◌≡◌, IfOk, IfErr};
 ghost use Rattle.script.specs.Reading.{HasFault};
 ghost use Rattle.replay.specs.Transcript.{IsTranscript};
-ghost use Rattle.replay.specs.Ending.{Ends, IsScriptFault, IsTranscriptFault, TellsLine};
+ghost use Rattle.replay.specs.Ending.{Ends, EndsEarly, IsTranscriptFault, Plays, TellsLine};
 
 use crate::error::ReplayError;
 use crate::input::script_bytes;
@@ -11,61 +11,60 @@ use crate::transcripts::transcript;
 use bytetext::Failure;
 use procstore::{ProcStore, Promise, Run};
 use std::alloc::Global;
-use std::io::{Read, Write};
+use streams::Stream;
 
 /// Reads a script whole, and writes its transcript, where binds call the procs of this store.
 ///
-/// The reader is read to its end, or to the first byte above 1,048,576. Nothing is written before all commands are
+/// The stream is read to its end, or to the first byte above 1,048,576. Nothing is written before all commands are
 /// done.
 ///
 /// # Errors
-/// `Read` where the reader answers a fault; then `Script` with the first line that breaks a rule; then `NoMemory` where
-/// a growth is refused; each of these writes nothing. `Write` where the writer answers a fault or takes nothing, and
-/// then a front of the transcript is written.
-pub fn replay<P: Promise, B: Run, R: Read, W: Write>(
+/// `Read` where the stream fails or would have to wait for bytes; then `Script` with the first line that breaks a rule; then
+/// `NoMemory` where a growth is refused; each of these writes nothing. `Write` where the stream fails as it is offered
+/// bytes, takes none, or fails to flush, and then a front of the transcript is written.
+pub fn replay<P: Promise, B: Run, S: Stream>(
     alloc: Global,
     store: ProcStore<P, B>,
-    reader: &mut R,
-    writer: &mut W,
+    stream: &mut S,
 ) -> Result<(), ReplayError>
     // What each answer means for what was read and written.
-    ensures ends { IfSome (R.remaining reader.old)
-        (λ input. Ends P.code_of P.may store input result (W.contents writer.old) (W.contents writer.new)) }
+    ensures ends { Ends P.code_of P.may store (S.source stream.old) (S.sink stream.old) result (S.source stream.new)
+        (S.sink stream.new) }
     // A script with a fault is answered with its first faulty line.
-    ensures faulty { (input : List ℕ) (line : ℕ) → R.remaining reader.old ≡ Some input → HasFault input line
+    ensures faulty { (input : List ℕ) (line : ℕ) → (S.source stream.old).left ≡ Some input → HasFault input line
         → TellsLine line result }
 {
-    read_and_write(alloc, store, reader, writer)
+    read_and_write(alloc, store, stream)
 }
 
 // What each answer means for what was read and written.
-fn read_and_write<P: Promise, B: Run, R: Read, W: Write>(
+fn read_and_write<P: Promise, B: Run, S: Stream>(
     alloc: Global,
     store: ProcStore<P, B>,
-    reader: &mut R,
-    writer: &mut W,
+    stream: &mut S,
 ) -> Result<(), ReplayError>
-    ensures { IfSome (R.remaining reader.old) (λ input. Ends P.code_of P.may store input result (W.contents writer.old)
-        (W.contents writer.new)) }
+    ensures { Ends P.code_of P.may store (S.source stream.old) (S.sink stream.old) result (S.source stream.new)
+        (S.sink stream.new) }
 {
-    let text = match read_and_do(alloc, store, reader) {
+    let text = match read_and_do(alloc, store, stream) {
         Ok(text) => text,
         Err(error) => return Err(error),
     };
-    write_text(writer, text.as_slice())
+    write_text(stream, text.as_slice())
 }
 
 // Reads a script, and does its commands.
-fn read_and_do<P: Promise, B: Run, R: Read>(
+fn read_and_do<P: Promise, B: Run, S: Stream>(
     alloc: Global,
     store: ProcStore<P, B>,
-    reader: &mut R,
+    stream: &mut S,
 ) -> Result<Vec<u8>, ReplayError>
-    ensures ok { IfOk result (λ text. IfSome (R.remaining reader.old)
-        (λ input. IsTranscript P.code_of P.may store input text.items)) }
-    ensures err { IfErr result (λ e. IfSome (R.remaining reader.old) (λ input. IsScriptFault input e)) }
+    ensures ok { IfOk result (λ text. Plays P.code_of P.may store (S.source stream.old) text.items
+        (S.source stream.new)) }
+    ensures err { IfErr result (λ e. EndsEarly e (S.source stream.old) (S.source stream.new)) }
+    ensures other { S.sink stream.new ≡ S.sink stream.old }
 {
-    let bytes = match script_bytes(alloc, reader) {
+    let bytes = match script_bytes(alloc, stream) {
         Ok(bytes) => bytes,
         Err(error) => return Err(error),
     };

@@ -4,26 +4,38 @@ ghost use Rattle.linkcalls.specs.declared.TheConstants.{MAX_LEAVES};
 ghost use Rattle.botcore.specs.Bots.{new_bot};
 ghost use Rattle.botworld.specs.Network.{State};
 ghost use Rattle.botworld.specs.Standing.{Stands, beginning};
-ghost use Rattle.replay.specs.Starting.{config_of, AreNew, IsFirst};
+ghost use Rattle.replay.specs.Starting.{config_of, zone_or_utc, AreNew, IsFirst};
 
 use crate::print::put_number;
 use crate::steady_disk::SteadyDisk;
 use botcore::{Bot, Config};
+use bottimers::Zone;
 use botworld::World;
-use bytetext::{Failure, NoMemory, Text, Texts};
+use bytetext::{Failure, NoMemory, Text, Texts, TryCopy};
 use procstore::{ProcStore, Promise, Run};
 use std::alloc::Global;
 
-/// The bots of a script of so many leaves, with these procs.
+/// The zone that a script says, or UTC where it says none. Takes no memory.
+pub fn zone_or_utc(zone: Option<Zone>) -> Zone
+    ensures { result ≡ zone_or_utc zone }
+{
+    match zone {
+        Some(zone) => zone,
+        None => Zone::fixed(0).unwrap(),
+    }
+}
+
+/// The bots of a script of so many leaves, with these procs and clocks of this zone.
 pub fn new_world<P: Promise, B: Run>(
     alloc: Global,
     store: ProcStore<P, B>,
     leaves: u16,
+    zone: &Zone,
 ) -> Result<World<P, SteadyDisk, B>, NoMemory>
     requires { leaves ≤ MAX_LEAVES }
-    ensures { IfOk result (λ w. (first : State) × IsFirst leaves store first × Stands P.code_of P.may w (beginning first)) }
+    ensures { IfOk result (λ w. (first : State) × IsFirst leaves zone.now store first × Stands P.code_of P.may w (beginning first)) }
 {
-    match World::new(alloc, new_bots(alloc, leaves)?, store) {
+    match World::new(alloc, new_bots(alloc, leaves, zone)?, store) {
         Ok(world) => Ok(world),
         // The bots are numbered in order, and each has as many leaves as there are.
         Err(_) => unreachable!(),
@@ -31,28 +43,29 @@ pub fn new_world<P: Promise, B: Run>(
 }
 
 /// The hub and its leaves, as they are before their first step, each with its journal on two disks in memory that never
-/// fail: their nicks are `egg` and their number, and their one channel is `#egg`.
+/// fail: their nicks are `egg` and their number, their one channel is `#egg`, and their clocks have
+/// this zone.
 ///
 /// # Errors
 /// `NoMemory` where room is refused.
-pub fn new_bots(alloc: Global, leaves: u16) -> Result<Vec<Bot<SteadyDisk>>, NoMemory>
+pub fn new_bots(alloc: Global, leaves: u16, zone: &Zone) -> Result<Vec<Bot<SteadyDisk>>, NoMemory>
     requires { leaves ≤ MAX_LEAVES }
-    ensures { IfOk result (λ bots. AreNew leaves (leaves + 1) bots.items) }
+    ensures { IfOk result (λ bots. AreNew leaves zone.now (leaves + 1) bots.items) }
 {
     let mut bots = Vec::with_capacity(alloc, leaves as usize + 1)?;
     for number in 0..leaves + 1 {
-        bots.push(bot(alloc, leaves, number)?)?;
+        bots.push(bot(alloc, leaves, zone, number)?)?;
     }
     Ok(bots)
 }
 
 // A bot of this number.
-fn bot(alloc: Global, leaves: u16, number: u16) -> Result<Bot<SteadyDisk>, NoMemory>
+fn bot(alloc: Global, leaves: u16, zone: &Zone, number: u16) -> Result<Bot<SteadyDisk>, NoMemory>
     requires few { leaves ≤ MAX_LEAVES }
     requires numbered { number ≤ leaves }
-    ensures { IfOk result (λ bot. bot ≡ new_bot (config_of leaves number) bot.link.failures) }
+    ensures { IfOk result (λ bot. bot ≡ new_bot (config_of leaves zone.now number) bot.link.failures) }
 {
-    let config = config(alloc, leaves, number)?;
+    let config = config(alloc, leaves, zone, number)?;
     match Bot::create(
         alloc,
         config,
@@ -69,8 +82,8 @@ fn bot(alloc: Global, leaves: u16, number: u16) -> Result<Bot<SteadyDisk>, NoMem
 }
 
 // What the bot of this number is told.
-fn config(alloc: Global, leaves: u16, number: u16) -> Result<Config, NoMemory>
-    ensures { IfOk result (λ config. config ≡ config_of leaves number) }
+fn config(alloc: Global, leaves: u16, zone: &Zone, number: u16) -> Result<Config, NoMemory>
+    ensures { IfOk result (λ config. config ≡ config_of leaves zone.now number) }
 {
     let mut nick = Vec::from_slice(alloc, b"egg")?;
     put_number(&mut nick, u64::from(number))?;
@@ -82,6 +95,6 @@ fn config(alloc: Global, leaves: u16, number: u16) -> Result<Config, NoMemory>
         nick: Text::new(nick),
         channels,
         exclusive: false,
-        offset: 0,
+        zone: zone.copy(alloc)?,
     })
 }

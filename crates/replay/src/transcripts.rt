@@ -6,11 +6,12 @@ ghost use Rattle.linkcalls.specs.declared.TheConstants.{MAX_LEAVES};
 ghost use Rattle.botworld.specs.Standing.{Past, Stands};
 ghost use Rattle.replay.specs.Deeds.{Shows, Makes, command_deeds, deeds_of};
 ghost use Rattle.replay.specs.Doing.{Does, IsDoneByNew};
+ghost use Rattle.replay.specs.Starting.{zone_or_utc};
 ghost use Rattle.replay.specs.Transcript.{IsTranscript, IsRefusedRightly, TellsFault};
 
 use crate::outcomes::put_outcome;
 use crate::shows::put_shown;
-use crate::starting::new_world;
+use crate::starting::{new_world, zone_or_utc};
 use botworld::{Step, World};
 use bytetext::{Failure, NoMemory};
 use procstore::{ProcStore, Promise, Run};
@@ -36,7 +37,7 @@ pub fn transcript<P: Promise, B: Run>(
     ensures too_long { MAX_SCRIPT < length script.now → result ≡ Err (Failure.Refused (record { line = 0 })) }
 {
     match Script::read(alloc, script) {
-        Ok(script) => Ok(text_of(alloc, store, &script)?),
+        Ok(script) => Ok(text_of(alloc, store, script)?),
         Err(error) => Err(error),
     }
 }
@@ -45,15 +46,20 @@ pub fn transcript<P: Promise, B: Run>(
 fn text_of<P: Promise, B: Run>(
     alloc: Global,
     store: ProcStore<P, B>,
-    script: &Script,
+    script: Script,
 ) -> Result<Vec<u8>, NoMemory>
-    requires { script.now.leaves ≤ MAX_LEAVES }
-    ensures { IfOk result (λ text. IsDoneByNew P.code_of P.may script.now.leaves store
-        (deeds_of script.now.commands) text.items) }
+    requires { script.leaves ≤ MAX_LEAVES }
+    ensures { IfOk result (λ text. IsDoneByNew P.code_of P.may script.leaves (zone_or_utc script.zone) store
+        (deeds_of script.commands) text.items) }
 {
-    let mut world = new_world(alloc, store, script.leaves)?;
+    let Script {
+        leaves,
+        zone,
+        commands,
+    } = script;
+    let mut world = new_world(alloc, store, leaves, &zone_or_utc(zone))?;
     let mut text = Vec::new(alloc);
-    put_commands(alloc, &mut text, &mut world, script.commands.as_slice())?;
+    put_commands(alloc, &mut text, &mut world, commands.as_slice())?;
     Ok(text)
 }
 

@@ -5,7 +5,7 @@ use Rattle.std.proofs.lemmas.List.{take_all, take-take}
 use Rattle.std.proofs.lemmas.Bool.{false≢true, cases_lt}
 use Rattle.script.specs.declared.reading.Script.{Script}
 use Rattle.script.specs.Reading.{said, begins_script, lines_of, Spells, BreaksAt, HasFault}
-use Rattle.script.proofs.Sayings.{said-append, begins-front, are_told-map}
+use Rattle.script.proofs.Sayings.{said-append, begins-front, in_zone-map}
 
 -- the front of lines that can go on can go on
 pub front_begins : (lines : List (List ℕ)) (k : ℕ) → begins_script (said lines) ≡ true → begins_script (said (take k lines)) ≡ true
@@ -28,7 +28,7 @@ pub HasFault-not_spelled : (bytes : List ℕ) (line : ℕ) (script : Script) →
 HasFault-not_spelled bytes zero script (inl long) spelled = let short = spelled.short in omega arith
 HasFault-not_spelled bytes zero script (inr none) spelled = let e = sym none ∙ spelled.says in cc
 HasFault-not_spelled bytes (suc place) script fault spelled =
-    unbroken (lines_of bytes) place (ap begins_script spelled.says ∙ are_told-map script.commands) fault.1
+    unbroken (lines_of bytes) place (ap begins_script spelled.says ∙ in_zone-map script.zone script.commands) fault.1
 
 -- the first fault is one line
 pub HasFault-same : (bytes : List ℕ) (a b : ℕ) → HasFault bytes a → HasFault bytes b → a ≡ b

@@ -5,14 +5,15 @@ use Rattle.std.proofs.lemmas.Bool.Decides.{nat_tests}
 use Rattle.linkcalls.specs.declared.TheConstants.{MAX_LEAVES}
 use Rattle.script.specs.declared.command.Command.{Command}
 use Rattle.script.specs.declared.saying.Saying.{Saying}
-use Rattle.script.specs.declared.saying.Saying.TheVariants.{Nothing, Leaves, Told, Wrong}
+use Rattle.script.specs.declared.saying.Saying.TheVariants.{Nothing, Leaves, Zone, Told, Wrong}
 use Rattle.script.specs.declared.saying.Verb.{Verb}
 use Rattle.script.specs.declared.saying.Verb.TheVariants.{Leaves as leaves_verb, Ask as ask_verb, Pump as pump_verb, Connect as connect_verb}
 use Rattle.script.specs.declared.saying.Verb.TheVariants.{Compact as compact_verb, Restart as restart_verb}
 use Rattle.script.specs.declared.saying.Verb.TheVariants.{Line as line_verb, Clock as clock_verb, Bind as bind_verb, Unbind as unbind_verb}
-use Rattle.script.specs.declared.saying.Verb.TheVariants.{Deliver as deliver_verb, Show as show_verb}
-use Rattle.script.specs.Grammar.{few_leaves, counted, told, two_words, more_words, saying_by_words, saying_of, verb_of, bot_of}
-use Rattle.script.specs.Words.{words_of}
+use Rattle.script.specs.declared.saying.Verb.TheVariants.{Deliver as deliver_verb, Show as show_verb, Zone as zone_verb}
+use Rattle.script.specs.Grammar.{few_leaves, counted, zoned, told, two_words, more_words, saying_by_words, saying_of, verb_of, bot_of}
+use Rattle.bottimers.specs.Zones.{TzText}
+use Rattle.scriptwords.specs.Words.{words_of}
 use Rattle.script.specs.Reading.{said, onto_said}
 use Rattle.script.specs.Outcomes.{LinesReadAs}
 use Rattle.script.specs.declared.reading.Script.{Script}
@@ -24,6 +25,7 @@ use Rattle.std.specs.Prelude.{Result, Ok, Err, IfOk}
 abbrev pub IsFew : Saying → Type 0
 IsFew Nothing = Unit {0}
 IsFew (Leaves n) = n ≤ MAX_LEAVES
+IsFew (Zone rule) = Unit {0}
 IsFew (Told command) = Unit {0}
 IsFew Wrong = Unit {0}
 
@@ -38,6 +40,10 @@ counted-few (Some n) = by (nat_le n MAX_LEAVES) refl
     by : (b : Bool) → nat_le n MAX_LEAVES ≡ b → IsFew (counted (if b then Some n else None))
     by true e = grind (arith, nat_tests)
     by false e = tt
+
+zoned-few : (rule : Option TzText) → IsFew (zoned rule)
+zoned-few None = tt
+zoned-few (Some rule) = tt
 
 told-few : (command : Option Command) → IsFew (told command)
 told-few None = tt
@@ -57,6 +63,7 @@ two_words-few (Some bind_verb) a = tt
 two_words-few (Some unbind_verb) a = tt
 two_words-few (Some deliver_verb) a = told-few _
 two_words-few (Some show_verb) a = told-few _
+two_words-few (Some zone_verb) a = zoned-few _
 
 more_words-few : (verb : Option Verb) (a first : List ℕ) (words : List (List ℕ)) → IsFew (more_words verb a first words)
 more_words-few None a first words = tt
@@ -72,6 +79,7 @@ more_words-few (Some bind_verb) a first words = told-few _
 more_words-few (Some unbind_verb) a first words = told-few _
 more_words-few (Some deliver_verb) a first words = tt
 more_words-few (Some show_verb) a first words = tt
+more_words-few (Some zone_verb) a first words = tt
 
 saying_by_words-few : (words : List (List ℕ)) → IsFew (saying_by_words words)
 saying_by_words-few [] = tt
@@ -90,6 +98,7 @@ saying_of-few (b ∷ bs) = by (b == 35)
 onto_said-few : (s : Saying) (says : List Saying) → IsFew s → AreFew says → AreFew (onto_said s says)
 onto_said-few Nothing says few all = all
 onto_said-few (Leaves n) says few all = (few, all)
+onto_said-few (Zone rule) says few all = (few, all)
 onto_said-few (Told command) says few all = (few, all)
 onto_said-few Wrong says few all = (few, all)
 

@@ -1,22 +1,24 @@
 -- What lines say one after another.
-use Rattle.std.proofs.Common.{◌≡◌, ℕ, suc, ◌+◌, ◌<◌, ◌≤◌, Bool, true, false, List, [], ◌∷◌, ◌++◌, length, take, drop, get_or, map, refl, sym, ap, ◌∙◌, subst}
+use Rattle.std.proofs.Common.{◌≡◌, ℕ, suc, ◌+◌, ◌<◌, ◌≤◌, Bool, true, false, not, ◌||◌, ◌==◌, is_some, List, [], ◌∷◌, ◌++◌, length, take, drop, get_or, map, refl, sym, ap, ◌∙◌, subst, IsTrue}
 use Rattle.std.proofs.Common.{Option, None, Some, arith, add-one}
+use Rattle.std.proofs.Math.Dec.{eqb-suc-zero}
 use Rattle.std.proofs.lemmas.List.{take_more, take_all}
 use Rattle.std.specs.Borrow.{Bor}
 use Rattle.std.proofs.lemmas.List.{length-map, get_or-map}
 use Rattle.script.specs.declared.command.Command.{Command}
 use Rattle.script.specs.declared.saying.Saying.{Saying}
-use Rattle.script.specs.declared.saying.Saying.TheVariants.{Nothing, Leaves, Told, Wrong}
+use Rattle.script.specs.declared.saying.Saying.TheVariants.{Nothing, Leaves, Zone, Told, Wrong}
 use Rattle.script.specs.declared.reading.Script.{Script}
 use Rattle.script.specs.Grammar.{saying_of, saying_by_words, verb_of, more_words}
-use Rattle.script.specs.Changes.{change_named, change_by_words}
-use Rattle.script.specs.Reading.{said, onto_said, are_told, begins_script, BreaksAt}
+use Rattle.bottimers.specs.Zones.{TzText}
+use Rattle.script.specs.Reading.{said, onto_said, are_told, are_told_in_zone, begins_script, zone_said, BreaksAt}
 use Rattle.script.specs.Outcomes.{so_far, GoesOn, HasLineFault}
 
 -- a line's saying, and then the rest
 pub onto_said-append : (s : Saying) (xs ys : List Saying) → onto_said s (xs ++ ys) ≡ onto_said s xs ++ ys
 onto_said-append Nothing xs ys = refl
 onto_said-append (Leaves n) xs ys = refl
+onto_said-append (Zone rule) xs ys = refl
 onto_said-append (Told command) xs ys = refl
 onto_said-append Wrong xs ys = refl
 
@@ -37,18 +39,62 @@ pub are_told-append : (commands : List Command) (says : List Saying) → are_tol
 are_told-append [] says = refl
 are_told-append (c ∷ cs) says = are_told-append cs says
 
+-- commands in a zone or in none
+pub in_zone-map : (zone : Option TzText) (commands : List Command) → are_told_in_zone (zone_said zone ++ map Told commands) ≡ true
+in_zone-map None [] = refl
+in_zone-map None (c ∷ cs) = are_told-map cs
+in_zone-map (Some rule) commands = are_told-map commands
+
+-- and something that is no command after them; a zone is only where there is none and no command
+in_zone-wrong : (zone : Option TzText) (commands : List Command) → are_told_in_zone ((zone_said zone ++ map Told commands) ++ Wrong ∷ []) ≡ false
+in_zone-wrong None [] = refl
+in_zone-wrong None (c ∷ cs) = are_told-append cs (Wrong ∷ [])
+in_zone-wrong (Some rule) commands = are_told-append commands (Wrong ∷ [])
+
+in_zone-leaves : (zone : Option TzText) (commands : List Command) (n : ℕ) → are_told_in_zone ((zone_said zone ++ map Told commands) ++ Leaves n ∷ []) ≡ false
+in_zone-leaves None [] n = refl
+in_zone-leaves None (c ∷ cs) n = are_told-append cs (Leaves n ∷ [])
+in_zone-leaves (Some rule) commands n = are_told-append commands (Leaves n ∷ [])
+
+-- a zone that is said, or commands, are no beginning
+pub begun-late : (zone : Option TzText) (commands : List Command) → (commands ≡ [] → IsTrue false) → (is_some zone || not (length commands == 0)) ≡ true
+begun-late (Some rule) commands some = refl
+begun-late None [] some = cc (some refl)
+begun-late None (c ∷ cs) some = cc (eqb-suc-zero (length cs))
+
+in_zone-zone : (zone : Option TzText) (commands : List Command) (rule : TzText) → (is_some zone || not (length commands == 0)) ≡ true
+    → are_told_in_zone ((zone_said zone ++ map Told commands) ++ Zone rule ∷ []) ≡ false
+in_zone-zone None [] rule h = cc
+in_zone-zone None (c ∷ cs) rule h = are_told-append cs (Zone rule ∷ [])
+in_zone-zone (Some old) commands rule h = are_told-append commands (Zone rule ∷ [])
+
+in_zone-added : (zone : Option TzText) (commands : List Command) (rule : TzText) → (is_some zone || not (length commands == 0)) ≡ false
+    → Zone rule ∷ map Told commands ≡ (zone_said zone ++ map Told commands) ++ Zone rule ∷ []
+in_zone-added None [] rule h = refl
+in_zone-added None (c ∷ cs) rule h = cc (eqb-suc-zero (length cs))
+in_zone-added (Some old) commands rule h = cc
+
 -- what was read so far can go on
 pub begins-so_far : (script : Option Script) → begins_script (so_far script) ≡ true
 begins-so_far None = refl
-begins-so_far (Some script) = are_told-map script.commands
+begins-so_far (Some script) = in_zone-map script.zone script.commands
 
--- but not with a line that is wrong, nor with a second number of leaves
+-- but not with a line that is wrong, nor with a second number of leaves, nor with a second or a late zone
 pub wrong_after-so_far : (script : Option Script) → begins_script (so_far script ++ Wrong ∷ []) ≡ false
 wrong_after-so_far None = refl
-wrong_after-so_far (Some script) = are_told-append script.commands (Wrong ∷ [])
+wrong_after-so_far (Some script) = in_zone-wrong script.zone script.commands
 
 pub leaves_after-so_far : (script : Script) (n : ℕ) → begins_script (so_far (Some script) ++ Leaves n ∷ []) ≡ false
-leaves_after-so_far script n = are_told-append script.commands (Leaves n ∷ [])
+leaves_after-so_far script n = in_zone-leaves script.zone script.commands n
+
+pub zone_after-so_far : (script : Script) (rule : TzText) → (is_some script.zone || not (length script.commands == 0)) ≡ true
+    → begins_script (so_far (Some script) ++ Zone rule ∷ []) ≡ false
+zone_after-so_far script rule late = in_zone-zone script.zone script.commands rule late
+
+-- and a first and early one is added
+pub so_far-zone : (script : Script) (rule : TzText) → (is_some script.zone || not (length script.commands == 0)) ≡ false
+    → so_far (Some (record script { zone = Some rule })) ≡ so_far (Some script) ++ Zone rule ∷ []
+so_far-zone script rule early = ap (λ (says : List Saying). Leaves script.leaves ∷ says) (in_zone-added script.zone script.commands rule early)
 
 -- the front of what can go on can go on
 pub are_told-front : (xs ys : List Saying) → are_told (xs ++ ys) ≡ true → are_told xs ≡ true
@@ -56,11 +102,21 @@ are_told-front [] ys h = refl
 are_told-front (Told command ∷ xs) ys h = are_told-front xs ys h
 are_told-front (Nothing ∷ xs) ys h = h
 are_told-front (Leaves n ∷ xs) ys h = h
+are_told-front (Zone rule ∷ xs) ys h = h
 are_told-front (Wrong ∷ xs) ys h = h
+
+in_zone-front : (xs ys : List Saying) → are_told_in_zone (xs ++ ys) ≡ true → are_told_in_zone xs ≡ true
+in_zone-front [] ys h = refl
+in_zone-front (Zone rule ∷ xs) ys h = are_told-front xs ys h
+in_zone-front (Told command ∷ xs) ys h = are_told-front xs ys h
+in_zone-front (Nothing ∷ xs) ys h = h
+in_zone-front (Leaves n ∷ xs) ys h = h
+in_zone-front (Wrong ∷ xs) ys h = h
 
 pub begins-front : (xs ys : List Saying) → begins_script (xs ++ ys) ≡ true → begins_script xs ≡ true
 begins-front [] ys h = refl
-begins-front (Leaves n ∷ xs) ys h = are_told-front xs ys h
+begins-front (Leaves n ∷ xs) ys h = in_zone-front xs ys h
+begins-front (Zone rule ∷ xs) ys h = h
 begins-front (Told command ∷ xs) ys h = h
 begins-front (Nothing ∷ xs) ys h = h
 begins-front (Wrong ∷ xs) ys h = h
@@ -112,9 +168,3 @@ more_words-at [] d n most all = absurd (omega arith)
 more_words-at (x ∷ []) d n most all = absurd (omega arith)
 more_words-at (x ∷ y ∷ []) d n most all = absurd (omega arith)
 more_words-at (x ∷ y ∷ z ∷ rest) d n most all = ap (λ ws. more_words (verb_of x.now) y.now z.now (now_of ws)) (take_all n rest (omega arith))
-
--- a change, word by word
-pub change_named-at : (words : List (Bor (List ℕ))) (d : Bor (List ℕ)) (n : ℕ) → 1 ≤ length words → length words ≤ n + 1
-    → change_named (get_or words 0 d).now (now_of (take n (drop 1 words))) ≡ change_by_words (now_of words)
-change_named-at [] d n most all = absurd (omega arith)
-change_named-at (x ∷ rest) d n most all = ap (λ ws. change_named x.now (now_of ws)) (take_all n rest (omega arith))

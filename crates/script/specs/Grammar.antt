@@ -13,11 +13,12 @@ use Rattle.script.specs.declared.saying.Verb.{Verb}
 use Rattle.script.specs.declared.saying.Verb.TheVariants.{Leaves as leaves_verb, Ask as ask_verb, Pump as pump_verb, Connect as connect_verb}
 use Rattle.script.specs.declared.saying.Verb.TheVariants.{Compact as compact_verb, Restart as restart_verb}
 use Rattle.script.specs.declared.saying.Verb.TheVariants.{Line as line_verb, Clock as clock_verb, Bind as bind_verb, Unbind as unbind_verb}
-use Rattle.script.specs.declared.saying.Verb.TheVariants.{Deliver as deliver_verb, Show as show_verb}
+use Rattle.script.specs.declared.saying.Verb.TheVariants.{Deliver as deliver_verb, Show as show_verb, Zone as zone_verb}
 use Rattle.script.specs.declared.saying.Saying.{Saying}
-use Rattle.script.specs.declared.saying.Saying.TheVariants.{Nothing, Leaves, Told, Wrong}
-use Rattle.script.specs.Words.{words_of, rest_of, number_below}
-use Rattle.script.specs.Changes.{change_named}
+use Rattle.script.specs.declared.saying.Saying.TheVariants.{Nothing, Leaves, Zone, Told, Wrong}
+use Rattle.bottimers.specs.Zones.{TzText, rule_in}
+use Rattle.scriptwords.specs.Words.{words_of, rest_of, number_below}
+use Rattle.scriptwords.specs.Changes.{change_named}
 use Rattle.script.specs.Binds.{new_bind_of, old_bind_of}
 use Rattle.script.specs.Lines.{line_steps}
 
@@ -47,6 +48,10 @@ told (Some command) = Told command
 abbrev pub counted : Option ℕ → Saying
 counted None = Wrong
 counted (Some leaves) = Leaves leaves
+
+abbrev pub zoned : Option TzText → Saying
+zoned None = Wrong
+zoned (Some rule) = Zone rule
 
 -- a command of one step
 abbrev pub one_step : Step → Command
@@ -78,11 +83,13 @@ verb_of word =
     else if bytes_eq word (codes "unbind") then Some unbind_verb
     else if bytes_eq word (codes "deliver") then Some deliver_verb
     else if bytes_eq word (codes "show") then Some show_verb
+    else if bytes_eq word (codes "zone") then Some zone_verb
     else None
 
 -- VERB A
 abbrev pub two_words : Option Verb → List ℕ → Saying
 two_words (Some leaves_verb) a = counted (leaves_of a)
+two_words (Some zone_verb) a = zoned (rule_in a)
 two_words (Some pump_verb) a = told_to (bot_of a) Pump
 two_words (Some compact_verb) a = told_to (bot_of a) Compact
 two_words (Some restart_verb) a = told_to (bot_of a) Restart
@@ -130,6 +137,7 @@ more_words (Some restart_verb) a first words = Wrong
 more_words (Some connect_verb) a first words = Wrong
 more_words (Some deliver_verb) a first words = Wrong
 more_words (Some show_verb) a first words = Wrong
+more_words (Some zone_verb) a first words = Wrong
 more_words None a first words = Wrong
 
 -- each command has its count of words

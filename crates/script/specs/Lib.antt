@@ -1,5 +1,5 @@
-pub mod Words
-pub mod Changes
+pub use Rattle.scriptwords.specs.Words
+pub use Rattle.scriptwords.specs.Changes
 pub mod Binds
 pub mod Lines
 pub mod Grammar

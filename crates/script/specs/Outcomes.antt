@@ -6,7 +6,7 @@ use Rattle.script.specs.declared.reading.Script.{Script}
 use Rattle.bytetext.specs.declared.failure.Failure.{Failure}
 use Rattle.bytetext.specs.declared.failure.Failure.TheVariants.{Refused, NoMemory}
 use Rattle.script.specs.declared.error.ScriptFault.{ScriptFault}
-use Rattle.script.specs.Reading.{Spells, HasFault, BreaksAt, begins_script, onto_said, said}
+use Rattle.script.specs.Reading.{Spells, HasFault, BreaksAt, begins_script, onto_said, said, zone_said}
 
 -- these bytes are read as this
 abbrev pub ReadsAs : List ℕ → Result Script (Failure ScriptFault) → Type 0
@@ -20,14 +20,14 @@ HasLineFault lines zero = said lines ≡ []
 HasLineFault lines (suc place) = BreaksAt lines place
 
 abbrev pub LinesReadAs : List (List ℕ) → Result Script (Failure ScriptFault) → Type 0
-LinesReadAs lines (Ok script) = said lines ≡ Leaves script.leaves ∷ map Told script.commands
+LinesReadAs lines (Ok script) = said lines ≡ Leaves script.leaves ∷ (zone_said script.zone ++ map Told script.commands)
 LinesReadAs lines (Err (Refused fault)) = HasLineFault lines fault.line
 LinesReadAs lines (Err NoMemory) = Unit {0}
 
 -- what was said in the lines so far, by the script that they make
 abbrev pub so_far : Option Script → List Saying
 so_far None = []
-so_far (Some script) = Leaves script.leaves ∷ map Told script.commands
+so_far (Some script) = Leaves script.leaves ∷ (zone_said script.zone ++ map Told script.commands)
 
 -- the next line goes on with the script, or breaks a rule
 abbrev pub GoesOn : Option Script → Saying → Bool → Option Script → Type 0

@@ -1,11 +1,12 @@
 -- What a script is, and which of its lines is the first that breaks a rule.
-use Rattle.std.specs.Prelude.{◌≡◌, ℕ, zero, suc, ◌<◌, ◌≤◌, ◌==◌, Bool, true, false, List, [], ◌∷◌, length, take, map, ◌⊎◌}
+use Rattle.std.specs.Prelude.{◌≡◌, ℕ, zero, suc, ◌<◌, ◌≤◌, ◌==◌, Bool, true, false, Option, None, Some, List, [], ◌∷◌, ◌++◌, length, take, map, ◌⊎◌}
 use Rattle.std.specs.List.{slice_split}
 use Rattle.script.specs.declared.saying.Saying.{Saying}
-use Rattle.script.specs.declared.saying.Saying.TheVariants.{Nothing, Leaves, Told, Wrong}
+use Rattle.script.specs.declared.saying.Saying.TheVariants.{Nothing, Leaves, Zone, Told, Wrong}
 use Rattle.script.specs.declared.reading.Script.{Script}
 use Rattle.script.specs.declared.TheConstants.{MAX_SCRIPT}
 use Rattle.script.specs.Grammar.{saying_of}
+use Rattle.bottimers.specs.Zones.{TzText}
 
 -- the lines, which a line feed ends or divides each: after the last one stands an empty line
 abbrev pub lines_of : List ℕ → List (List ℕ)
@@ -15,6 +16,7 @@ lines_of bytes = slice_split (λ b. b == 10) bytes
 abbrev pub onto_said : Saying → List Saying → List Saying
 onto_said Nothing rest = rest
 onto_said (Leaves n) rest = Leaves n ∷ rest
+onto_said (Zone rule) rest = Zone rule ∷ rest
 onto_said (Told command) rest = Told command ∷ rest
 onto_said Wrong rest = Wrong ∷ rest
 
@@ -28,20 +30,36 @@ are_told [] = true
 are_told (Told command ∷ says) = are_told says
 are_told (Nothing ∷ says) = false
 are_told (Leaves n ∷ says) = false
+are_told (Zone rule ∷ says) = false
 are_told (Wrong ∷ says) = false
 
--- a script can go on from here: nothing is said yet, or the number of leaves and then commands
+-- commands, and before them the zone where it is said
+abbrev pub are_told_in_zone : List Saying → Bool
+are_told_in_zone (Zone rule ∷ says) = are_told says
+are_told_in_zone (Told command ∷ says) = are_told says
+are_told_in_zone (Nothing ∷ says) = false
+are_told_in_zone (Leaves n ∷ says) = false
+are_told_in_zone (Wrong ∷ says) = false
+are_told_in_zone [] = true
+
+-- a script can go on from here: nothing is said yet, or the number of leaves, the zone at will, and then commands
 abbrev pub begins_script : List Saying → Bool
 begins_script [] = true
-begins_script (Leaves n ∷ says) = are_told says
+begins_script (Leaves n ∷ says) = are_told_in_zone says
+begins_script (Zone rule ∷ says) = false
 begins_script (Nothing ∷ says) = false
 begins_script (Told command ∷ says) = false
 begins_script (Wrong ∷ says) = false
 
--- these bytes are this script: not too many, and they say the number of leaves and then its commands
+-- the zone, where it is said
+abbrev pub zone_said : Option TzText → List Saying
+zone_said None = []
+zone_said (Some rule) = Zone rule ∷ []
+
+-- these bytes are this script: not too many, and they say the number of leaves, its zone and then its commands
 pub record Spells (bytes : List ℕ) (script : Script) : Type 0 where
   pub short : length bytes ≤ MAX_SCRIPT
-  pub says : said (lines_of bytes) ≡ Leaves script.leaves ∷ map Told script.commands
+  pub says : said (lines_of bytes) ≡ Leaves script.leaves ∷ (zone_said script.zone ++ map Told script.commands)
 
 -- a script can go on from the lines before this place, and not from those with it
 pub record BreaksAt (lines : List (List ℕ)) (place : ℕ) : Type 0 where

@@ -2,10 +2,10 @@
 ghost use Rattle.std.specs.Prelude.{◌≡◌, map, IfOk};
 ghost use Rattle.script.specs.Binds.{new_bind_of, old_bind_of, new_bind_by, old_bind_by};
 
-use crate::rest::rest_of;
 use bindtable::BindKind;
 use botcore::{NewBind, OldBind};
 use bytetext::{NoMemory, Text};
+use scriptwords::rest_of;
 use std::alloc::Global;
 
 /// The bind of this kind that FLAGS PROC MASK.. spell; none where they don't, or where there is no such kind.

@@ -1,6 +1,7 @@
 //! Scripts: a text of commands for a botnet, read whole before the first of them is done.
 //!
-//! A script has one command a line, and words with one space between them. Its first command is `leaves N`; then come
+//! A script has one command a line, and words with one space between them. Its first command is `leaves N`; the second
+//! may be `zone RULE`, the zone of all bots' clocks (a rule of POSIX of 1 to 100 bytes: [`Zone`](bottimers::Zone)); then come
 //! `ask B CHANGE`, `pump B`, `compact B`, `restart B`, `connect B`, `line B TEXT`, `clock B N`, `bind B TYPE FLAGS PROC MASK`,
 //! `unbind B TYPE PROC MASK`, `deliver K` and `show B`, in any order. Empty lines and lines that begin with `#` are no commands. [`Script::read`]
 //! answers the number of leaves and the commands, or the first line that breaks a rule.
@@ -12,10 +13,8 @@
 //! `kick`, `nick`, `mode`, `topc`, `bot`, `time` or `cron`, and a MASK takes the rest of the line. Whether there is such a
 //! bind, and whether flags and mask are of a good shape, is seen when the bot is told.
 //!
-//! A CHANGE is `adduser H`, `deluser H`, `addhost H M`, `delhost H M`, `global H F`, `bot H F`, `chan H C F`,
-//! `addban C M H E COMMENT` or `delban C M`. F is letters, or `-` for none. A ban of all channels has the channel `*`,
-//! and one that does not end the expiry E 0; its comment takes the rest of the line, spaces and all, or is left out with
-//! its space. Whether handles, masks, channels and comments have a good shape is seen when the change is asked for.
+//! A CHANGE is one that `scriptwords` reads, as `adduser H`. Whether handles, masks, channels and comments have a good shape
+//! is seen when the change is asked for.
 //!
 //! ```text
 //! let script = Script::read(alloc, b"leaves 1\nask 0 adduser alice\npump 0\n")?;
@@ -27,25 +26,18 @@
 //! takes the rest by [`rest_of`], and what a line says by [`saying_of`].
 #![tactic(auto)]
 
-mod asking;
 mod binding;
 mod command;
 mod error;
 mod lines;
-mod numeral;
-mod pieces;
 mod reading;
-mod rest;
 mod saying;
 
-pub use crate::asking::change_of;
 pub use crate::command::{Command, Commands, Steps};
 pub use crate::error::{ScriptError, ScriptFault};
-pub use crate::numeral::number;
-pub use crate::pieces::pieces_of;
 pub use crate::reading::Script;
-pub use crate::rest::rest_of;
 pub use crate::saying::{Saying, saying_of};
+pub use scriptwords::{change_of, number, pieces_of, rest_of};
 
 /// The most bytes that a script has.
 pub const MAX_SCRIPT: usize = 1_048_576;

@@ -6,17 +6,20 @@ ghost use Rattle.script.specs.declared.saying.Saying.TheVariants.{Leaves, Told};
 use crate::MAX_SCRIPT;
 use crate::command::{Command, Commands};
 use crate::error::{ScriptError, ScriptFault};
-use crate::pieces::pieces_of;
 use crate::saying::{Saying, saying_of};
+use bottimers::Zone;
 use bytetext::{Failure, NoMemory, TryCopy};
 use linkcalls::MAX_LEAVES;
+use scriptwords::pieces_of;
 use std::alloc::Global;
 
-/// A script: how many leaves the botnet has, and what is done with it.
+/// A script: how many leaves the botnet has, in which zone, and what is done with it.
 #[derive(Drop)]
 pub struct Script {
     /// The number of leaves, at most 1,000.
     pub leaves: u16,
+    /// The zone of all bots' clocks, where the script says it; UTC where it doesn't.
+    pub zone: Option<Zone>,
     /// The commands, in order.
     pub commands: Commands,
 }
@@ -47,6 +50,10 @@ impl TryCopy for Script {
     fn copy(&self, alloc: Global) -> Result<Script, NoMemory> {
         Ok(Script {
             leaves: self.leaves,
+            zone: match &self.zone {
+                Some(zone) => Some(zone.copy(alloc)?),
+                None => None,
+            },
             commands: self.commands.copy(alloc)?,
         })
     }
@@ -77,6 +84,7 @@ fn go_on(alloc: Global, script: &mut Option<Script>, saying: Saying) -> Result<b
     match saying {
         Saying::Nothing => Ok(true),
         Saying::Leaves(leaves) => Ok(set_leaves(alloc, script, leaves)),
+        Saying::Zone(zone) => Ok(set_zone(script, zone)),
         Saying::Told(command) => add_command(script, command),
         Saying::Wrong => Ok(false),
     }
@@ -90,8 +98,28 @@ fn set_leaves(alloc: Global, script: &mut Option<Script>, leaves: u16) -> bool
         return false;
     }
     let commands = Commands::empty(alloc);
-    *script = Some(Script { leaves, commands });
+    *script = Some(Script {
+        leaves,
+        zone: None,
+        commands,
+    });
     true
+}
+
+// Sets the zone, which is said once, after the number of leaves and before any command.
+fn set_zone(script: &mut Option<Script>, zone: Zone) -> bool
+    ensures { GoesOn script.old (Saying.Zone zone) result script.new }
+{
+    match script {
+        Some(begun) => {
+            if begun.zone.is_some() || !begun.commands.is_empty() {
+                return false;
+            }
+            begun.zone = Some(zone);
+            true
+        }
+        None => false,
+    }
 }
 
 // Adds a command, after the number of leaves. Where room is refused the script is gone: nothing is read on.

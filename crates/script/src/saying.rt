@@ -1,20 +1,19 @@
 // What one line says.
 ghost use Rattle.std.specs.Prelude.{◌≡◌, ◌∷◌, map, option_and_then, IfOk};
-ghost use Rattle.script.specs.Grammar.{counted, few_leaves, told, verb_of, one_step, event_at, told_to, asked, read, clocked, bound, unbound};
+ghost use Rattle.bottimers.specs.Zones.{rule_in};
+ghost use Rattle.script.specs.Grammar.{counted, zoned, few_leaves, told, verb_of, one_step, event_at, told_to, asked, read, clocked, bound, unbound};
 ghost use Rattle.script.specs.Grammar.{two_words, more_words, saying_by_words, saying_of};
 
-use crate::asking::change_named;
 use crate::binding::{new_bind, old_bind};
 use crate::command::{Command, Steps};
 use crate::lines::line_steps;
-use crate::numeral::{bot_number, number};
-use crate::pieces::pieces_of;
-use crate::rest::rest_of;
 use bindtable::BindKind;
 use botcore::Event;
+use bottimers::Zone;
 use botworld::Step;
 use bytetext::NoMemory;
 use linkcalls::MAX_LEAVES;
+use scriptwords::{bot_number, change_named, number, pieces_of, rest_of};
 use std::alloc::Global;
 
 /// The first words of lines.
@@ -32,6 +31,7 @@ pub enum Verb {
     Unbind,
     Deliver,
     Show,
+    Zone,
 }
 
 /// What a line says by itself, whatever stands before it.
@@ -41,6 +41,8 @@ pub enum Saying {
     Nothing,
     /// The number of leaves.
     Leaves(u16),
+    /// The zone of all bots.
+    Zone(Zone),
     /// A command.
     Told(Command),
     /// It breaks a rule.
@@ -100,6 +102,8 @@ fn verb_of(word: &[u8]) -> Option<Verb>
         Some(Verb::Deliver)
     } else if word == b"show".as_slice() {
         Some(Verb::Show)
+    } else if word == b"zone".as_slice() {
+        Some(Verb::Zone)
     } else {
         None
     }
@@ -111,6 +115,7 @@ fn two_words(alloc: Global, verb: &[u8], a: &[u8]) -> Result<Saying, NoMemory>
 {
     match verb_of(verb) {
         Some(Verb::Leaves) => Ok(count_leaves(bot_number(a))),
+        Some(Verb::Zone) => Ok(read_zone(a)),
         Some(Verb::Pump) => tell(alloc, bot_number(a), Event::Pump),
         Some(Verb::Compact) => tell(alloc, bot_number(a), Event::Compact),
         Some(Verb::Restart) => tell(alloc, bot_number(a), Event::Restart),
@@ -142,6 +147,16 @@ fn count_leaves(leaves: Option<u16>) -> Saying
             }
         }
         None => Saying::Wrong,
+    }
+}
+
+// The zone of a rule.
+fn read_zone(rule: &[u8]) -> Saying
+    ensures { result ≡ zoned (rule_in rule.now) }
+{
+    match Zone::posix(rule) {
+        Ok(zone) => Saying::Zone(zone),
+        Err(_) => Saying::Wrong,
     }
 }
 
@@ -195,7 +210,8 @@ fn more_words(
             | Verb::Restart
             | Verb::Connect
             | Verb::Deliver
-            | Verb::Show,
+            | Verb::Show
+            | Verb::Zone,
         )
         | None => Ok(Saying::Wrong),
     }

@@ -1,10 +1,8 @@
 // Which binds an event calls.
-use crate::sink::Sink;
-use crate::stop::{BAD_WORDS, CaseError};
-use crate::words::{cut, number};
 use bindtable::{BindError, BindKind, BindTable, Event};
-use bottimers::{CivilMinute, civil};
+use bottimers::{CivilMinute, Zone, civil};
 use bytetext::Text;
+use caselines::{BAD_WORDS, CaseError, Sink, cut, number};
 use flagexpr::Flags;
 use std::alloc::Global;
 
@@ -120,7 +118,7 @@ fn minute_of(kind: BindKind, subject: &[u8]) -> Result<Option<CivilMinute>, Case
     if kind != BindKind::Cron {
         return Ok(None);
     }
-    match civil(number(subject)?, 0) {
+    match civil(number(subject)?, &Zone::fixed(0).unwrap()) {
         Ok(minute) => Ok(Some(minute)),
         Err(_) => Err(BAD_WORDS),
     }

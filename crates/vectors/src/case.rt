@@ -1,12 +1,11 @@
 // What a case asks for.
 use crate::civil::Form;
-use crate::sink::Sink;
-use crate::stop::{CaseError, NO_SUCH_CASE};
 use crate::{
-    binds, bots, casemapping, channels, civil, clock, cron, drives, events, flags, frames,
-    journals, lines, masks, persons, queues, scripts, spellings, timers,
+    binds, casemapping, channels, civil, clock, cron, events, flags, frames, journals, lines,
+    masks, persons, queues, spellings, timers,
 };
 use bytetext::Text;
+use caselines::{CaseError, NO_SUCH_CASE, Sink};
 use std::alloc::Global;
 
 // The first word of a case.
@@ -14,17 +13,14 @@ use std::alloc::Global;
 enum Asked {
     Ban,
     Binds,
-    Bot,
     Chan,
     Change,
     Civil,
     Clock,
-    Commands,
-    Config,
     Cron,
     CronArgs,
-    Drive,
     Events,
+    Feed,
     Flags,
     Fold,
     Frame,
@@ -40,29 +36,26 @@ enum Asked {
     Record,
     Respell,
     Same,
-    Script,
     Spell,
     Stream,
     Time,
     TimeArgs,
     Timers,
     UserFlags,
+    Zone,
 }
 
-const ASKED: [(&[u8], Asked); 35] = [
+const ASKED: [(&[u8], Asked); 32] = [
     (b"ban", Asked::Ban),
     (b"binds", Asked::Binds),
-    (b"bot", Asked::Bot),
     (b"chan", Asked::Chan),
     (b"change", Asked::Change),
     (b"civil", Asked::Civil),
     (b"clock", Asked::Clock),
-    (b"commands", Asked::Commands),
-    (b"config", Asked::Config),
     (b"cron", Asked::Cron),
     (b"cronargs", Asked::CronArgs),
-    (b"drive", Asked::Drive),
     (b"events", Asked::Events),
+    (b"feed", Asked::Feed),
     (b"flags", Asked::Flags),
     (b"fold", Asked::Fold),
     (b"frame", Asked::Frame),
@@ -78,13 +71,13 @@ const ASKED: [(&[u8], Asked); 35] = [
     (b"record", Asked::Record),
     (b"respell", Asked::Respell),
     (b"same", Asked::Same),
-    (b"script", Asked::Script),
     (b"spell", Asked::Spell),
     (b"stream", Asked::Stream),
     (b"time", Asked::Time),
     (b"timeargs", Asked::TimeArgs),
     (b"timers", Asked::Timers),
     (b"userflags", Asked::UserFlags),
+    (b"zone", Asked::Zone),
 ];
 
 /// Writes the answer to a case of these words.
@@ -107,17 +100,14 @@ fn answer_to(asked: Asked, alloc: Global, words: &[Text], out: &mut Sink) -> Res
     match asked {
         Asked::Ban => persons::ban(alloc, words, out),
         Asked::Binds => binds::binds(alloc, words, out),
-        Asked::Bot => bots::bot(alloc, words, out),
         Asked::Chan => channels::chan(alloc, words, out),
         Asked::Change => spellings::change(alloc, words, out),
         Asked::Civil => civil::civil(alloc, Form::Numbers, words, out),
         Asked::Clock => clock::clock(alloc, words, out),
-        Asked::Commands => scripts::commands(alloc, words, out),
-        Asked::Config => bots::config(alloc, words, out),
-        Asked::Cron => cron::cron(words, out),
+        Asked::Cron => cron::cron(alloc, words, out),
         Asked::CronArgs => civil::civil(alloc, Form::CronArgs, words, out),
-        Asked::Drive => drives::drive_case(alloc, words, out),
         Asked::Events => events::events(alloc, words, out),
+        Asked::Feed => lines::feed(alloc, words, out),
         Asked::Flags => flags::met(words, out),
         Asked::Fold => casemapping::fold(alloc, words, out),
         Asked::Frame => frames::frame(alloc, words, out),
@@ -133,12 +123,12 @@ fn answer_to(asked: Asked, alloc: Global, words: &[Text], out: &mut Sink) -> Res
         Asked::Record => spellings::record(alloc, words, out),
         Asked::Respell => spellings::respell(alloc, words, out),
         Asked::Same => casemapping::same(words, out),
-        Asked::Script => scripts::script(alloc, words, out),
         Asked::Spell => spellings::spell(alloc, words, out),
         Asked::Stream => lines::stream(alloc, words, out),
         Asked::Time => civil::civil(alloc, Form::Time, words, out),
         Asked::TimeArgs => civil::civil(alloc, Form::TimeArgs, words, out),
         Asked::Timers => timers::timers(alloc, words, out),
         Asked::UserFlags => persons::user_flags(alloc, words, out),
+        Asked::Zone => civil::zone(words, out),
     }
 }

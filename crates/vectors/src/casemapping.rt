@@ -1,7 +1,6 @@
 // Casemapping.
-use crate::sink::Sink;
-use crate::stop::{BAD_WORDS, CaseError};
 use bytetext::Text;
+use caselines::{BAD_WORDS, CaseError, Sink};
 use std::alloc::Global;
 
 /// `fold TEXT`: the text's lower case.

@@ -1,6 +1,6 @@
 // The userfile of a case.
-use crate::stop::{BAD_WORDS, CaseError};
 use bytetext::Text;
+use caselines::{BAD_WORDS, CaseError};
 use std::alloc::Global;
 use userfile::{ChangeError, ChangeFault, Userfile};
 
@@ -24,7 +24,7 @@ fn make(
     userfile: &mut Userfile,
     word: &[u8],
 ) -> Result<Option<ChangeFault>, CaseError> {
-    let Some(change) = script::change_of(alloc, word)? else {
+    let Some(change) = scriptwords::change_of(alloc, word)? else {
         return Err(BAD_WORDS);
     };
     match userfile.apply(alloc, &change) {

@@ -1,7 +1,6 @@
 // What a bot knows of its channels by the lines that it has read.
-use crate::sink::Sink;
-use crate::stop::{BAD_WORDS, CaseError};
-use bytetext::{NoMemory, Text};
+use bytetext::{NoMemory, Text, TryCopy};
+use caselines::{BAD_WORDS, CaseError, Sink};
 use chanstate::{ChanState, Member};
 use ircline::{Fault, Line};
 use std::alloc::Global;
@@ -27,7 +26,7 @@ const QUESTIONS: [(&[u8], Question); 6] = [
 ];
 
 /// `chan NICK LINE.. QUESTION NAME..`: the answer to the question after the lines, or the code of the first of them
-/// that is no message. The bot has connected under the nick.
+/// that is no message. The bot has connected under the nick. The question is asked of a copy.
 pub fn chan(alloc: Global, words: &[Text], out: &mut Sink) -> Result<(), CaseError> {
     let [nick, words @ ..] = words else {
         return Err(BAD_WORDS);
@@ -36,7 +35,8 @@ pub fn chan(alloc: Global, words: &[Text], out: &mut Sink) -> Result<(), CaseErr
     answer_after(alloc, &mut state, words, out)
 }
 
-/// Reads these lines, up to the first that is no message, whose fault is answered.
+/// Reads these lines, up to the first that is no message, whose fault is answered. Each message is made ready and given
+/// up, and then taken in.
 pub fn read_all(
     alloc: Global,
     state: &mut ChanState,
@@ -53,10 +53,11 @@ pub fn read_all(
 
 fn read(alloc: Global, state: &mut ChanState, line: &[u8]) -> Result<Option<Fault>, NoMemory> {
     match ircline::read_line(alloc, line)? {
-        Line::Message(message) => match state.apply(alloc, &message) {
-            Ok(()) => Ok(None),
-            Err(refused) => Err(refused),
-        },
+        Line::Message(message) => {
+            state.ready(alloc, &message)?.cancel();
+            state.apply(alloc, &message)?;
+            Ok(None)
+        }
         Line::Bad(fault) => Ok(Some(fault)),
     }
 }
@@ -78,7 +79,7 @@ fn answer_after(
     };
     match read_all(alloc, state, &words[..at])? {
         Some(fault) => out.put(fault.code().as_bytes()),
-        None => answer(alloc, state, &words[at..], out)?,
+        None => answer(alloc, &state.copy(alloc)?, &words[at..], out)?,
     }
     Ok(())
 }

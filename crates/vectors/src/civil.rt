@@ -1,9 +1,7 @@
 // Civil time.
-use crate::sink::Sink;
-use crate::stop::{BAD_NUMBER, BAD_WORDS, CaseError};
-use crate::words::number;
-use bottimers::{CivilMinute, ClockFault};
+use bottimers::{CivilMinute, ClockFault, Zone};
 use bytetext::{NoMemory, Text, Texts};
+use caselines::{BAD_WORDS, CaseError, Sink, number, zone_of};
 use std::alloc::Global;
 
 /// How a civil minute is written.
@@ -19,30 +17,38 @@ pub enum Form {
     CronArgs,
 }
 
-/// `civil MOMENT OFFSET` and its like: the civil minute of a moment in this form, or the code of what it is refused for.
-/// The moment is in seconds, the offset in minutes ahead of UTC.
+/// `civil MOMENT ZONE` and its like: the civil minute of a moment in this form, or the code of what is refused. The moment
+/// is in seconds.
 pub fn civil(alloc: Global, form: Form, words: &[Text], out: &mut Sink) -> Result<(), CaseError> {
-    let [moment, offset] = words else {
+    let [moment, zone] = words else {
         return Err(BAD_WORDS);
     };
-    match minute_of(moment, offset)? {
+    match minute_of(moment, zone)? {
         Ok(at) => minute_shown(alloc, form, &at, out)?,
         Err(fault) => out.put(fault.code().as_bytes()),
     }
     Ok(())
 }
 
-/// The civil minute of a moment, or why there is none.
-pub fn minute_of(
-    moment: &Text,
-    offset: &Text,
-) -> Result<Result<CivilMinute, ClockFault>, CaseError> {
+/// The civil minute of a moment in a zone, or why there is none.
+pub fn minute_of(moment: &Text, zone: &Text) -> Result<Result<CivilMinute, ClockFault>, CaseError> {
     let moment = number::<u64>(moment.as_bytes())?;
-    let offset = number::<i32>(offset.as_bytes())?;
-    if offset < -1439 || offset > 1439 {
-        return Err(BAD_NUMBER);
+    match zone_of(zone.as_bytes()) {
+        Ok(zone) => Ok(bottimers::civil(moment, &zone)),
+        Err(fault) => Ok(Err(fault)),
     }
-    Ok(bottimers::civil(moment, offset))
+}
+
+/// `zone ZONE`: `ok`, or the code of why there is no such zone.
+pub fn zone(words: &[Text], out: &mut Sink) -> Result<(), CaseError> {
+    let [word] = words else {
+        return Err(BAD_WORDS);
+    };
+    match zone_of(word.as_bytes()) {
+        Ok(_) => out.put(b"ok"),
+        Err(fault) => out.put(fault.code().as_bytes()),
+    }
+    Ok(())
 }
 
 fn minute_shown(

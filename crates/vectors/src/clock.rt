@@ -1,17 +1,17 @@
 // Readings of the clock.
-use crate::sink::Sink;
-use crate::stop::CaseError;
-use crate::words::number;
 use bottimers::{Clock, ClockError};
-use bytetext::Text;
+use bytetext::{Text, TryCopy};
+use caselines::{CaseError, Sink, number};
 use std::alloc::Global;
 
 /// `clock READING..`: for each reading the seconds that it runs, as `FIRST to LAST`, `none`, or the code of what it is
-/// refused for, with ` ; ` between; for the word `last` in the place of a reading the last second seen.
+/// refused for, with ` ; ` between; for the word `last` in the place of a reading the last second seen. Each is asked of
+/// a copy.
 pub fn clock(alloc: Global, words: &[Text], out: &mut Sink) -> Result<(), CaseError> {
     let mut clock = Clock::new();
     for (i, word) in words.iter().enumerate() {
         out.between(b" ; ", i);
+        clock = clock.copy(alloc)?;
         match word.is_same(b"last") {
             true => last_shown(clock.last(), out),
             false => read(alloc, &mut clock, number(word.as_bytes())?, out)?,

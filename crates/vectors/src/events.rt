@@ -1,8 +1,7 @@
 // The events of a line.
 use crate::channels;
-use crate::sink::Sink;
-use crate::stop::{BAD_WORDS, CaseError};
 use bytetext::{NoMemory, Text};
+use caselines::{BAD_WORDS, CaseError, Sink};
 use chanstate::{ChanState, Event, Kind};
 use ircline::Line;
 use std::alloc::Global;

@@ -1,7 +1,6 @@
 // Flag expressions.
-use crate::sink::Sink;
-use crate::stop::{BAD_WORDS, CaseError};
 use bytetext::Text;
+use caselines::{BAD_WORDS, CaseError, Sink};
 use flagexpr::{FlagExpr, FlagFault, Flags};
 
 /// `flags EXPR GLOBAL CHAN BOT`: whether these flags meet the expression, or the code of the first word that is refused.

@@ -3,11 +3,8 @@ ghost use Rattle.std.specs.Prelude.{◌≡◌, IfOk, None};
 ghost use Rattle.userfile.specs.Apply.{bad_shape};
 ghost use Rattle.sharewire.specs.Frames.{CanBeWritten};
 
-use crate::sink::Sink;
-use crate::stop::{BAD_NUMBER, BAD_WORDS, CaseError};
-use crate::values::put_change;
-use crate::words::number;
 use bytetext::{Text, TryCopy};
+use caselines::{BAD_NUMBER, BAD_WORDS, CaseError, Sink, number, put_change};
 use sharewire::{Feed, Packet, WireReader, is_bot_text, write_packet};
 use std::alloc::Global;
 use userfile::{Change, ChangeFault, shape};
@@ -144,7 +141,7 @@ fn bot_text(from: &Text, to: &Text, text: Text) -> Result<Packet, CaseError>
 fn change_of(alloc: Global, word: &Text) -> Result<Change, CaseError>
     ensures { IfOk result (λ change. bad_shape change ≡ None) }
 {
-    let Some(change) = script::change_of(alloc, word.as_bytes())? else {
+    let Some(change) = scriptwords::change_of(alloc, word.as_bytes())? else {
         return Err(BAD_WORDS);
     };
     match shape(&change) {

@@ -4,11 +4,9 @@ ghost use Rattle.storage.specs.State.{IsSettled};
 ghost use Rattle.disks.specs.Memory.{state_of};
 ghost use Rattle.bytejournal.specs.Journal.{IsSound};
 
-use crate::sink::Sink;
-use crate::stop::{BAD_NUMBER, BAD_WORDS, CaseError};
-use crate::words::{cut, number};
 use bytejournal::{Disks, Journal, JournalError, Opened, Returned};
 use bytetext::Text;
+use caselines::{BAD_NUMBER, BAD_WORDS, CaseError, Sink, cut, number};
 use disks::{MemDisk, Tear};
 use std::alloc::Global;
 

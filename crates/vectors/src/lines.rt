@@ -1,8 +1,7 @@
 // Lines of IRC.
-use crate::sink::Sink;
-use crate::stop::{BAD_WORDS, CaseError};
 use bytetext::{NoMemory, Text, Texts, TryCopy, copies_of};
-use ircline::{Line, Message, Person, PrintError, Source};
+use caselines::{BAD_WORDS, CaseError, Sink, line_shown};
+use ircline::{Line, LineReader, Message, Person, PrintError, Source};
 use std::alloc::Global;
 
 /// `line TEXT`: what the line reads as: `'PREFIX' COMMAND 'PARAM'.. rest 'REST'`, or the code of its fault.
@@ -10,7 +9,8 @@ pub fn line(alloc: Global, words: &[Text], out: &mut Sink) -> Result<(), CaseErr
     let [text] = words else {
         return Err(BAD_WORDS);
     };
-    line_shown(&ircline::read_line(alloc, text.as_bytes())?, out);
+    let line = ircline::read_line(alloc, text.as_bytes())?;
+    line_shown(&line.copy(alloc)?, out);
     Ok(())
 }
 
@@ -22,6 +22,30 @@ pub fn stream(alloc: Global, words: &[Text], out: &mut Sink) -> Result<(), CaseE
         line_shown(line, out);
     }
     Ok(())
+}
+
+/// `feed PIECE..`: the lines that end in each piece of a stream, and last the line that the stream's end ends, with ` ; `
+/// between the pieces and `, ` between the lines, or `none`. The reader is copied before each.
+pub fn feed(alloc: Global, words: &[Text], out: &mut Sink) -> Result<(), CaseError> {
+    let mut reader = LineReader::new(alloc);
+    for piece in words {
+        reader = reader.copy(alloc)?;
+        lines_shown(&reader.feed(alloc, piece.as_bytes())?, out);
+        out.put(b" ; ");
+    }
+    match reader.copy(alloc)?.finish(alloc)? {
+        Some(line) => line_shown(&line, out),
+        None => out.put(b"none"),
+    }
+    Ok(())
+}
+
+fn lines_shown(lines: &[Line], out: &mut Sink) {
+    for (i, line) in lines.iter().enumerate() {
+        out.between(b", ", i);
+        line_shown(line, out);
+    }
+    out.put_if(lines.is_empty(), b"none");
 }
 
 /// `print PREFIX COMMAND PARAM..`: the line, or the code of why there is none.
@@ -78,24 +102,4 @@ fn message_of(
         }),
         (_, _, _) => Err(NoMemory),
     }
-}
-
-/// What a line reads as, or the code of its fault.
-pub fn line_shown(line: &Line, out: &mut Sink) {
-    match line {
-        Line::Bad(fault) => out.put(fault.code().as_bytes()),
-        Line::Message(message) => message_shown(message, out),
-    }
-}
-
-fn message_shown(message: &Message, out: &mut Sink) {
-    out.put(b"'");
-    out.put(message.prefix.as_bytes());
-    out.put(b"' ");
-    out.put(message.command.as_bytes());
-    for param in message.params.as_slice() {
-        out.quoted(param.as_bytes());
-    }
-    out.put(b" rest");
-    out.quoted(message.rest.as_bytes());
 }

@@ -1,17 +1,16 @@
 // Masks.
-use crate::sink::Sink;
-use crate::stop::{BAD_WORDS, CaseError};
-use bytetext::Text;
+use bytetext::{Text, TryCopy};
+use caselines::{BAD_WORDS, CaseError, Sink};
 use std::alloc::Global;
-use wildmask::{Mask, MaskError};
+use wildmask::{Mask, MaskError, MaskFault, bind_fault, host_fault};
 
-/// `mask bind|host MASK TEXT`: whether the mask matches the text, or the code of what the mask is refused for.
+/// `mask bind|host MASK TEXT`: whether a copy of the mask matches the text, or the code of what the mask is refused for.
 pub fn mask(alloc: Global, words: &[Text], out: &mut Sink) -> Result<(), CaseError> {
     let [kind, mask, text] = words else {
         return Err(BAD_WORDS);
     };
     match made(alloc, kind, mask) {
-        Ok(mask) => match mask.matches(text.as_bytes()) {
+        Ok(mask) => match mask.copy(alloc)?.matches(text.as_bytes()) {
             true => out.put(b"match"),
             false => out.put(b"no match"),
         },
@@ -26,12 +25,25 @@ pub fn literals(alloc: Global, words: &[Text], out: &mut Sink) -> Result<(), Cas
     let [kind, mask] = words else {
         return Err(BAD_WORDS);
     };
+    if let Some(fault) = fault_of(kind, mask) {
+        out.put(fault.code().as_bytes());
+        return Ok(());
+    }
     match made(alloc, kind, mask) {
         Ok(mask) => out.number(mask.literals() as u64),
-        Err(MaskError::Refused(fault)) => out.put(fault.code().as_bytes()),
+        Err(MaskError::Refused(_)) => out.put(b"refused"),
         Err(MaskError::NoMemory) => return Err(CaseError::NoMemory),
     }
     Ok(())
+}
+
+// What a mask is refused for, told before it is made.
+fn fault_of(kind: &Text, mask: &Text) -> Option<MaskFault> {
+    if kind.is_same(b"bind") {
+        bind_fault(mask.as_bytes())
+    } else {
+        host_fault(mask.as_bytes())
+    }
 }
 
 // A mask of a bind where the kind says so, and a hostmask otherwise.

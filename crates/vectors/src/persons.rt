@@ -1,9 +1,7 @@
 // What a userfile says of people.
 use crate::changes::make_all;
-use crate::sink::Sink;
-use crate::stop::{BAD_WORDS, CaseError};
-use crate::words::number;
 use bytetext::Text;
+use caselines::{BAD_WORDS, CaseError, Sink, number};
 use std::alloc::Global;
 use userfile::{Ban, PersonFlags, Userfile};
 

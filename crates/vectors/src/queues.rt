@@ -1,21 +1,21 @@
 // Lines that wait to be sent.
 ghost use Rattle.std.specs.Prelude.{◌<◌, IfOk};
 
-use crate::sink::Sink;
-use crate::stop::{BAD_NUMBER, BAD_WORDS, CaseError};
-use crate::words::{cut, number};
-use bytetext::Text;
+use bytetext::{Text, TryCopy};
+use caselines::{BAD_NUMBER, BAD_WORDS, CaseError, Sink, cut, number};
 use outqueue::{PutError, Queue, QueueFault, Queues, Which};
 use std::alloc::Global;
 
 /// `queues STEP..`: what each step answers, with ` ; ` between. A step is one word:
-/// `put QUEUE COUNT LINE` puts a line so often and answers `ok` or the code of the first refusal; `take NOW` and
-/// `drain NOW` answer the lines that go or `none`; `len QUEUE` and `clear QUEUE` a number. QUEUE is `mode`, `server` or
-/// `help`, and for the last two `all` too.
+/// `put QUEUE COUNT LINE` puts a line so often and answers `ok` or the code of the first refusal, and `reserved QUEUE LINE`
+/// puts it into room that was made before; `take NOW` and `drain NOW` answer the lines that go or `none`; `len QUEUE` and
+/// `clear QUEUE` a number. QUEUE is `mode`, `server` or `help`, and for the last two `all` too. The queues are copied
+/// before each step.
 pub fn queues(alloc: Global, words: &[Text], out: &mut Sink) -> Result<(), CaseError> {
     let mut queues = Queues::new(alloc);
     for (i, step) in words.iter().enumerate() {
         out.between(b" ; ", i);
+        queues = queues.copy(alloc)?;
         make(alloc, &mut queues, step.as_bytes(), out)?;
     }
     Ok(())
@@ -28,14 +28,16 @@ enum Step {
     Drain,
     Len,
     Put,
+    Reserved,
     Take,
 }
 
-const STEPS: [(&[u8], Step); 5] = [
+const STEPS: [(&[u8], Step); 6] = [
     (b"clear", Step::Clear),
     (b"drain", Step::Drain),
     (b"len", Step::Len),
     (b"put", Step::Put),
+    (b"reserved", Step::Reserved),
     (b"take", Step::Take),
 ];
 
@@ -57,6 +59,7 @@ fn make(alloc: Global, queues: &mut Queues, step: &[u8], out: &mut Sink) -> Resu
         Step::Take => take(queues, moment(rest)?, out),
         Step::Drain => return drain(alloc, queues, moment(rest)?, out),
         Step::Put => return put(alloc, queues, rest, out),
+        Step::Reserved => return reserved(alloc, queues, rest, out),
     }
     Ok(())
 }
@@ -129,4 +132,24 @@ fn put_often(
         }
     }
     Ok(None)
+}
+
+// QUEUE LINE
+fn reserved(
+    alloc: Global,
+    queues: &mut Queues,
+    rest: &[u8],
+    out: &mut Sink,
+) -> Result<(), CaseError> {
+    let (name, line) = cut(rest, b' ');
+    let Which::One(queue) = which(name)? else {
+        return Err(BAD_WORDS);
+    };
+    let line = Text::from_slice(alloc, line)?;
+    queues.reserve(queue, 1)?;
+    match queues.put_reserved(queue, line) {
+        Ok(()) => out.put(b"ok"),
+        Err(fault) => out.put(fault.code().as_bytes()),
+    }
+    Ok(())
 }

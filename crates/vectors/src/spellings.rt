@@ -1,8 +1,6 @@
 // Values as bytes.
-use crate::sink::Sink;
-use crate::stop::{BAD_WORDS, CaseError};
-use crate::values::{put_change, put_record};
 use bytetext::Text;
+use caselines::{BAD_WORDS, CaseError, Sink, put_change, put_record};
 use std::alloc::Global;
 use usercodec::{CodecError, read_change, read_record, write_change, write_record};
 use userfile::{Change, shape};
@@ -12,7 +10,7 @@ pub fn spell(alloc: Global, words: &[Text], out: &mut Sink) -> Result<(), CaseEr
     let [word] = words else {
         return Err(BAD_WORDS);
     };
-    let Some(change) = script::change_of(alloc, word.as_bytes())? else {
+    let Some(change) = scriptwords::change_of(alloc, word.as_bytes())? else {
         return Err(BAD_WORDS);
     };
     spell_change(alloc, &change, out)

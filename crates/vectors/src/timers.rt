@@ -2,18 +2,17 @@
 ghost use Rattle.std.specs.Prelude.{IsTrue};
 ghost use Rattle.bottimers.specs.Held.{IsAbove, IsNotBelow};
 
-use crate::sink::Sink;
-use crate::stop::{BAD_NUMBER, BAD_WORDS, CaseError};
-use crate::words::{cut, number};
 use bottimers::{ClockError, TimerKind, TimerStatus, Timers};
-use bytetext::Text;
+use bytetext::{Text, TryCopy, copies_of};
+use caselines::{BAD_NUMBER, BAD_WORDS, CaseError, Sink, cut, number};
 use std::alloc::Global;
 use std::marker::Model;
 
 /// `timers STEP..`: what each step answers, with ` ; ` between. A step is one word:
 /// `timer LAST INTERVAL COUNT PROC` and `utimer LAST INTERVAL COUNT PROC` make a timer and answer its id, or the code of
 /// the refusal, where LAST is the clock's last second or `-`; `kill ID` answers `killed` or the code; `list` answers
-/// `KIND LEFT PROC ID REPEATS` of each timer, or `none`; `due SECOND` answers id and proc of each call, or `none`.
+/// `KIND LEFT PROC ID REPEATS` of each timer, or `none`; `due SECOND` answers id and proc of each call, or `none`. The
+/// timers are copied before each step.
 pub fn timers(alloc: Global, words: &[Text], out: &mut Sink) -> Result<(), CaseError> {
     let mut watch = Watch {
         timers: Timers::new(alloc),
@@ -21,6 +20,7 @@ pub fn timers(alloc: Global, words: &[Text], out: &mut Sink) -> Result<(), CaseE
     };
     for (i, step) in words.iter().enumerate() {
         out.between(b" ; ", i);
+        watch.timers = watch.timers.copy(alloc)?;
         make(alloc, &mut watch, step.as_bytes(), out)?;
     }
     Ok(())
@@ -112,7 +112,7 @@ impl Watch {
     }
 
     fn list(&self, alloc: Global, out: &mut Sink) -> Result<(), CaseError> {
-        let list = self.timers.list(alloc)?;
+        let list = copies_of(alloc, &self.timers.list(alloc)?)?;
         for (i, status) in list.iter().enumerate() {
             out.between(b", ", i);
             status_shown(status, out);

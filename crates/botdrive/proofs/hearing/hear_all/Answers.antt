@@ -1,39 +1,44 @@
+use Rattle.std.proofs.Common.{◌∙◌, refl}
 use Rattle.botdrive.specs.Outboxes.{course_of}
 use Rattle.botdrive.proofs.DriveLemmas.{HasHeard-none, HasHeard-more, HearsAll-none, HearsAll-full, HearsSome-then}
 use Rattle.botdrive.proofs.hearing.hear_all.Goals as goal
 
 pub loop-read-init : goal.loop-read-init
-loop-read-init g c =
-    HasHeard-none g.I.Input.stalls g.P.Promise.code_of g.P.Promise.may c.args.store.now (course_of c.args.bot.now c.args.outbox.now) c.args.lines.now
-    (g.I.Input.left c.args.input.now)
+loop-read-init g c = (
+  HasHeard-none g.P.Promise.code_of g.P.Promise.may c.args.store.now (course_of c.args.bot.now c.args.outbox.now) c.args.lines.now
+      (g.S.Stream.source c.args.stream.now),
+  refl,
+)
 
 pub returns-in-Ok-false-clause-ok : goal.returns-in-Ok-false-clause-ok
 returns-in-Ok-false-clause-ok g c =
-    HearsAll-none g.I.Input.stalls c.loop-read._read g.P.Promise.code_of g.P.Promise.may c.args.store.now
+    HearsAll-none c.loop-read._read g.P.Promise.code_of g.P.Promise.may c.args.store.now
     (course_of c.args.bot.now c.args.outbox.now) (course_of c.loop-read.bot c.loop-read.outbox)
     (course_of c.hear_piece.new.bot c.hear_piece.new.outbox) c.args.lines.now c.loop-read.lines c.hear_piece.new.lines
-    (g.I.Input.left c.args.input.now) (g.I.Input.left c.loop-read.input) (g.I.Input.left c.hear_piece.new.input)
-    c.in-Ok-false.field-0 c.in-Ok-false.field-0-test c.loop-read.invariant c.in-Ok-false.ensures.ok
+    (g.S.Stream.source c.args.stream.now) (g.S.Stream.source c.loop-read.stream) (g.S.Stream.source c.hear_piece.new.stream)
+    c.in-Ok-false.field-0 c.in-Ok-false.field-0-test c.loop-read-test.true c.loop-read.invariant.0 c.in-Ok-false.ensures.ok
 
 pub returns-in-Err-clause-err : goal.returns-in-Err-clause-err
 returns-in-Err-clause-err g c =
-    HearsSome-then g.I.Input.stalls c.loop-read._read g.P.Promise.code_of g.P.Promise.may c.args.store.now
+    HearsSome-then c.loop-read._read g.P.Promise.code_of g.P.Promise.may c.args.store.now
     (course_of c.args.bot.now c.args.outbox.now) (course_of c.loop-read.bot c.loop-read.outbox)
     (course_of c.hear_piece.new.bot c.hear_piece.new.outbox) c.args.lines.now c.loop-read.lines c.hear_piece.new.lines
-    (g.I.Input.left c.args.input.now) (g.I.Input.left c.loop-read.input) (g.I.Input.left c.hear_piece.new.input)
-    c.in-Err.end c.loop-read.invariant c.in-Err.ensures.err
+    (g.S.Stream.source c.args.stream.now) (g.S.Stream.source c.loop-read.stream) (g.S.Stream.source c.hear_piece.new.stream)
+    c.in-Err.end c.loop-read-test.true c.loop-read.invariant.0 c.in-Err.ensures.err
 
 pub returns-clause-ok : goal.returns-clause-ok
 returns-clause-ok g c =
-    HearsAll-full g.I.Input.stalls c.loop-read._read g.P.Promise.code_of g.P.Promise.may c.args.store.now
+    HearsAll-full c.loop-read._read g.P.Promise.code_of g.P.Promise.may c.args.store.now
     (course_of c.args.bot.now c.args.outbox.now) (course_of c.loop-read.bot c.loop-read.outbox)
-    c.args.lines.now c.loop-read.lines (g.I.Input.left c.args.input.now) (g.I.Input.left c.loop-read.input)
-    c.loop-read-test.false c.loop-read.invariant
+    c.args.lines.now c.loop-read.lines (g.S.Stream.source c.args.stream.now) (g.S.Stream.source c.loop-read.stream)
+    c.loop-read-test.false c.loop-read.invariant.0
 
 pub loop-read-preserved : goal.loop-read-preserved
-loop-read-preserved g c =
-    HasHeard-more g.I.Input.stalls c.loop-read._read g.P.Promise.code_of g.P.Promise.may c.args.store.now
-    (course_of c.args.bot.now c.args.outbox.now) (course_of c.loop-read.bot c.loop-read.outbox)
-    (course_of c.hear_piece.new.bot c.hear_piece.new.outbox) c.args.lines.now c.loop-read.lines c.hear_piece.new.lines
-    (g.I.Input.left c.args.input.now) (g.I.Input.left c.loop-read.input) (g.I.Input.left c.hear_piece.new.input)
-    c.in-Ok-true.field-0 c.in-Ok-true.field-0-test c.loop-read.invariant c.in-Ok-true.ensures.ok
+loop-read-preserved g c = (
+  HasHeard-more c.loop-read._read g.P.Promise.code_of g.P.Promise.may c.args.store.now
+      (course_of c.args.bot.now c.args.outbox.now) (course_of c.loop-read.bot c.loop-read.outbox)
+      (course_of c.hear_piece.new.bot c.hear_piece.new.outbox) c.args.lines.now c.loop-read.lines c.hear_piece.new.lines
+      (g.S.Stream.source c.args.stream.now) (g.S.Stream.source c.loop-read.stream) (g.S.Stream.source c.hear_piece.new.stream)
+      c.in-Ok-true.field-0 c.in-Ok-true.field-0-test c.loop-read-test.true c.loop-read.invariant.0 c.in-Ok-true.ensures.ok,
+  c.hear_piece.ensures.other ∙ c.loop-read.invariant.1,
+)

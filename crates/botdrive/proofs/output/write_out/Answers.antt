@@ -1,12 +1,14 @@
-use Rattle.std.proofs.Common.{◌∙◌}
+use Rattle.std.specs.List.{flat_map}
+use Rattle.streams.proofs.WriteLemmas.{WritesOut-if, WritesFront-if}
 use Rattle.botdrive.specs.Driving.{text_of}
-use Rattle.botdrive.proofs.OutputLemmas.{AppendsFront-next}
 use Rattle.botdrive.proofs.output.write_out.Goals as goal
 
-pub returns-in-Err-clause-err : goal.returns-in-Err-clause-err
-returns-in-Err-clause-err g c = (
-  c.in-Err.ensures.err.0,
-  AppendsFront-next text_of c.args.lists.now c.loop-lines.lines-index c.lines-item.result c.as_slice.result.now
-      (g.W.Write.contents c.args.writer.now) (g.W.Write.contents c.loop-lines.writer) (g.W.Write.contents c.write_lines.new.writer)
-      c.loop-lines-test.true (c.as_slice.ensures ∙ c.lines-item.is) c.loop-lines.invariant c.in-Err.ensures.err.1,
-)
+pub returns-in-Ok-clause-ok : goal.returns-in-Ok-clause-ok
+returns-in-Ok-clause-ok g c =
+    WritesOut-if c.flush.result (g.S.Stream.sink c.args.stream.now) (g.S.Stream.sink c.write_lists.new.stream)
+    (g.S.Stream.sink c.flush.new.self) (flat_map text_of c.args.lists.now) c.in-Ok.ensures.ok c.flush.ensures.flushes
+
+pub returns-in-Ok-clause-err : goal.returns-in-Ok-clause-err
+returns-in-Ok-clause-err g c =
+    WritesFront-if c.flush.result (g.S.Stream.sink c.args.stream.now) (g.S.Stream.sink c.write_lists.new.stream)
+    (g.S.Stream.sink c.flush.new.self) (flat_map text_of c.args.lists.now) c.in-Ok.ensures.ok c.flush.ensures.flushes

@@ -1,7 +1,6 @@
-use Rattle.replay.proofs.Endings.{taken}
+use Rattle.replay.proofs.Endings.{GivesScript-of}
 use Rattle.replay.proofs.input.script_bytes.Goals as goal
 
 pub returns-in-Ok-clause-read : goal.returns-in-Ok-clause-read
 returns-in-Ok-clause-read g c =
-    taken (g.R.Read.remaining c.args.reader.now) c.take.result.limit c.new-bytes.result.items _ c.take.ensures.limit c.new-bytes.ensures.items
-    (rw c.take.ensures.inner at c.in-Ok.ensures.bytes)
+    GivesScript-of (g.S.Stream.source c.args.stream.now) (g.S.Stream.source c.read_up_to.new.stream) c.in-Ok.bytes.items c.in-Ok.ensures.ok

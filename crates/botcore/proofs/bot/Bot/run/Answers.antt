@@ -9,14 +9,16 @@ use Rattle.botcore.specs.Steps.{is_stale}
 use Rattle.botcore.proofs.RunningLemmas.{rise_run, passed_run, last_after_reading}
 use Rattle.botcore.proofs.bot.Bot.run.Goals as goal
 
-pub run_seconds-requires-clause-rise : goal.run_seconds-requires-clause-rise
-run_seconds-requires-clause-rise g c =
+pub run_seconds-requires : goal.run_seconds-requires
+run_seconds-requires g c =
     let now = c.args.now in
     let inside = c.self.inside in
     let seconds = c.as_slice.ensures.value ∙ c.in-Ok.ensures.seconds ∙ ap (λ (k : Option ℕ). seconds_run k now) c.in_ok-clock.ensures.equal in
     let fresh = ap (λ (b : Bot). is_stale b.clock now) c.self.view_is ∙ c.requires.above in
-    subst (λ (h : Held). Rise h.last c.as_slice.result.now) (sym c.in_ok-timers.ensures)
-    (subst (Rise inside.timers.last) (sym seconds) (rise_run inside.clock inside.timers.last now c.self.invariant.0 c.requires.moment fresh))
+    record {
+      rise = subst (λ (h : Held). Rise h.last c.as_slice.result.now) (sym c.in_ok-timers.ensures)
+          (subst (Rise inside.timers.last) (sym seconds) (rise_run inside.clock inside.timers.last now c.self.invariant.0 c.requires.moment fresh));
+    }
 
 pub returns-clause-reading : goal.returns-clause-reading
 returns-clause-reading g c =
@@ -54,6 +56,6 @@ returns-clause-occasions g c =
     let inside = c.self.inside in
     let items = c.in_ok-occasions.occasions.items in
     let seconds = c.as_slice.ensures.value ∙ c.in-Ok.ensures.seconds ∙ ap (λ (k : Option ℕ). seconds_run k now) c.in_ok-clock.ensures.equal in
-    subst (λ (b : Bot). AreOccasions (seconds_of b.config.offset b.timers (seconds_run b.clock now)) items) c.self.view_is
-    (subst (λ s. AreOccasions (seconds_of inside.config.offset inside.timers s) items) seconds
-    (subst (λ (h : Held). AreOccasions (seconds_of inside.config.offset h c.as_slice.result.now) items) c.in_ok-timers.ensures c.in_ok-occasions.ensures.occasions))
+    subst (λ (b : Bot). AreOccasions (seconds_of b.config.zone b.timers (seconds_run b.clock now)) items) c.self.view_is
+    (subst (λ s. AreOccasions (seconds_of inside.config.zone inside.timers s) items) seconds
+    (subst (λ (h : Held). AreOccasions (seconds_of inside.config.zone h c.as_slice.result.now) items) c.in_ok-timers.ensures c.in_ok-occasions.ensures.occasions))

@@ -11,7 +11,7 @@ pub returns-in-Err-call_procs-clause-takes : goal.returns-in-Err-call_procs-clau
 returns-in-Err-call_procs-clause-takes g c =
     let old = c.args.self.now in
     let occasions = c.as_slice.result.now in
-    let all = subst (AreOccasions (seconds_of old.config.offset old.timers (seconds_run old.clock c.args.now))) (sym c.as_slice.ensures.value)
+    let all = subst (AreOccasions (seconds_of old.config.zone old.timers (seconds_run old.clock c.args.now))) (sym c.as_slice.ensures.value)
     c.in-Ok.ensures.occasions in
     cut_short-seconds g.P.Promise.code_of g.P.Promise.may c.args.store.now old old c.args.now occasions c.in-Err-call_procs.made
     c.into_parts.result.0 c.cut_short-in-Err-call_procs.result all c.in-Err-call_procs.ensures c.into_parts.ensures.calls refl
@@ -22,7 +22,7 @@ returns-clause-takes g c =
     let old = c.args.self.now in
     let occasions = c.as_slice.result.now in
     let told = told_of (bot_setting g.P.Promise.code_of c.args.store.now old) occasions in
-    let all = subst (AreOccasions (seconds_of old.config.offset old.timers (seconds_run old.clock c.args.now))) (sym c.as_slice.ensures.value)
+    let all = subst (AreOccasions (seconds_of old.config.zone old.timers (seconds_run old.clock c.args.now))) (sym c.as_slice.ensures.value)
     c.in-Ok.ensures.occasions in
     cut_short-seconds g.P.Promise.code_of g.P.Promise.may c.args.store.now old c.settle_at.new.self c.args.now occasions c.in-Ok-call_procs.made
     c.into_parts-calls.result.0 c.cut_short-in-Err-settle_at.result all

@@ -1,7 +1,7 @@
-use Rattle.std.proofs.Common.{◌<◌, ◌++◌, length, sym, ap, ◌∙◌, subst, arith}
+use Rattle.std.proofs.Common.{◌<◌, ◌≤◌, ◌++◌, length, sym, ap, ◌∙◌, subst, arith}
 use Rattle.outqueue.specs.Sending.{Sending, waiting, sent, after_line, IsGreatest}
 use Rattle.outqueue.proofs.Drains.{Drained, Drained_more, Drained-room, Drained-sent, Drained-after, IsGreatest-Drained}
-use Rattle.outqueue.proofs.Drains.{length-waiting-after_line, waiting-after, room-after}
+use Rattle.outqueue.proofs.Drains.{length-waiting-after_line, waiting-after, room-after, few-sent}
 use Rattle.outqueue.proofs.queues.Queues.drain.Goals as goal
 
 pub push_reserved-requires : goal.push_reserved-requires
@@ -49,3 +49,7 @@ returns-clause-rest c =
 
 pub returns-clause-room : goal.returns-clause-room
 returns-clause-room c = ap (λ (q : Sending). q.room) (returns-clause-after c) ∙ room-after c.args.self.now c.args.now
+
+pub returns-clause-few : goal.returns-clause-few
+returns-clause-few c =
+    subst (λ lines. length lines ≤ 5) (sym (returns-clause-lines c)) (few-sent c.args.self.now c.args.now)

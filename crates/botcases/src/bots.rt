@@ -1,0 +1,258 @@
+// What one bot may be told before it is made, and what its steps call.
+ghost use Rattle.std.specs.Prelude.{IfOk};
+ghost use Rattle.botcore.specs.Steps.{IsGoodEvent};
+
+use crate::procs::{Built, Ours, Runs, counted_store, no_runs};
+use bindtable::BindKind;
+use botcalls::MadeCall;
+use botcore::{Bot, BotError, Config, End, Event, Fault, NewBind, Note, Report};
+use bottimers::Zone;
+use bytetext::{NoMemory, Text, Texts, TryCopy, copies_of};
+use caselines::{BAD_WORDS, CaseError, Sink, cut, number, zone_of};
+use disks::MemDisk;
+use ircline::read_line;
+use procstore::{Code, Kind, ProcStore};
+use std::alloc::Global;
+
+/// `config NICK LEAVES NUMBER ZONE CHANNEL..`: `ok`, or the code of why no bot can be made so.
+pub fn config(alloc: Global, words: &[Text], out: &mut Sink) -> Result<(), CaseError> {
+    let [nick, leaves, own, zone, channels @ ..] = words else {
+        return Err(BAD_WORDS);
+    };
+    let config = match zone_of(zone.as_bytes()) {
+        Ok(zone) => config_of(alloc, nick, leaves, own, zone, channels)?,
+        Err(fault) => {
+            out.put(fault.code().as_bytes());
+            return Ok(());
+        }
+    };
+    match new_bot(alloc, config).err() {
+        None => out.put(b"ok"),
+        Some(BotError::Refused(fault)) => out.put(fault.code().as_bytes()),
+        Some(BotError::NoMemory) => return Err(CaseError::NoMemory),
+    }
+    Ok(())
+}
+
+// A bot of this configuration, over two disks in memory.
+fn new_bot(alloc: Global, config: Config) -> Result<Bot<MemDisk>, BotError> {
+    match Bot::create(alloc, config, MemDisk::new(alloc), MemDisk::new(alloc)) {
+        Ok(bot) => Ok(bot),
+        Err(returned) => Err(returned.error),
+    }
+}
+
+fn config_of(
+    alloc: Global,
+    nick: &Text,
+    leaves: &Text,
+    own: &Text,
+    zone: Zone,
+    channels: &[Text],
+) -> Result<Config, CaseError> {
+    Ok(Config {
+        number: number(own.as_bytes())?,
+        leaves: number(leaves.as_bytes())?,
+        nick: nick.copy(alloc)?,
+        channels: Texts::new(copies_of(alloc, channels)?),
+        exclusive: false,
+        zone,
+    })
+}
+
+/// `bot NUMBER EXCLUSIVE STEP..`: what each step of a bot named `egg` answers, 0 for the hub and 1 for its leaf, with ` ; `
+/// between. EXCLUSIVE is `all` or `exclusive`. A step is one word: `bind KIND FLAGS PROC MASK` answers the bind's number,
+/// `connect`, `line TEXT` and `clock MOMENT` each call as `BIND PROC KIND 'ARGUMENT'.. CODE`, each line that is sent as `out
+/// 'LINE'`, each fault, and `logged` or `not logged`; the code of a refusal where one stands against the step. `runs` answers
+/// how often the procs have run.
+pub fn bot(alloc: Global, words: &[Text], out: &mut Sink) -> Result<(), CaseError> {
+    let [own, exclusive, steps @ ..] = words else {
+        return Err(BAD_WORDS);
+    };
+    let number = number(own.as_bytes())?;
+    match bot_of(alloc, number, exclusive.as_bytes()) {
+        Ok(mut bot) => take_steps(alloc, &mut bot, steps, out),
+        Err(error) => Err(error),
+    }
+}
+
+fn take_steps(
+    alloc: Global,
+    bot: &mut Bot<MemDisk>,
+    steps: &[Text],
+    out: &mut Sink,
+) -> Result<(), CaseError> {
+    let runs = no_runs(alloc)?;
+    let store = counted_store(alloc, &runs)?;
+    take_all(alloc, bot, &store, &runs, steps, out)
+}
+
+fn take_all(
+    alloc: Global,
+    bot: &mut Bot<MemDisk>,
+    store: &ProcStore<Ours, Built>,
+    runs: &Runs,
+    steps: &[Text],
+    out: &mut Sink,
+) -> Result<(), CaseError> {
+    for (i, step) in steps.iter().enumerate() {
+        out.between(b" ; ", i);
+        if step.is_same(b"runs") {
+            out.number(runs.get());
+        } else {
+            take(alloc, bot, store, step.as_bytes(), out)?;
+        }
+    }
+    Ok(())
+}
+
+/// The bot `egg` of this number, for no channel.
+pub fn bot_of(alloc: Global, number: u16, exclusive: &[u8]) -> Result<Bot<MemDisk>, CaseError> {
+    let config = Config {
+        number,
+        leaves: 1,
+        nick: Text::from_slice(alloc, b"egg")?,
+        channels: Texts::empty(alloc),
+        exclusive: is_exclusive(exclusive)?,
+        zone: Zone::fixed(0).unwrap(),
+    };
+    match new_bot(alloc, config) {
+        Ok(bot) => Ok(bot),
+        Err(BotError::Refused(_)) => Err(BAD_WORDS),
+        Err(BotError::NoMemory) => Err(CaseError::NoMemory),
+    }
+}
+
+fn is_exclusive(word: &[u8]) -> Result<bool, CaseError> {
+    match word {
+        b"all" => Ok(false),
+        b"exclusive" => Ok(true),
+        _ => Err(BAD_WORDS),
+    }
+}
+
+fn take(
+    alloc: Global,
+    bot: &mut Bot<MemDisk>,
+    store: &ProcStore<Ours, Built>,
+    step: &[u8],
+    out: &mut Sink,
+) -> Result<(), CaseError> {
+    let report = bot.step(alloc, store, event_of(alloc, step)?);
+    match report.end {
+        End::Done => report_shown(&report, out),
+        End::Refused(refusal) => out.put(refusal.code().as_bytes()),
+        End::NoMemory => return Err(CaseError::NoMemory),
+    }
+    Ok(())
+}
+
+fn event_of(alloc: Global, step: &[u8]) -> Result<Event, CaseError>
+    ensures good { IfOk result IsGoodEvent }
+{
+    let (name, rest) = cut(step, b' ');
+    match name {
+        b"bind" => Ok(Event::Bind(new_bind(alloc, rest)?)),
+        b"clock" => Ok(Event::Clock(number(rest)?)),
+        b"connect" => Ok(Event::Connect),
+        b"line" => Ok(Event::Line(read_line(alloc, rest)?)),
+        _ => Err(BAD_WORDS),
+    }
+}
+
+// KIND FLAGS PROC MASK
+fn new_bind(alloc: Global, words: &[u8]) -> Result<NewBind, CaseError> {
+    let (kind, rest) = cut(words, b' ');
+    let (flags, rest) = cut(rest, b' ');
+    let (proc, mask) = cut(rest, b' ');
+    let Some(kind) = BindKind::of_word(kind) else {
+        return Err(BAD_WORDS);
+    };
+    Ok(bind_of(alloc, kind, flags, mask, proc)?)
+}
+
+fn bind_of(
+    alloc: Global,
+    kind: BindKind,
+    flags: &[u8],
+    mask: &[u8],
+    proc: &[u8],
+) -> Result<NewBind, NoMemory> {
+    Ok(NewBind {
+        kind,
+        flags: Text::from_slice(alloc, flags)?,
+        mask: Text::from_slice(alloc, mask)?,
+        proc: Text::from_slice(alloc, proc)?,
+    })
+}
+
+fn report_shown(report: &Report, out: &mut Sink) {
+    for call in report.calls.as_slice() {
+        call_shown(call, out);
+    }
+    for line in report.lines.as_slice() {
+        out.put(b"out");
+        out.quoted(line.as_bytes());
+        out.put(b", ");
+    }
+    for fault in report.faults.as_slice() {
+        fault_shown(fault, out);
+    }
+    match &report.note {
+        Some(Note::Bound(number)) => out.number(u64::from(*number)),
+        Some(_) | None => out.put(logged(report.logged)),
+    }
+}
+
+fn logged(logged: bool) -> &'static [u8] {
+    match logged {
+        true => b"logged",
+        false => b"not logged",
+    }
+}
+
+fn call_shown(made: &MadeCall, out: &mut Sink) {
+    out.number(u64::from(made.bind));
+    out.put(b" ");
+    out.put(made.proc.as_bytes());
+    out.put(b" ");
+    out.put(word_of(made.call.kind));
+    for argument in made.call.args.as_slice() {
+        out.quoted(argument.as_bytes());
+    }
+    match made.reply.code {
+        Code::Zero => out.put(b" 0, "),
+        Code::One => out.put(b" 1, "),
+    }
+}
+
+fn fault_shown(fault: &Fault, out: &mut Sink) {
+    out.put(fault.word().as_bytes());
+    if let Some(proc) = fault.proc() {
+        out.put(b" ");
+        out.put(proc);
+    }
+    out.put(b", ");
+}
+
+fn word_of(kind: Kind) -> &'static [u8] {
+    match kind {
+        Kind::Raw => b"raw",
+        Kind::Msg => b"msg",
+        Kind::Msgm => b"msgm",
+        Kind::Notc => b"notc",
+        Kind::Pub => b"pub",
+        Kind::Pubm => b"pubm",
+        Kind::Join => b"join",
+        Kind::Part => b"part",
+        Kind::Sign => b"sign",
+        Kind::Kick => b"kick",
+        Kind::Nick => b"nick",
+        Kind::Mode => b"mode",
+        Kind::Topc => b"topc",
+        Kind::Bot => b"bot",
+        Kind::Time => b"time",
+        Kind::Cron => b"cron",
+        Kind::Timer => b"timer",
+    }
+}

@@ -1,0 +1,79 @@
+// From the cases of standard input to their answers.
+use crate::sink::Sink;
+use crate::stop::{CaseError, Stop};
+use crate::words::words_of;
+use bytetext::Text;
+use std::alloc::Global;
+use std::io;
+use std::io::{Read, Write};
+use std::process::ExitCode;
+
+/// How much of standard input is read at most, in bytes.
+const MAX_INPUT: usize = 1_048_576;
+
+/// What answers cases.
+pub trait Cases {
+    /// Writes the answer to the case of these words.
+    ///
+    /// # Errors
+    /// `Refused` where the words are no case, and `NoMemory` where a growth is refused. What was written then stands
+    /// nowhere.
+    fn answer(&self, alloc: Global, words: &[Text], out: &mut Sink) -> Result<(), CaseError>;
+}
+
+/// Answers the cases of standard input on standard output, and tells on standard error, after the program's name, why it
+/// ends early. The status that the program ends with.
+pub fn answer_input<R: Input + Print + Eprint + AllocGlobal, C: Cases>(
+    rt: &R,
+    program: &str,
+    cases: &C,
+) -> ExitCode {
+    match run(rt, cases) {
+        Ok(()) => ExitCode::from(0),
+        Err(stop) => {
+            let _ = eprintln!(rt; "{program}: {stop}");
+            ExitCode::from(stop.status())
+        }
+    }
+}
+
+// Answers the cases of standard input.
+fn run<R: Input + Print + AllocGlobal, C: Cases>(rt: &R, cases: &C) -> Result<(), Stop> {
+    let mut input = Vec::new(rt.alloc());
+    rt.reader()
+        .take(MAX_INPUT as u64 + 1)
+        .read_to_end(&mut input)?;
+    if input.len() > MAX_INPUT {
+        return Err(Stop::TooLong);
+    }
+    let answers = answers_of(rt.alloc(), cases, &input)?;
+    io::writer(rt).write_all(&answers)?;
+    Ok(())
+}
+
+// The answers to the cases of a text, a line each.
+fn answers_of<C: Cases>(alloc: Global, cases: &C, input: &[u8]) -> Result<Vec<u8>, Stop> {
+    let mut out = Sink::new(alloc);
+    for (i, line) in input.split(|byte| *byte == b'\n').enumerate() {
+        if let Err(error) = answer(alloc, cases, line, &mut out) {
+            return Err(Stop::at(i.saturating_add(1), error));
+        }
+    }
+    Ok(out.into_bytes()?)
+}
+
+// Writes the answer to a line, where it is a case.
+fn answer<C: Cases>(
+    alloc: Global,
+    cases: &C,
+    line: &[u8],
+    out: &mut Sink,
+) -> Result<(), CaseError> {
+    if line.is_empty() || line.starts_with(b"#") {
+        return Ok(());
+    }
+    let words = words_of(alloc, line)?;
+    cases.answer(alloc, &words, out)?;
+    out.end_line();
+    Ok(())
+}

@@ -1,0 +1,41 @@
+//! Cases as lines of text: what the programs `vectors` and `botcases` have in common.
+//!
+//! A line of standard input is a case, and the line of standard output for it is its answer. A case is words separated by
+//! spaces. A word is bare, or text between single quotes (which may hold spaces, or nothing), or `x:` and bytes in
+//! hexadecimal. Its first word says what is asked. Empty lines and lines that begin with `#` are no cases.
+//!
+//! A program answers what it is asked by an impl of [`Cases`], and hands it to [`answer_input`], whose value its `main`
+//! returns. Answers go to a [`Sink`], which shows a byte that is no printable ASCII as `\x` and two hexadecimal digits.
+//!
+//! A line that is no case ends the program: it tells the line on standard error and ends with status 1, as for input
+//! above 1,048,576 bytes; with 3 where reading or writing fails; with 4 where memory runs out. Nothing stands on standard
+//! output then.
+//!
+//! ```text
+//! struct Echoes;
+//! impl Cases for Echoes {
+//!     fn answer(&self, _alloc: Global, words: &[Text], out: &mut Sink) -> Result<(), CaseError> {
+//!         let [only] = words else {
+//!             return Err(BAD_WORDS);
+//!         };
+//!         out.put(only.as_bytes());
+//!         Ok(())
+//!     }
+//! }
+//! answer_input(&rt, "echoes", &Echoes)     // the case 'two words' is answered: two words
+//! ```
+#![tactic(auto)]
+
+mod answering;
+mod lines;
+mod sink;
+mod stop;
+mod values;
+mod words;
+
+pub use crate::answering::{Cases, answer_input};
+pub use crate::lines::line_shown;
+pub use crate::sink::Sink;
+pub use crate::stop::{BAD_NUMBER, BAD_WORDS, CaseError, CaseFault, NO_SUCH_CASE};
+pub use crate::values::{put_change, put_record};
+pub use crate::words::{cut, number, zone_of};

@@ -1,0 +1,158 @@
+// A file, and what it was told.
+ghost use Rattle.std.specs.Prelude.{◌≡◌, ◌≤ℤ◌, pos, IfOk, OnOk, IsTrue};
+ghost use Rattle.std.specs.Fd.{file_raw_fd};
+ghost use Rattle.storage.specs.Calls.{Holds};
+
+use crate::file_fault::{FileDiskError, FileFault, error_of, not_kept};
+use bytetext::Failure;
+use std::alloc::Global;
+use std::fs::{File, TryLockError};
+use std::marker::Model;
+use std::os::fd::AsRawFd;
+use std::os::unix::fs::FileExt;
+use std::snapshot::Snapshot;
+use storage::{DiskFault, History};
+
+/// The first descriptor that belongs to none of the standard streams.
+const FIRST_OWN: i32 = 3;
+
+/// A locked file, and for contracts what it was told.
+///
+/// The calls of the system stand here alone. A clause says what the system answered; that a file holds what was written
+/// to it, and keeps what was brought to its device, is assumed.
+#[derive(Drop)]
+pub(crate) struct ToldFile {
+    file: File,
+    /// What was found in it, for contracts alone.
+    found: Snapshot<Vec<u8>>,
+    /// What was written since, for contracts alone.
+    written: History,
+    /// Whether a sync came after the last write.
+    kept: bool,
+}
+
+impl Model for ToldFile {
+    ghost use Rattle.std.specs.Prelude.{◌≤ℤ◌, pos};
+    ghost use Rattle.std.specs.Fd.{file_raw_fd};
+    ghost use Rattle.disks.specs.Told.{Told, after_writes};
+
+    ghost Value = { Told };
+
+    ghost view = { λ f. record {
+      holds = after_writes f.found.value.items f.written.events;
+      kept = f.kept;
+      descriptor = file_raw_fd f.file;
+    } };
+
+    ghost invariant = { λ f. pos 3 ≤ℤ file_raw_fd f.file };
+}
+
+impl ToldFile {
+    /// Takes an open file: locks it, reads it, writes what was read once more, and brings that to its device.
+    ///
+    /// It is written once more since a process before may have seen a sync fail: the system then takes what was written
+    /// for kept, though the device lacks it, and a further sync succeeds.
+    ///
+    /// # Errors
+    /// `InUse`, `Unreadable` and `NotKept` as they say; `NoMemory` where room for what the file holds is refused, or
+    /// the system has none.
+    pub(crate) fn open(alloc: Global, file: File) -> Result<(ToldFile, Vec<u8>), FileDiskError>
+        ensures holds { IfOk result (λ opened. opened.0.holds ≡ opened.1.items) }
+        ensures kept { IfOk result (λ opened. IsTrue opened.0.kept) }
+        ensures own { IfOk result (λ opened. pos 3 ≤ℤ opened.0.descriptor) }
+    {
+        let file = under_own_descriptor(file)?;
+        lock(&file)?;
+        let bytes = read_file(alloc, &file)?;
+        keep_again(&file, &bytes)?;
+        let opened = ToldFile {
+            file,
+            found: Snapshot::of(&bytes),
+            written: History::new(),
+            kept: true,
+        };
+        Ok((opened, bytes))
+    }
+
+    /// Writes a text at an offset.
+    pub(crate) fn write_at(&mut self, at: usize, text: &[u8]) -> Result<(), DiskFault>
+        ensures written { OnOk result (Holds self.old.holds at text.now self.new.holds) }
+    {
+        self.kept = false;
+        match self.file.write_all_at(text, at as u64) {
+            Ok(()) => {
+                self.written.note(&[1, at as u64, text.len() as u64], text);
+                Ok(())
+            }
+            Err(_) => Err(DiskFault),
+        }
+    }
+
+    /// Brings what was written to its device.
+    pub(crate) fn sync(&mut self) -> Result<(), DiskFault>
+        ensures same { self.new.holds ≡ self.old.holds }
+        ensures kept { OnOk result (IsTrue self.new.kept) }
+    {
+        match self.file.sync_data() {
+            Ok(()) => {
+                self.kept = true;
+                Ok(())
+            }
+            Err(_) => Err(DiskFault),
+        }
+    }
+}
+
+/// The file under a descriptor that is no standard stream's. A program that is started with one of its streams closed
+/// gets that one's number for the next file that it opens, and what it prints would go over what the file holds.
+fn under_own_descriptor(file: File) -> Result<File, FileDiskError>
+    ensures { IfOk result (λ file. pos 3 ≤ℤ file_raw_fd file) }
+{
+    if file.as_raw_fd() >= FIRST_OWN {
+        return Ok(file);
+    }
+    match file.try_clone() {
+        Ok(twin) => {
+            if twin.as_raw_fd() >= FIRST_OWN {
+                Ok(twin)
+            } else {
+                Err(Failure::Refused(FileFault::Unreadable))
+            }
+        }
+        Err(error) => Err(error_of(error)),
+    }
+}
+
+/// Takes a file's lock.
+fn lock(file: &File) -> Result<(), FileDiskError> {
+    match file.try_lock() {
+        Ok(()) => Ok(()),
+        Err(TryLockError::WouldBlock) => Err(Failure::Refused(FileFault::InUse)),
+        Err(TryLockError::Error(error)) => Err(error_of(error)),
+    }
+}
+
+/// What a file holds.
+fn read_file(alloc: Global, file: &File) -> Result<Vec<u8>, FileDiskError> {
+    let len = match file.metadata() {
+        Ok(metadata) => metadata.len() as usize,
+        Err(error) => return Err(error_of(error)),
+    };
+    let mut bytes = vec![in alloc; 0; len]?;
+    match file.read_exact_at(&mut bytes, 0) {
+        Ok(()) => Ok(bytes),
+        Err(error) => Err(error_of(error)),
+    }
+}
+
+/// Writes what a file holds once more, and brings it to its device.
+fn keep_again(file: &File, bytes: &[u8]) -> Result<(), FileDiskError> {
+    match file.write_all_at(bytes, 0) {
+        Ok(()) => {}
+        Err(error) => return Err(not_kept(error)),
+    }
+    match file.sync_all() {
+        Ok(()) => Ok(()),
+        Err(error) => Err(not_kept(error)),
+    }
+}

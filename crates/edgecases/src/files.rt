@@ -1,0 +1,147 @@
+// Configuration files.
+use bytetext::{Failure, NoMemory, Text};
+use caselines::{BAD_NUMBER, BAD_WORDS, CaseError, Sink, number};
+use settings::{Address, BindLine, Server, Settings};
+use std::alloc::Global;
+
+// The most bytes of a file of `#`.
+const MOST: usize = 100_000;
+
+/// `settings LINE..`: what a file of these lines says.
+pub fn settings(alloc: Global, lines: &[Text], out: &mut Sink) -> Result<(), CaseError> {
+    let bytes = file_of(alloc, lines)?;
+    answer(alloc, &bytes, out)
+}
+
+// The lines, with a line feed between.
+fn file_of(alloc: Global, lines: &[Text]) -> Result<Vec<u8>, NoMemory> {
+    let mut file = Vec::new(alloc);
+    for (place, line) in lines.iter().enumerate() {
+        if place > 0 {
+            file.push(b'\n')?;
+        }
+        file.extend_from_slice(line.as_bytes())?;
+    }
+    Ok(file)
+}
+
+/// `long N`: what a file of so many `#` says.
+pub fn long(alloc: Global, words: &[Text], out: &mut Sink) -> Result<(), CaseError> {
+    let [count] = words else {
+        return Err(BAD_WORDS);
+    };
+    let count: usize = number(count.as_bytes())?;
+    if count > MOST {
+        return Err(BAD_NUMBER);
+    }
+    let bytes = vec![in alloc; b'#'; count]?;
+    answer(alloc, &bytes, out)
+}
+
+fn answer(alloc: Global, bytes: &[u8], out: &mut Sink) -> Result<(), CaseError> {
+    match Settings::read(alloc, bytes) {
+        Ok(settings) => {
+            put_settings(&settings, out);
+            Ok(())
+        }
+        Err(Failure::Refused(fault)) => {
+            let text = format!(in alloc; "{fault}")?;
+            out.put(text.as_bytes());
+            Ok(())
+        }
+        Err(Failure::NoMemory) => Err(Failure::NoMemory),
+    }
+}
+
+// Writes settings in the words of a file.
+fn put_settings(settings: &Settings, out: &mut Sink) {
+    out.put(b"data");
+    put_word(settings.folder.as_bytes(), out);
+    out.put(b" ; bot ");
+    out.number(u64::from(settings.station.number));
+    out.put(b" of ");
+    out.number(u64::from(settings.station.leaves));
+    out.put(b" ; nick");
+    put_word(settings.nick.as_bytes(), out);
+    put_texts(b" ; channel", settings.channels.as_slice(), out);
+    for server in settings.servers.as_slice() {
+        put_server(server, out);
+    }
+    put_address(b" ; hub", settings.hub.as_ref(), out);
+    put_address(b" ; listen", settings.listen.as_ref(), out);
+    put_rest(settings, out);
+}
+
+// Writes those that may be missing.
+fn put_rest(settings: &Settings, out: &mut Sink) {
+    if let Some(file) = &settings.secret {
+        out.put(b" ; secret");
+        put_word(file.as_bytes(), out);
+    }
+    if let Some(account) = &settings.account {
+        out.put(b" ; account");
+        put_word(account.name.as_bytes(), out);
+        put_word(account.file.as_bytes(), out);
+    }
+    put_offset(settings.offset, out);
+    if settings.exclusive {
+        out.put(b" ; exclusive");
+    }
+    if settings.log_lines {
+        out.put(b" ; log lines");
+    }
+    put_texts(b" ; perform", settings.performs.as_slice(), out);
+    for bind in settings.binds.as_slice() {
+        put_bind(bind, out);
+    }
+}
+
+fn put_offset(minutes: i32, out: &mut Sink) {
+    if minutes == 0 {
+        return;
+    }
+    out.put(b" ; offset ");
+    if minutes < 0 {
+        out.put(b"-");
+    }
+    out.number(u64::from(minutes.unsigned_abs()));
+}
+
+// Writes a space and a text.
+fn put_word(text: &[u8], out: &mut Sink) {
+    out.put(b" ");
+    out.put(text);
+}
+
+fn put_texts(word: &[u8], texts: &[Text], out: &mut Sink) {
+    for text in texts {
+        out.put(word);
+        put_word(text.as_bytes(), out);
+    }
+}
+
+fn put_address(word: &[u8], address: Option<&Address>, out: &mut Sink) {
+    if let Some(address) = address {
+        out.put(word);
+        put_word(address.host.as_bytes(), out);
+        out.put(b" ");
+        out.number(u64::from(address.port));
+    }
+}
+
+fn put_server(server: &Server, out: &mut Sink) {
+    put_address(b" ; server", Some(&server.address), out);
+    if let Some(pass) = &server.pass {
+        put_word(pass.as_bytes(), out);
+    }
+}
+
+fn put_bind(bind: &BindLine, out: &mut Sink) {
+    out.put(b" ; ");
+    out.number(bind.line);
+    out.put(b" bind");
+    put_word(bind.words.kind.as_bytes(), out);
+    put_word(bind.words.flags.as_bytes(), out);
+    put_word(bind.words.proc.as_bytes(), out);
+    put_word(bind.words.mask.as_bytes(), out);
+}

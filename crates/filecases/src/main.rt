@@ -1,0 +1,48 @@
+//! Plays cases of disks in files, in the folder where it runs, and prints what is seen of each file from outside the disk.
+//!
+//! What a file holds no contract can say, so these cases look: what is written is read back by another opening of the
+//! file; a second disk finds it in use; an opening changes the time of the last writing; and a disk whose descriptor was
+//! closed under it refuses a write and a sync, since both go to the file. Of a making of a journal that is stopped at
+//! each call of its disks, with five ways of tearing, it prints what the next start does.
+//!
+//! The crate's file `stdout` was worked out by hand. The program ends with status 0 where all lines could be printed.
+#![tactic(auto)]
+
+mod descriptors;
+mod folders;
+mod names;
+mod seen;
+mod stops;
+mod writes;
+
+use crate::descriptors::{closed_under, low_descriptor};
+use crate::folders::whole_folder;
+use crate::names::{lone_files, names, tidy};
+use crate::seen::Seen;
+use crate::stops::stops;
+use crate::writes::writes;
+use std::fs::File;
+use std::io;
+use std::io::Write;
+use std::rt::Files;
+
+fn main(rt: HostRuntime) -> anyhow::Result<()> {
+    tidy(&rt);
+    let mut seen = Seen::new(rt.alloc());
+    play(&rt, &mut seen);
+    tidy(&rt);
+    let text = seen.into_bytes()?;
+    io::writer(&rt).write_all(&text)?;
+    Ok(())
+}
+
+// Plays the cases.
+fn play<R: AllocGlobal + Files<File = File>>(rt: &R, seen: &mut Seen) {
+    names(rt, seen);
+    lone_files(rt, seen);
+    writes(rt, seen);
+    closed_under(rt, seen);
+    low_descriptor(rt, seen);
+    whole_folder(rt, seen);
+    stops(rt.alloc(), seen);
+}

@@ -1,0 +1,40 @@
+// A store without procs.
+use crate::call::Call;
+use crate::promise::Promise;
+use crate::reply::Reply;
+use crate::run::Run;
+use crate::store::ProcStore;
+use bytetext::NoMemory;
+
+/// The procs of a store that has none. Nobody is ever put into a store, so it is never called; it would answer that it
+/// lacks memory.
+#[derive(Drop)]
+pub struct Nobody;
+
+impl Promise for Nobody {
+    ghost use Rattle.std.specs.Prelude.{◌≡◌, []};
+    ghost use Rattle.procstore.specs.declared.reply.Code.TheVariants.{Zero};
+
+    ghost code_of = { λ _ _. Zero };
+
+    ghost may = { λ _ _ actions. actions ≡ [] };
+}
+
+impl Run for Nobody {
+    ghost use Rattle.std.specs.Prelude.{IsErr};
+
+    ghost can_run = { λ _. Unit {0} };
+
+    ghost answers = { λ _ _ result. IsErr result };
+
+    fn run(&self, _call: &Call) -> Result<Reply, NoMemory> {
+        Err(NoMemory)
+    }
+}
+
+/// A store of no procs, for bots that have no binds.
+///
+/// ```text
+/// let store: Nobodies = ProcStore::new(alloc);
+/// ```
+pub type Nobodies = ProcStore<Nobody, Nobody>;

@@ -1,0 +1,237 @@
+// The changes that can be asked for.
+ghost use Rattle.std.specs.Prelude.{◌≡◌, map, option_map, IfOk};
+ghost use Rattle.scriptwords.specs.Changes.{by_more_words, by_one_word, by_three_words, by_two_words, pair_of};
+ghost use Rattle.scriptwords.specs.Changes.{change_by_words, change_named, change_of, channel_of, comment_of, flags_of};
+
+use crate::numeral::number;
+use crate::pieces::pieces_of;
+use crate::rest::rest_of;
+use bytetext::{NoMemory, Text};
+use flagexpr::Flags;
+use std::alloc::Global;
+use userfile::Change;
+
+/// The changes that have two words after their name.
+#[derive(Clone, Copy)]
+pub enum Pair {
+    AddHost,
+    DelHost,
+    DelBan,
+    Global,
+    Bot,
+}
+
+/// The change that these words spell, with one space between each two; none where they are no change.
+///
+/// # Errors
+/// `NoMemory` where room is refused.
+pub fn change_of(alloc: Global, words: &[u8]) -> Result<Option<Change>, NoMemory>
+    ensures { IfOk result (λ change. change ≡ change_of words.now) }
+{
+    let words = pieces_of(alloc, words, b' ')?;
+    change_by_words(alloc, words.as_slice())
+}
+
+// The first word is the name.
+fn change_by_words(alloc: Global, words: &[&[u8]]) -> Result<Option<Change>, NoMemory>
+    ensures { IfOk result (λ change. change ≡ change_by_words (map (λ word. word.now) words.now)) }
+{
+    match words {
+        [] => Ok(None),
+        [name, words @ ..] => change_named(alloc, name, words),
+    }
+}
+
+/// The change of this name and these words; none where they are no change.
+///
+/// # Errors
+/// `NoMemory` where room is refused.
+pub fn change_named(alloc: Global, name: &[u8], words: &[&[u8]]) -> Result<Option<Change>, NoMemory>
+    ensures { IfOk result (λ change. change ≡ change_named name.now (map (λ word. word.now) words.now)) }
+{
+    match words {
+        [] => Ok(None),
+        [a] => by_one_word(alloc, name, a),
+        [a, b] => by_two_words(alloc, name, a, b),
+        [a, b, c] => by_three_words(alloc, name, a, b, c),
+        [a, b, c, d, comment @ ..] => by_more_words(alloc, name, a, b, c, d, comment),
+    }
+}
+
+// NAME H
+fn by_one_word(alloc: Global, name: &[u8], h: &[u8]) -> Result<Option<Change>, NoMemory>
+    ensures { IfOk result (λ change. change ≡ by_one_word name.now h.now) }
+{
+    if h.is_empty() {
+        return Ok(None);
+    }
+    let handle = Text::from_slice(alloc, h)?;
+    if name == b"adduser".as_slice() {
+        Ok(Some(Change::AddUser { handle }))
+    } else if name == b"deluser".as_slice() {
+        Ok(Some(Change::DelUser { handle }))
+    } else {
+        Ok(None)
+    }
+}
+
+// addhost H M, delhost H M, delban C M, global H F, bot H F
+fn by_two_words(alloc: Global, name: &[u8], a: &[u8], b: &[u8]) -> Result<Option<Change>, NoMemory>
+    ensures { IfOk result (λ change. change ≡ by_two_words name.now a.now b.now) }
+{
+    if a.is_empty() || b.is_empty() {
+        return Ok(None);
+    }
+    match pair_of(name) {
+        Some(Pair::AddHost) => add_host(alloc, a, b),
+        Some(Pair::DelHost) => del_host(alloc, a, b),
+        Some(Pair::DelBan) => del_ban(alloc, a, b),
+        Some(Pair::Global) => set_global(alloc, a, flags_of(b)),
+        Some(Pair::Bot) => set_bot(alloc, a, flags_of(b)),
+        None => Ok(None),
+    }
+}
+
+// A change of two words, by its name.
+fn pair_of(name: &[u8]) -> Option<Pair>
+    ensures { result ≡ pair_of name.now }
+{
+    if name == b"addhost".as_slice() {
+        Some(Pair::AddHost)
+    } else if name == b"delhost".as_slice() {
+        Some(Pair::DelHost)
+    } else if name == b"delban".as_slice() {
+        Some(Pair::DelBan)
+    } else if name == b"global".as_slice() {
+        Some(Pair::Global)
+    } else if name == b"bot".as_slice() {
+        Some(Pair::Bot)
+    } else {
+        None
+    }
+}
+
+fn add_host(alloc: Global, h: &[u8], m: &[u8]) -> Result<Option<Change>, NoMemory>
+    ensures { IfOk result (λ change. change ≡ Some (Change.AddHost h.now m.now)) }
+{
+    let handle = Text::from_slice(alloc, h)?;
+    let mask = Text::from_slice(alloc, m)?;
+    Ok(Some(Change::AddHost { handle, mask }))
+}
+
+fn del_host(alloc: Global, h: &[u8], m: &[u8]) -> Result<Option<Change>, NoMemory>
+    ensures { IfOk result (λ change. change ≡ Some (Change.DelHost h.now m.now)) }
+{
+    let handle = Text::from_slice(alloc, h)?;
+    let mask = Text::from_slice(alloc, m)?;
+    Ok(Some(Change::DelHost { handle, mask }))
+}
+
+fn del_ban(alloc: Global, c: &[u8], m: &[u8]) -> Result<Option<Change>, NoMemory>
+    ensures { IfOk result (λ change. change ≡ Some (Change.DelBan (channel_of c.now) m.now)) }
+{
+    let channel = Text::from_slice(alloc, channel_of(c))?;
+    let mask = Text::from_slice(alloc, m)?;
+    Ok(Some(Change::DelBan { channel, mask }))
+}
+
+fn set_global(alloc: Global, h: &[u8], flags: Option<Flags>) -> Result<Option<Change>, NoMemory>
+    ensures { IfOk result (λ change. change ≡ option_map (λ f. Change.SetGlobal h.now f) flags) }
+{
+    let Some(flags) = flags else {
+        return Ok(None);
+    };
+    let handle = Text::from_slice(alloc, h)?;
+    Ok(Some(Change::SetGlobal { handle, flags }))
+}
+
+fn set_bot(alloc: Global, h: &[u8], flags: Option<Flags>) -> Result<Option<Change>, NoMemory>
+    ensures { IfOk result (λ change. change ≡ option_map (λ f. Change.SetBot h.now f) flags) }
+{
+    let Some(flags) = flags else {
+        return Ok(None);
+    };
+    let handle = Text::from_slice(alloc, h)?;
+    Ok(Some(Change::SetBot { handle, flags }))
+}
+
+// chan H C F
+fn by_three_words(
+    alloc: Global,
+    name: &[u8],
+    h: &[u8],
+    c: &[u8],
+    f: &[u8],
+) -> Result<Option<Change>, NoMemory>
+    ensures { IfOk result (λ change. change ≡ by_three_words name.now h.now c.now f.now) }
+{
+    if h.is_empty() || c.is_empty() || f.is_empty() || name != b"chan".as_slice() {
+        return Ok(None);
+    }
+    let Some(flags) = flags_of(f) else {
+        return Ok(None);
+    };
+    Ok(Some(Change::SetChan {
+        handle: Text::from_slice(alloc, h)?,
+        channel: Text::from_slice(alloc, c)?,
+        flags,
+    }))
+}
+
+// addban C M H E, and the comment
+fn by_more_words(
+    alloc: Global,
+    name: &[u8],
+    c: &[u8],
+    m: &[u8],
+    h: &[u8],
+    e: &[u8],
+    words: &[&[u8]],
+) -> Result<Option<Change>, NoMemory>
+    ensures { IfOk result (λ change. change ≡ by_more_words name.now c.now m.now h.now e.now
+        (map (λ word. word.now) words.now)) }
+{
+    if c.is_empty() || m.is_empty() || h.is_empty() || name != b"addban".as_slice() {
+        return Ok(None);
+    }
+    let Some(expires) = number(e) else {
+        return Ok(None);
+    };
+    let Some(comment) = comment_of(alloc, words)? else {
+        return Ok(None);
+    };
+    Ok(Some(Change::AddBan {
+        channel: Text::from_slice(alloc, channel_of(c))?,
+        mask: Text::from_slice(alloc, m)?,
+        creator: Text::from_slice(alloc, h)?,
+        expires,
+        comment,
+    }))
+}
+
+// Letters, or - for none.
+fn flags_of(word: &[u8]) -> Option<Flags>
+    ensures { result ≡ flags_of word.now }
+{
+    match Flags::parse(word) {
+        Ok(flags) => Some(flags),
+        Err(_) => None,
+    }
+}
+
+// The channel of a ban: `*` is all of them.
+fn channel_of(word: &[u8]) -> &[u8]
+    ensures { result.now ≡ channel_of word.now }
+{
+    if word == b"*".as_slice() { b"" } else { word }
+}
+
+// A comment is the rest of the line, and not empty where there is one.
+fn comment_of(alloc: Global, words: &[&[u8]]) -> Result<Option<Text>, NoMemory>
+    ensures { IfOk result (λ comment. comment ≡ comment_of (map (λ word. word.now) words.now)) }
+{
+    match words {
+        [] => Ok(Some(Text::empty(alloc))),
+        [first, rest @ ..] => rest_of(alloc, first, rest),
+    }
+}

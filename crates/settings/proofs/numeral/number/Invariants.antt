@@ -1,0 +1,6 @@
+use Rattle.std.proofs.Common.{◌≡◌, drop}
+use Rattle.settings.specs.Words.{number_of, number_from}
+use Rattle.settings.proofs.numeral.number.Given as goal
+
+abbrev pub invariant-loop-byte : goal.invariant-loop-byte
+invariant-loop-byte l = number_from l.value (drop l.byte-index l.word) ≡ number_of l.word

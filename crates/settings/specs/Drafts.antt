@@ -1,0 +1,75 @@
+-- What the lines of a file say together: which of them is refused after those before it, and what it adds.
+use Rattle.std.specs.Prelude.{ℕ, Bool, true, false, is_some, [], ◌∷◌, ◌++◌, Option, None, Some}
+use Rattle.settings.specs.declared.word.Word.{Word}
+use Rattle.settings.specs.declared.word.Word.TheVariants.{Account as account_word, Bot as bot_word, Data as data_word}
+use Rattle.settings.specs.declared.word.Word.TheVariants.{Exclusive as exclusive_word, Hub as hub_word, Listen as listen_word}
+use Rattle.settings.specs.declared.word.Word.TheVariants.{Log as log_word, Nick as nick_word, Offset as offset_word}
+use Rattle.settings.specs.declared.word.Word.TheVariants.{Secret as secret_word}
+use Rattle.settings.specs.declared.advice.Advice.{Advice}
+use Rattle.settings.specs.declared.advice.Advice.TheVariants.{Once}
+use Rattle.settings.specs.declared.saying.Saying.{Saying}
+use Rattle.settings.specs.declared.saying.Saying.TheVariants.{Nothing, Wrong, Account, Bind, Bot, Channel, Data, Exclusive, Hub, Listen}
+use Rattle.settings.specs.declared.saying.Saying.TheVariants.{LogLines, Nick, Offset, Perform, Secret, Server}
+use Rattle.settings.specs.declared.draft.Draft.{Draft}
+
+-- no line is read
+abbrev pub no_line : Draft
+no_line = record {
+  folder = None;
+  station = None;
+  nick = None;
+  channels = [];
+  servers = [];
+  hub = None;
+  listen = None;
+  secret = None;
+  account = None;
+  offset = None;
+  exclusive = false;
+  log_lines = false;
+  performs = [];
+  binds = [];
+}
+
+-- a line that stands once is refused where one is there
+abbrev pub once : Word → Bool → Option Advice
+once word false = None
+once word true = Some (Once word)
+
+-- why a line is refused after these
+abbrev pub refusal_of : Draft → Saying → Option Advice
+refusal_of draft Nothing = None
+refusal_of draft (Wrong advice) = Some advice
+refusal_of draft (Account account) = once account_word (is_some draft.account)
+refusal_of draft (Bind words) = None
+refusal_of draft (Bot station) = once bot_word (is_some draft.station)
+refusal_of draft (Channel name) = None
+refusal_of draft (Data folder) = once data_word (is_some draft.folder)
+refusal_of draft Exclusive = once exclusive_word draft.exclusive
+refusal_of draft (Hub address) = once hub_word (is_some draft.hub)
+refusal_of draft (Listen address) = once listen_word (is_some draft.listen)
+refusal_of draft LogLines = once log_word draft.log_lines
+refusal_of draft (Nick nick) = once nick_word (is_some draft.nick)
+refusal_of draft (Offset minutes) = once offset_word (is_some draft.offset)
+refusal_of draft (Perform line) = None
+refusal_of draft (Secret file) = once secret_word (is_some draft.secret)
+refusal_of draft (Server server) = None
+
+-- what the line of this number adds
+abbrev pub added : ℕ → Draft → Saying → Draft
+added line draft Nothing = draft
+added line draft (Wrong advice) = draft
+added line draft (Account account) = record draft { account = Some account }
+added line draft (Bind words) = record draft { binds = draft.binds ++ record { line = line; words = words } ∷ [] }
+added line draft (Bot station) = record draft { station = Some station }
+added line draft (Channel name) = record draft { channels = draft.channels ++ name ∷ [] }
+added line draft (Data folder) = record draft { folder = Some folder }
+added line draft Exclusive = record draft { exclusive = true }
+added line draft (Hub address) = record draft { hub = Some address }
+added line draft (Listen address) = record draft { listen = Some address }
+added line draft LogLines = record draft { log_lines = true }
+added line draft (Nick nick) = record draft { nick = Some nick }
+added line draft (Offset minutes) = record draft { offset = Some minutes }
+added line draft (Perform text) = record draft { performs = draft.performs ++ text ∷ [] }
+added line draft (Secret file) = record draft { secret = Some file }
+added line draft (Server server) = record draft { servers = draft.servers ++ server ∷ [] }

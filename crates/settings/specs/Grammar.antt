@@ -1,0 +1,169 @@
+-- What a line says by itself.
+use Rattle.std.specs.Prelude.{ℕ, ◌==◌, ◌||◌, ◌&&◌, ◌-◌, not, nat_le, nat_lt, Bool, List, [], ◌∷◌, length, slice_index, Option, None, Some, if◌then◌else◌, codes, ℤ}
+use Rattle.std.specs.List.{list_all}
+use Rattle.std.specs.Str.{bytes_eq}
+use Rattle.rfccase.specs.Channels.{is_channel_name}
+use Rattle.settings.specs.declared.TheConstants.{MAX_LEAVES, MAX_LINE}
+use Rattle.settings.specs.declared.word.Word.{Word}
+use Rattle.settings.specs.declared.word.Word.TheVariants.{Account as account_word, Bind as bind_word, Bot as bot_word, Channel as channel_word}
+use Rattle.settings.specs.declared.word.Word.TheVariants.{Data as data_word, Exclusive as exclusive_word, Hub as hub_word, Listen as listen_word}
+use Rattle.settings.specs.declared.word.Word.TheVariants.{Log as log_word, Nick as nick_word, Offset as offset_word, Perform as perform_word}
+use Rattle.settings.specs.declared.word.Word.TheVariants.{Secret as secret_word, Server as server_word}
+use Rattle.settings.specs.declared.advice.Advice.TheVariants.{Form, Leaves, Port, Unknown, CarriageReturn, Control, ByteOrderMark}
+use Rattle.settings.specs.declared.saying.Saying.{Saying}
+use Rattle.settings.specs.declared.saying.Saying.TheVariants.{Nothing, Wrong, Account, Bind, Bot, Channel, Data, Exclusive, Hub, Listen}
+use Rattle.settings.specs.declared.saying.Saying.TheVariants.{LogLines, Nick, Offset, Perform, Secret, Server}
+use Rattle.settings.specs.Names.{is_nick}
+use Rattle.settings.specs.Words.{word_of, rest_of, after_spaces, number_of, port_of, offset_of}
+use Rattle.settings.specs.Vocabulary.{word_named}
+
+abbrev pub is_empty : List ℕ → Bool
+is_empty word = length word == 0
+
+-- ---- what follows each word
+
+-- data FOLDER
+abbrev pub data_said : List ℕ → Saying
+data_said rest = if is_empty rest then Wrong (Form data_word) else Data rest
+
+-- secret FILE
+abbrev pub secret_said : List ℕ → Saying
+secret_said rest = if is_empty rest then Wrong (Form secret_word) else Secret rest
+
+-- perform LINE: as long as a line may be
+abbrev pub perform_said : List ℕ → Saying
+perform_said rest = if is_empty rest || nat_lt MAX_LINE (length rest) then Wrong (Form perform_word) else Perform rest
+
+-- nick NICK
+abbrev pub nick_said : List ℕ → Saying
+nick_said rest = if is_nick (word_of rest) && is_empty (rest_of rest) then Nick (word_of rest) else Wrong (Form nick_word)
+
+-- channel NAME
+abbrev pub channel_said : List ℕ → Saying
+channel_said rest =
+    if is_channel_name (word_of rest) && is_empty (rest_of rest) then Channel (word_of rest) else Wrong (Form channel_word)
+
+-- offset MINUTES
+abbrev pub offset_found : Option ℤ → Saying
+offset_found None = Wrong (Form offset_word)
+offset_found (Some minutes) = Offset minutes
+
+abbrev pub offset_said : List ℕ → Saying
+offset_said rest = if is_empty (rest_of rest) then offset_found (offset_of (word_of rest)) else Wrong (Form offset_word)
+
+-- exclusive
+abbrev pub exclusive_said : List ℕ → Saying
+exclusive_said rest = if is_empty rest then Exclusive else Wrong (Form exclusive_word)
+
+-- log lines
+abbrev pub log_said : List ℕ → Saying
+log_said rest = if bytes_eq (word_of rest) (codes "lines") && is_empty (rest_of rest) then LogLines else Wrong (Form log_word)
+
+-- account NAME FILE
+abbrev pub account_said : List ℕ → Saying
+account_said rest =
+    if is_empty (rest_of rest) then Wrong (Form account_word) else Account (record { name = word_of rest; file = rest_of rest })
+
+-- bot NUMBER of LEAVES: the number is at most LEAVES, and these are not too many
+abbrev pub bot_numbered : Option ℕ → Option ℕ → Saying
+bot_numbered None leaves = Wrong (Form bot_word)
+bot_numbered (Some n) None = Wrong (Form bot_word)
+bot_numbered (Some n) (Some m) =
+    if nat_le n m && nat_le m MAX_LEAVES then Bot (record { number = n; leaves = m }) else Wrong Leaves
+
+abbrev pub bot_of : List ℕ → List ℕ → Saying
+bot_of number rest =
+    if bytes_eq (word_of rest) (codes "of") && is_empty (rest_of (rest_of rest))
+    then bot_numbered (number_of number) (number_of (word_of (rest_of rest))) else Wrong (Form bot_word)
+
+abbrev pub bot_said : List ℕ → Saying
+bot_said rest = bot_of (word_of rest) (rest_of rest)
+
+-- hub HOST PORT, and listen HOST PORT
+abbrev pub hub_found : List ℕ → Option ℕ → Saying
+hub_found host None = Wrong Port
+hub_found host (Some port) = Hub (record { host = host; port = port })
+
+abbrev pub hub_said : List ℕ → Saying
+hub_said rest =
+    if is_empty (rest_of rest) || not (is_empty (rest_of (rest_of rest))) then Wrong (Form hub_word)
+    else hub_found (word_of rest) (port_of (word_of (rest_of rest)))
+
+abbrev pub listen_found : List ℕ → Option ℕ → Saying
+listen_found host None = Wrong Port
+listen_found host (Some port) = Listen (record { host = host; port = port })
+
+abbrev pub listen_said : List ℕ → Saying
+listen_said rest =
+    if is_empty (rest_of rest) || not (is_empty (rest_of (rest_of rest))) then Wrong (Form listen_word)
+    else listen_found (word_of rest) (port_of (word_of (rest_of rest)))
+
+-- server HOST PORT PASS, of which the PASS may be left out
+abbrev pub pass_of : List ℕ → Option (List ℕ)
+pass_of rest = if is_empty rest then None else Some rest
+
+abbrev pub server_found : List ℕ → Option ℕ → List ℕ → Saying
+server_found host None pass = Wrong Port
+server_found host (Some port) pass = Server (record { address = record { host = host; port = port }; pass = pass_of pass })
+
+abbrev pub server_said : List ℕ → Saying
+server_said rest =
+    if is_empty (rest_of rest) then Wrong (Form server_word)
+    else server_found (word_of rest) (port_of (word_of (rest_of rest))) (rest_of (rest_of rest))
+
+-- bind TYPE FLAGS PROC MASK
+abbrev pub bind_said : List ℕ → Saying
+bind_said rest =
+    if is_empty (rest_of (rest_of (rest_of rest))) then Wrong (Form bind_word)
+    else Bind (record {
+      kind = word_of rest;
+      flags = word_of (rest_of rest);
+      proc = word_of (rest_of (rest_of rest));
+      mask = rest_of (rest_of (rest_of rest));
+    })
+
+-- ---- a line
+
+abbrev pub said_of : Option Word → List ℕ → Saying
+said_of None rest = Wrong Unknown
+said_of (Some account_word) rest = account_said rest
+said_of (Some bind_word) rest = bind_said rest
+said_of (Some bot_word) rest = bot_said rest
+said_of (Some channel_word) rest = channel_said rest
+said_of (Some data_word) rest = data_said rest
+said_of (Some exclusive_word) rest = exclusive_said rest
+said_of (Some hub_word) rest = hub_said rest
+said_of (Some listen_word) rest = listen_said rest
+said_of (Some log_word) rest = log_said rest
+said_of (Some nick_word) rest = nick_said rest
+said_of (Some offset_word) rest = offset_said rest
+said_of (Some perform_word) rest = perform_said rest
+said_of (Some secret_word) rest = secret_said rest
+said_of (Some server_word) rest = server_said rest
+
+-- a byte that shows: no control byte
+abbrev pub is_shown : ℕ → Bool
+is_shown b = nat_le 32 b && not (b == 127)
+
+-- a carriage return at the end
+abbrev pub ends_in_return : List ℕ → Bool
+ends_in_return line = slice_index line (length line - 1) == 13
+
+-- an unseen mark that some editors put before the first line
+abbrev pub has_mark : List ℕ → Bool
+has_mark line = slice_index line 0 == 239 && (slice_index line 1 == 187 && slice_index line 2 == 191)
+
+unfoldable pub saying_by_words : List ℕ → Saying
+saying_by_words line =
+    if ends_in_return line then Wrong CarriageReturn
+    else if not (list_all is_shown line) then Wrong Control
+    else if has_mark line then Wrong ByteOrderMark
+    else said_of (word_named (word_of line)) (rest_of line)
+
+-- an empty line, and one that begins with #, says nothing
+abbrev pub saying_after : List ℕ → Saying
+saying_after [] = Nothing
+saying_after (b ∷ bs) = if b == 35 then Nothing else saying_by_words (b ∷ bs)
+
+abbrev pub saying_of : List ℕ → Saying
+saying_of line = saying_after (after_spaces line)

@@ -1,0 +1,6 @@
+pub mod Words
+pub mod Names
+pub mod Vocabulary
+pub mod Grammar
+pub mod Drafts
+pub mod Reading

@@ -1,0 +1,118 @@
+-- What a file says, or why it is refused.
+use Rattle.std.specs.Prelude.{◌≡◌, ℕ, suc, ◌==◌, ◌≤◌, Bool, true, false, is_some, List, [], ◌∷◌, length, nat_lt, Option, None, Some, Result, Ok, Err}
+use Rattle.std.specs.Prelude.{if◌then◌else◌, unwrap_or, pos}
+use Rattle.std.specs.List.{slice_split}
+use Rattle.bytetext.specs.declared.failure.Failure.{Failure}
+use Rattle.bytetext.specs.declared.failure.Failure.TheVariants.{Refused, NoMemory}
+use Rattle.settings.specs.declared.TheConstants.{MAX_FILE}
+use Rattle.settings.specs.declared.advice.Advice.{Advice}
+use Rattle.settings.specs.declared.fault.SettingsFault.{SettingsFault}
+use Rattle.settings.specs.declared.fault.SettingsFault.TheVariants.{TooLong, Line, Lacks}
+use Rattle.settings.specs.declared.fault.Lack.{Lack}
+use Rattle.settings.specs.declared.fault.Lack.TheVariants.{Data, Nick, Server, Hub, LeafListens, Listen, HubOfHub, Secret}
+use Rattle.settings.specs.declared.settings.Settings.{Settings}
+use Rattle.settings.specs.declared.settings.Station.{Station}
+use Rattle.settings.specs.declared.draft.Draft.{Draft}
+use Rattle.settings.specs.Grammar.{saying_of}
+use Rattle.settings.specs.Drafts.{no_line, refusal_of, added}
+
+-- ---- line by line
+
+-- the lines, which a line feed ends or divides each: after the last one stands an empty line
+abbrev pub lines_of : List ℕ → List (List ℕ)
+lines_of bytes = slice_split (λ b. b == 10) bytes
+
+-- a line that is refused ends the reading
+abbrev pub unless : Option Advice → ℕ → Result Draft SettingsFault → Result Draft SettingsFault
+unless None line later = later
+unless (Some advice) line later = Err (Line line advice)
+
+-- the lines from this number on, after those before
+unfoldable pub read_from : Draft → ℕ → List (List ℕ) → Result Draft SettingsFault
+read_from draft line [] = Ok draft
+read_from draft line (bytes ∷ lines) =
+    unless (refusal_of draft (saying_of bytes)) line (read_from (added line draft (saying_of bytes)) (suc line) lines)
+
+abbrev pub lines_read : List (List ℕ) → Result Draft SettingsFault
+lines_read lines = read_from no_line 1 lines
+
+-- ---- the whole
+
+-- a hub without leaves
+abbrev pub alone : Station
+alone = record { number = 0; leaves = 0 }
+
+-- the first of two that there is
+abbrev pub first_of_two : Option Lack → Option Lack → Option Lack
+first_of_two (Some lack) other = Some lack
+first_of_two None other = other
+
+abbrev pub needs : Bool → Lack → Option Lack
+needs true lack = None
+needs false lack = Some lack
+
+abbrev pub bars : Bool → Lack → Option Lack
+bars true lack = Some lack
+bars false lack = None
+
+-- a leaf has a line hub, none listen, and a secret; a hub none hub, and with leaves a line listen and a secret
+abbrev pub role_lack : Station → Bool → Bool → Bool → Option Lack
+role_lack station hub listen secret =
+    if nat_lt 0 station.number
+    then first_of_two (needs hub Hub) (first_of_two (bars listen LeafListens) (needs secret Secret))
+    else if nat_lt 0 station.leaves
+    then first_of_two (needs listen Listen) (first_of_two (bars hub HubOfHub) (needs secret Secret))
+    else bars hub HubOfHub
+
+-- the first that right lines lack together
+abbrev pub lack_of : Draft → Option Lack
+lack_of draft =
+    first_of_two (needs (is_some draft.folder) Data)
+    (first_of_two (needs (is_some draft.nick) Nick)
+    (first_of_two (needs (nat_lt 0 (length draft.servers)) Server)
+    (role_lack (unwrap_or draft.station alone) (is_some draft.hub) (is_some draft.listen) (is_some draft.secret))))
+
+-- what they say where they lack nothing
+abbrev pub settings_of : Draft → Settings
+settings_of draft = record {
+  folder = unwrap_or draft.folder [];
+  station = unwrap_or draft.station alone;
+  nick = unwrap_or draft.nick [];
+  channels = draft.channels;
+  servers = draft.servers;
+  hub = draft.hub;
+  listen = draft.listen;
+  secret = draft.secret;
+  account = draft.account;
+  offset = unwrap_or draft.offset (pos 0);
+  exclusive = draft.exclusive;
+  log_lines = draft.log_lines;
+  performs = draft.performs;
+  binds = draft.binds;
+}
+
+abbrev pub completed : Option Lack → Draft → Result Settings SettingsFault
+completed None draft = Ok (settings_of draft)
+completed (Some lack) draft = Err (Lacks lack)
+
+abbrev pub said_together : Result Draft SettingsFault → Result Settings SettingsFault
+said_together (Ok draft) = completed (lack_of draft) draft
+said_together (Err fault) = Err fault
+
+-- what these bytes say as a file
+abbrev pub settings_in : List ℕ → Result Settings SettingsFault
+settings_in bytes = if nat_lt MAX_FILE (length bytes) then Err TooLong else said_together (lines_read (lines_of bytes))
+
+-- ---- what reading answers
+
+-- this is what is to be answered, unless memory runs out
+abbrev pub Answers : {T : Type 0} → Result T SettingsFault → Result T (Failure SettingsFault) → Type 0
+Answers said (Ok value) = said ≡ Ok value
+Answers said (Err (Refused fault)) = said ≡ Err fault
+Answers said (Err NoMemory) = Unit {0}
+
+-- these bytes are read as this; no memory is wanted of a file that is too long
+abbrev pub ReadsAs : List ℕ → Result Settings (Failure SettingsFault) → Type 0
+ReadsAs bytes (Ok settings) = settings_in bytes ≡ Ok settings
+ReadsAs bytes (Err (Refused fault)) = settings_in bytes ≡ Err fault
+ReadsAs bytes (Err NoMemory) = length bytes ≤ MAX_FILE

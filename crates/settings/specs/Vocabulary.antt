@@ -1,0 +1,30 @@
+-- The first words of lines, as files spell them.
+use Rattle.std.specs.Prelude.{ℕ, List, [], ◌∷◌, Option, find, codes}
+use Rattle.std.specs.Str.{bytes_eq}
+use Rattle.settings.specs.declared.word.Word.{Word}
+use Rattle.settings.specs.declared.word.Word.TheVariants.{Account, Bind, Bot, Channel, Data, Exclusive, Hub, Listen, Log, Nick, Offset}
+use Rattle.settings.specs.declared.word.Word.TheVariants.{Perform, Secret, Server}
+
+abbrev pub spelling_of : Word → List ℕ
+spelling_of Account = codes "account"
+spelling_of Bind = codes "bind"
+spelling_of Bot = codes "bot"
+spelling_of Channel = codes "channel"
+spelling_of Data = codes "data"
+spelling_of Exclusive = codes "exclusive"
+spelling_of Hub = codes "hub"
+spelling_of Listen = codes "listen"
+spelling_of Log = codes "log"
+spelling_of Nick = codes "nick"
+spelling_of Offset = codes "offset"
+spelling_of Perform = codes "perform"
+spelling_of Secret = codes "secret"
+spelling_of Server = codes "server"
+
+abbrev pub all_words : List Word
+all_words =
+    Account ∷ Bind ∷ Bot ∷ Channel ∷ Data ∷ Exclusive ∷ Hub ∷ Listen ∷ Log ∷ Nick ∷ Offset ∷ Perform ∷ Secret ∷ Server ∷ []
+
+-- the word that is spelled so: no two are spelled alike
+abbrev pub word_named : List ℕ → Option Word
+word_named spelling = find (λ word. bytes_eq (spelling_of word) spelling) all_words

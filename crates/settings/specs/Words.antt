@@ -1,0 +1,60 @@
+-- Words of a line, and the numbers that they mean.
+use Rattle.std.specs.Prelude.{ℕ, ◌+◌, ◌-◌, ◌*◌, ◌==◌, ◌&&◌, not, Bool, true, false, nat_le, nat_lt, List, [], ◌∷◌, drop, Option, None, Some}
+use Rattle.std.specs.Prelude.{option_and_then, if◌then◌else◌, ℤ, pos, ◌-ℤ◌}
+use Rattle.std.specs.List.{prefix_len, take_while}
+
+-- ---- words
+
+abbrev pub is_space : ℕ → Bool
+is_space b = b == 32
+
+abbrev pub is_letter : ℕ → Bool
+is_letter b = not (b == 32)
+
+-- a line without the spaces before its first word
+abbrev pub after_spaces : List ℕ → List ℕ
+after_spaces line = drop (prefix_len is_space line) line
+
+-- the bytes before the first space
+abbrev pub word_of : List ℕ → List ℕ
+word_of line = take_while is_letter line
+
+-- what follows that word and the spaces after it
+abbrev pub rest_of : List ℕ → List ℕ
+rest_of line = after_spaces (drop (prefix_len is_letter line) line)
+
+-- ---- numbers
+
+abbrev pub is_digit : ℕ → Bool
+is_digit b = nat_le 48 b && nat_le b 57
+
+-- one digit more, where the number stays below 65,536
+abbrev pub digit_onto : ℕ → ℕ → Option ℕ
+digit_onto value b =
+    if is_digit b then (if nat_lt (value * 10 + (b - 48)) 65536 then Some (value * 10 + (b - 48)) else None) else None
+
+-- digits after a number
+abbrev pub number_from : ℕ → List ℕ → Option ℕ
+number_from value [] = Some value
+number_from value (b ∷ bs) = option_and_then (λ longer. number_from longer bs) (digit_onto value b)
+
+-- a number is one digit or more, below 65,536; leading zeros count for nothing
+abbrev pub number_of : List ℕ → Option ℕ
+number_of [] = None
+number_of (b ∷ bs) = number_from 0 (b ∷ bs)
+
+-- a port is no 0
+abbrev pub port_of : List ℕ → Option ℕ
+port_of word = option_and_then (λ n. if n == 0 then None else Some n) (number_of word)
+
+-- so many minutes ahead, or behind, less than a day
+abbrev pub signed : Bool → Option ℕ → Option ℤ
+signed is_behind None = None
+signed true (Some n) = if nat_lt n 1440 then Some (pos 0 -ℤ pos n) else None
+signed false (Some n) = if nat_lt n 1440 then Some (pos n) else None
+
+-- minutes ahead; after a minus behind
+abbrev pub offset_of : List ℕ → Option ℤ
+offset_of [] = None
+offset_of (b ∷ bs) =
+    if b == 45 then signed true (number_of bs) else if b == 43 then signed false (number_of bs) else signed false (number_of (b ∷ bs))

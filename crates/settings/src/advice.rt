@@ -1,0 +1,68 @@
+// What to say instead of a faulty line.
+use crate::word::Word;
+use std::fmt;
+use std::fmt::Display;
+
+/// What to say instead of a line that breaks a rule.
+#[derive(Clone, Copy, Debug, PartialEq, Eq)]
+pub enum Advice {
+    /// The line is not formed as this word wants it.
+    Form(Word),
+    /// A line before it has this word, which stands once.
+    Once(Word),
+    /// The bot's number is above the number of leaves, or these are above 1,000.
+    Leaves,
+    /// The port is no number from 1 to 65,535.
+    Port,
+    /// The first word is none that there is.
+    Unknown,
+    /// A carriage return stands at the end.
+    CarriageReturn,
+    /// A byte stands in it that shows nothing: below 32, or 127.
+    Control,
+    /// It begins with a byte order mark.
+    ByteOrderMark,
+}
+
+impl Display for Advice {
+    fn fmt<W: fmt::Write>(&self, f: &mut fmt::Formatter<W>) -> fmt::Result {
+        match *self {
+            Advice::Once(word) => {
+                let spelling = word.spelling();
+                write!(f, "say {spelling} once: a line above has it")
+            }
+            Advice::Form(word) => write!(f, "{}", form_of(word)),
+            Advice::Leaves => write!(f, "say a number of at most LEAVES, and at most 1000 leaves"),
+            Advice::Port => write!(f, "say a port of 1 to 65535"),
+            Advice::Unknown => write!(
+                f,
+                "begin with account, bind, bot, channel, data, exclusive, hub, listen, log, nick, offset, perform, secret, \
+                 server or #"
+            ),
+            Advice::CarriageReturn => write!(f, "end lines with a line feed alone"),
+            Advice::Control => write!(f, "write spaces for tabs, and no other control bytes"),
+            Advice::ByteOrderMark => write!(f, "save the file without a byte order mark"),
+        }
+    }
+}
+
+// How a line of this word is formed.
+fn form_of(word: Word) -> &'static str {
+    match word {
+        Word::Account => "say account NAME FILE, as in account egg /etc/eggnet/password",
+        Word::Bind => "say bind TYPE FLAGS PROC MASK, as in bind pub - echo !echo",
+        Word::Bot => "say bot NUMBER of LEAVES, as in bot 1 of 40",
+        Word::Channel => "say channel NAME, as in channel #egg",
+        Word::Data => "say data FOLDER, as in data /var/lib/eggnet/egg1",
+        Word::Exclusive => "say exclusive alone",
+        Word::Hub => "say hub HOST PORT, as in hub hub.example.net 7100",
+        Word::Listen => "say listen HOST PORT, as in listen 0.0.0.0 7100",
+        Word::Log => "say log lines",
+        Word::Nick => "say nick NICK, of 1 to 30 bytes without ! @ , * ?, as in nick egg1",
+        Word::Offset => "say offset MINUTES, -1439 to 1439, as in offset 60",
+        Word::Perform => "say perform LINE, of at most 510 bytes, as in perform MODE egg1 +i",
+        Word::Secret => "say secret FILE, as in secret /etc/eggnet/secret",
+        Word::Server =>
+            "say server HOST PORT, as in server irc.example.net 6667, and its password after that",
+    }
+}

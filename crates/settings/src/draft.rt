@@ -1,0 +1,126 @@
+// What the lines so far say.
+ghost use Rattle.std.specs.Prelude.{◌≡◌, OnOk};
+ghost use Rattle.settings.specs.Drafts.{added, no_line, once, refusal_of};
+
+use crate::advice::Advice;
+use crate::saying::Saying;
+use crate::settings::{Account, Address, BindLine, BindLines, Servers, Station};
+use crate::word::Word;
+use bytetext::{NoMemory, Text, Texts};
+use std::alloc::Global;
+
+/// What the lines so far say; `None` and `false` where there is no such line.
+#[derive(Drop)]
+pub struct Draft {
+    /// The bot's own folder.
+    pub folder: Option<Text>,
+    /// Which bot it is.
+    pub station: Option<Station>,
+    /// The bot's nick.
+    pub nick: Option<Text>,
+    /// The channels to join, in order.
+    pub channels: Texts,
+    /// The servers to try, in order.
+    pub servers: Servers,
+    /// Where the hub listens.
+    pub hub: Option<Address>,
+    /// Where the bot listens.
+    pub listen: Option<Address>,
+    /// The file of what both ends of the link know.
+    pub secret: Option<Text>,
+    /// Whom the bot authenticates as.
+    pub account: Option<Account>,
+    /// How far its clock is ahead of UTC, in minutes.
+    pub offset: Option<i32>,
+    /// Whether a text that a mask matched is none for keywords.
+    pub exclusive: bool,
+    /// Whether lines are logged.
+    pub log_lines: bool,
+    /// Lines for the server, in order.
+    pub performs: Texts,
+    /// The binds, in order.
+    pub binds: BindLines,
+}
+
+impl Draft {
+    /// No line is read.
+    pub fn new(alloc: Global) -> Draft
+        ensures { result ≡ no_line }
+    {
+        Draft {
+            folder: None,
+            station: None,
+            nick: None,
+            channels: Texts::empty(alloc),
+            servers: Servers::empty(alloc),
+            hub: None,
+            listen: None,
+            secret: None,
+            account: None,
+            offset: None,
+            exclusive: false,
+            log_lines: false,
+            performs: Texts::empty(alloc),
+            binds: BindLines::empty(alloc),
+        }
+    }
+
+    /// Why a line is refused after these, if it is.
+    pub fn refusal(&self, saying: &Saying) -> Option<Advice>
+        ensures { result ≡ refusal_of self.now saying.now }
+    {
+        match saying {
+            Saying::Nothing
+            | Saying::Bind(_)
+            | Saying::Channel(_)
+            | Saying::Perform(_)
+            | Saying::Server(_) => None,
+            Saying::Wrong(advice) => Some(*advice),
+            Saying::Account(_) => once(Word::Account, self.account.is_some()),
+            Saying::Bot(_) => once(Word::Bot, self.station.is_some()),
+            Saying::Data(_) => once(Word::Data, self.folder.is_some()),
+            Saying::Exclusive => once(Word::Exclusive, self.exclusive),
+            Saying::Hub(_) => once(Word::Hub, self.hub.is_some()),
+            Saying::Listen(_) => once(Word::Listen, self.listen.is_some()),
+            Saying::LogLines => once(Word::Log, self.log_lines),
+            Saying::Nick(_) => once(Word::Nick, self.nick.is_some()),
+            Saying::Offset(_) => once(Word::Offset, self.offset.is_some()),
+            Saying::Secret(_) => once(Word::Secret, self.secret.is_some()),
+        }
+    }
+
+    /// Adds what the line of this number says.
+    pub fn add(&mut self, line: u64, saying: Saying) -> Result<(), NoMemory>
+        ensures { OnOk result (self.new ≡ added line self.old saying) }
+    {
+        match saying {
+            Saying::Nothing | Saying::Wrong(_) => {}
+            Saying::Account(account) => self.account = Some(account),
+            Saying::Bind(words) => self.binds.push(BindLine { line, words })?,
+            Saying::Bot(station) => self.station = Some(station),
+            Saying::Channel(name) => self.channels.push(name)?,
+            Saying::Data(folder) => self.folder = Some(folder),
+            Saying::Exclusive => self.exclusive = true,
+            Saying::Hub(address) => self.hub = Some(address),
+            Saying::Listen(address) => self.listen = Some(address),
+            Saying::LogLines => self.log_lines = true,
+            Saying::Nick(nick) => self.nick = Some(nick),
+            Saying::Offset(minutes) => self.offset = Some(minutes),
+            Saying::Perform(text) => self.performs.push(text)?,
+            Saying::Secret(file) => self.secret = Some(file),
+            Saying::Server(server) => self.servers.push(server)?,
+        }
+        Ok(())
+    }
+}
+
+// What to say of a line that stands once, where one is there.
+fn once(word: Word, is_there: bool) -> Option<Advice>
+    ensures { result ≡ once word is_there }
+{
+    if is_there {
+        Some(Advice::Once(word))
+    } else {
+        None
+    }
+}

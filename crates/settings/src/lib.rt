@@ -1,0 +1,63 @@
+//! The configuration file of a bot.
+//!
+//! A file has one setting a line: a word, and the words that belong to it, with one space or more between. A last word in
+//! capitals below takes the rest of the line, and keeps its spaces. Spaces before the first word are skipped; empty lines
+//! and lines that begin with `#` say nothing. Lines end with a line feed alone.
+//!
+//! | Line | Times | Meaning |
+//! |---|---|---|
+//! | `data FOLDER` | once | the bot's own folder |
+//! | `nick` nick | once | the nick under which it connects |
+//! | `server` host port PASS | once or more | a server to try, in turn; the PASS may be left out |
+//! | `bot` number `of` leaves | once or not at all | which bot it is; 0 is the hub, and `bot 0 of 0` stands where there is no such line |
+//! | `hub` host port | a leaf: once | where its hub listens |
+//! | `listen` host port | a hub with leaves: once | where it listens |
+//! | `secret FILE` | once where there are leaves | the file of what both ends of the link know |
+//! | `channel` name | any | a channel to join, in order |
+//! | `bind` type flags proc MASK | any | a bind, in order |
+//! | `perform LINE` | any | a line of 1 to 510 bytes for the server, once after each registration |
+//! | `account` name FILE | once or not at all | whom it authenticates as, and the file of the password |
+//! | `offset` minutes | once or not at all | how far its clock is ahead of UTC, -1439 to 1439, 0 where there is no such line |
+//! | `exclusive` | once or not at all | a text that a `msgm` or `pubm` bind matched is none for `msg` and `pub` binds |
+//! | `log lines` | once or not at all | each line from and to the server is logged |
+//!
+//! [`Settings::read`] answers what a file says, or its first faulty line with what to say instead, or what it lacks. Nothing
+//! is opened. A bind's type, flags and mask are for the table of binds to judge: a [`BindLine`] has its line's number, so
+//! that who makes the table can name it.
+//!
+//! ```text
+//! let settings = Settings::read(alloc, b"data /var/lib/egg\nnick egg\nserver 127.0.0.1 6667\nchannel #egg\n")?;
+//! Settings::read(alloc, b"data /var/lib/egg\nbot 1 off 40\n")
+//!     // line 2: say bot NUMBER of LEAVES, as in bot 1 of 40
+//! ```
+#![tactic(auto)]
+
+mod advice;
+mod cutting;
+mod draft;
+mod fault;
+mod names;
+mod numeral;
+mod reading;
+mod saying;
+mod settings;
+mod word;
+
+pub use crate::advice::Advice;
+pub use crate::fault::{Lack, SettingsError, SettingsFault};
+pub use crate::settings::{
+    Account, Address, BindLine, BindLines, BindWords, Server, Servers, Settings, Station,
+};
+pub use crate::word::Word;
+
+/// The most bytes that a file has.
+pub const MAX_FILE: usize = 65_536;
+
+/// The most leaves that a hub has.
+pub const MAX_LEAVES: u16 = 1_000;
+
+/// The most bytes of a nick.
+pub const MAX_NICK: usize = 30;
+
+/// The most bytes of a line for the server, without its CR and LF (RFC 2812 section 2.3).
+pub const MAX_LINE: usize = 510;

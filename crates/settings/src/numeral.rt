@@ -1,0 +1,65 @@
+// Numbers as words.
+ghost use Rattle.std.specs.Prelude.{◌≡◌, ◌<◌};
+ghost use Rattle.settings.specs.Words.{digit_onto, is_digit, number_of, offset_of, signed, port_of};
+
+/// The number that a word of digits means, where it is below 65,536.
+pub fn number(word: &[u8]) -> Option<u16>
+    ensures { result ≡ number_of word.now }
+{
+    if word.is_empty() {
+        return None;
+    }
+    let mut value: u16 = 0;
+    for byte in word {
+        value = digit_onto(value, *byte)?;
+    }
+    Some(value)
+}
+
+// The number that one digit more makes of a number, where it is below 65,536.
+fn digit_onto(value: u16, byte: u8) -> Option<u16>
+    ensures { result ≡ digit_onto value byte }
+{
+    if byte < 48 || byte > 57 {
+        return None;
+    }
+    let longer = u32::from(value) * 10 + u32::from(byte - 48);
+    if longer < 65_536 {
+        Some(longer as u16)
+    } else {
+        None
+    }
+}
+
+/// A number that is a port.
+pub fn port(word: &[u8]) -> Option<u16>
+    ensures { result ≡ port_of word.now }
+{
+    match number(word) {
+        Some(0) | None => None,
+        Some(port) => Some(port),
+    }
+}
+
+/// Whole minutes, -1,439 to 1,439, with or without a sign.
+pub fn offset(word: &[u8]) -> Option<i32>
+    ensures { result ≡ offset_of word.now }
+{
+    match word {
+        [b'-', digits @ ..] => signed(true, number(digits)),
+        [b'+', digits @ ..] => signed(false, number(digits)),
+        _ => signed(false, number(word)),
+    }
+}
+
+// So many minutes ahead, or behind where it is negative.
+fn signed(is_behind: bool, minutes: Option<u16>) -> Option<i32>
+    ensures { result ≡ signed is_behind minutes }
+{
+    let minutes = minutes?;
+    if minutes >= 1_440 {
+        return None;
+    }
+    let minutes = i32::from(minutes);
+    Some(if is_behind { -minutes } else { minutes })
+}

@@ -1,0 +1,143 @@
+// A whole file.
+ghost use Rattle.std.specs.Prelude.{◌≡◌, ◌==◌, None, map, IfOk};
+ghost use Rattle.std.specs.List.{slice_split};
+ghost use Rattle.settings.specs.Reading.{Answers, completed, lack_of, lines_read, role_lack, settings_of};
+
+use crate::MAX_FILE;
+use crate::draft::Draft;
+use crate::fault::{Lack, SettingsError, SettingsFault};
+use crate::saying::saying_of;
+use crate::settings::{Settings, Station};
+use bytetext::{Failure, NoMemory};
+use std::alloc::{AllocError, Global};
+
+// A hub without leaves.
+const ALONE: Station = Station {
+    number: 0,
+    leaves: 0,
+};
+
+impl Settings {
+    ghost use Rattle.std.specs.Prelude.{◌≡◌, ◌<◌, length};
+    ghost use Rattle.settings.specs.Reading.{ReadsAs};
+
+    /// What these bytes say as a file.
+    ///
+    /// # Errors
+    /// `Refused` with `TooLong` above 65,536 bytes, else with the first line that breaks a rule, else with the first thing
+    /// that the file lacks; `NoMemory` where room is refused before a fault is seen, which is not for the length.
+    pub fn read(alloc: Global, bytes: &[u8]) -> Result<Settings, SettingsError>
+        ensures reads { ReadsAs bytes.now result }
+        ensures too_long { MAX_FILE < length bytes.now → result ≡ Err (Failure.Refused SettingsFault.TooLong) }
+    {
+        if bytes.len() > MAX_FILE {
+            return Err(Failure::Refused(SettingsFault::TooLong));
+        }
+        let lines = lines_of(alloc, bytes)?;
+        complete(draft_of(alloc, lines.as_slice())?)
+    }
+}
+
+// The lines, empty ones too: one more than there are line feeds.
+fn lines_of(alloc: Global, bytes: &[u8]) -> Result<Vec<&[u8]>, AllocError>
+    ensures { IfOk result (λ lines. map (λ line. line.now) lines.items ≡ slice_split (λ b. b == 10) bytes.now) }
+{
+    let mut lines = Vec::new(alloc);
+    for line in bytes.split(|byte| *byte == b'\n') {
+        lines.push(line)?;
+    }
+    Ok(lines)
+}
+
+// What these lines say together.
+fn draft_of(alloc: Global, lines: &[&[u8]]) -> Result<Draft, SettingsError>
+    ensures { Answers (lines_read (map (λ line. line.now) lines.now)) result }
+{
+    let mut draft = Draft::new(alloc);
+    for (place, bytes) in lines.iter().enumerate() {
+        let line = place as u64 + 1;
+        let saying = saying_of(alloc, bytes)?;
+        match draft.refusal(&saying) {
+            Some(advice) => return Err(Failure::Refused(SettingsFault::Line { line, advice })),
+            None => draft.add(line, saying)?,
+        }
+    }
+    Ok(draft)
+}
+
+// The settings of right lines, where they lack nothing.
+fn complete(draft: Draft) -> Result<Settings, SettingsError>
+    ensures { Answers (completed (lack_of draft) draft) result }
+{
+    match lack_of(&draft) {
+        Some(lack) => Err(Failure::Refused(SettingsFault::Lacks(lack))),
+        None => Ok(settings_of(draft)),
+    }
+}
+
+// What right lines lack.
+fn lack_of(draft: &Draft) -> Option<Lack>
+    ensures { result ≡ lack_of draft.now }
+{
+    if draft.folder.is_none() {
+        return Some(Lack::Data);
+    }
+    if draft.nick.is_none() {
+        return Some(Lack::Nick);
+    }
+    if draft.servers.is_empty() {
+        return Some(Lack::Server);
+    }
+    role_lack(
+        draft.station.unwrap_or(ALONE),
+        draft.hub.is_some(),
+        draft.listen.is_some(),
+        draft.secret.is_some(),
+    )
+}
+
+// What a bot of this number among so many lacks.
+fn role_lack(station: Station, hub: bool, listen: bool, secret: bool) -> Option<Lack>
+    ensures { result ≡ role_lack station hub listen secret }
+{
+    let is_leaf = station.number > 0;
+    if is_leaf && !hub {
+        return Some(Lack::Hub);
+    }
+    if is_leaf && listen {
+        return Some(Lack::LeafListens);
+    }
+    if !is_leaf && station.leaves > 0 && !listen {
+        return Some(Lack::Listen);
+    }
+    if !is_leaf && hub {
+        return Some(Lack::HubOfHub);
+    }
+    if (is_leaf || station.leaves > 0) && !secret {
+        return Some(Lack::Secret);
+    }
+    None
+}
+
+// The settings of lines that lack nothing.
+fn settings_of(draft: Draft) -> Settings
+    requires { lack_of draft ≡ None }
+    ensures { result ≡ settings_of draft }
+{
+    Settings {
+        folder: draft.folder.unwrap(),
+        station: draft.station.unwrap_or(ALONE),
+        nick: draft.nick.unwrap(),
+        channels: draft.channels,
+        servers: draft.servers,
+        hub: draft.hub,
+        listen: draft.listen,
+        secret: draft.secret,
+        account: draft.account,
+        offset: draft.offset.unwrap_or(0),
+        exclusive: draft.exclusive,
+        log_lines: draft.log_lines,
+        performs: draft.performs,
+        binds: draft.binds,
+    }
+}

@@ -1,0 +1,100 @@
+// What a configuration file says.
+use bytetext::{Seq, Text, Texts};
+
+/// What a configuration file says.
+#[derive(Debug, Drop)]
+pub struct Settings {
+    /// The bot's own folder.
+    pub folder: Text,
+    /// Which bot it is.
+    pub station: Station,
+    /// The nick under which it connects.
+    pub nick: Text,
+    /// The channels that it joins, in order. Each is a channel name.
+    pub channels: Texts,
+    /// The servers that it tries, in turn: one or more.
+    pub servers: Servers,
+    /// Where the hub listens; a leaf has it, and no other bot.
+    pub hub: Option<Address>,
+    /// Where it listens; a hub with leaves has it, and no leaf.
+    pub listen: Option<Address>,
+    /// The file of what both ends of the link know. A bot of a net of several has it.
+    pub secret: Option<Text>,
+    /// Whom it authenticates as.
+    pub account: Option<Account>,
+    /// How many whole minutes its clock is ahead of UTC, -1,439 to 1,439.
+    pub offset: i32,
+    /// Whether a text for which a `msgm` or `pubm` proc was called is no event for `msg` or `pub` binds.
+    pub exclusive: bool,
+    /// Whether each line from and to the server is logged.
+    pub log_lines: bool,
+    /// Lines of 1 to 510 bytes for the server, once after each registration, in order.
+    pub performs: Texts,
+    /// The binds, in order.
+    pub binds: BindLines,
+}
+
+/// A bot's number among all, and how many leaves there are.
+#[derive(Clone, Copy, Debug, PartialEq, Eq)]
+pub struct Station {
+    /// 0 is the hub; the leaves are 1 to `leaves`.
+    pub number: u16,
+    /// At most 1,000.
+    pub leaves: u16,
+}
+
+/// A host and a port.
+#[derive(Debug, Drop)]
+pub struct Address {
+    /// A name or an address, one word.
+    pub host: Text,
+    /// 1 to 65,535.
+    pub port: u16,
+}
+
+/// A server to try.
+#[derive(Debug, Drop)]
+pub struct Server {
+    /// Where it is.
+    pub address: Address,
+    /// What it is told by PASS, if it wants that.
+    pub pass: Option<Text>,
+}
+
+/// Servers, in order.
+pub type Servers = Seq<Server>;
+
+/// Whom a bot authenticates as.
+#[derive(Debug, Drop)]
+pub struct Account {
+    /// The account's name.
+    pub name: Text,
+    /// The file of its password.
+    pub file: Text,
+}
+
+/// The words of a bind. None is empty; whether there is such a kind, and whether flags and mask are of a good shape, is
+/// not looked at.
+#[derive(Debug, Drop)]
+pub struct BindWords {
+    /// The type, as the table of binds names it.
+    pub kind: Text,
+    /// The flag expression.
+    pub flags: Text,
+    /// The proc that is called.
+    pub proc: Text,
+    /// The mask or keyword.
+    pub mask: Text,
+}
+
+/// A bind, and the line that has it.
+#[derive(Debug, Drop)]
+pub struct BindLine {
+    /// The line's number, from 1.
+    pub line: u64,
+    /// The bind's words.
+    pub words: BindWords,
+}
+
+/// Binds, in order.
+pub type BindLines = Seq<BindLine>;

@@ -1,0 +1,91 @@
+// What one call of a reader or a writer answers.
+ghost use Rattle.std.specs.Prelude.{◌≡◌, ◌<◌, length, IfSome, IfNone};
+ghost use Rattle.std.specs.Io.KnownBytes.{Appends, Consumes, Keeps};
+ghost use Rattle.streams.specs.Answers.{given_by, taken_by};
+ghost use Rattle.streams.specs.Calls.{FitsIn, IsFrontOf, IsTrueEnd, bytes_given, bytes_taken};
+
+use crate::stream::{Given, Taken};
+use std::io;
+use std::io::{ErrorKind, Read, Write};
+
+// Asks a reader until it is not interrupted. It failed where it is interrupted 2 ^ 64 - 1 times.
+pub(crate) fn ask<R: Read>(reader: &mut R, buffer: &mut [u8]) -> Given
+    requires { 0 < length buffer.old }
+    ensures fits { FitsIn buffer.new result }
+    ensures left { Consumes (R.remaining reader.old) (R.remaining reader.new) (bytes_given result buffer.new) }
+    ensures end { IsTrueEnd result (R.remaining reader.new) }
+{
+    for _turn in 0..u64::MAX {
+        if let Some(answer) = ask_once(reader, buffer) {
+            return answer;
+        }
+    }
+    Given::Fault
+}
+
+// Asks a reader once. `None` where it was interrupted.
+fn ask_once<R: Read>(reader: &mut R, buffer: &mut [u8]) -> Option<Given>
+    requires { 0 < length buffer.old }
+    ensures fits { IfSome result (FitsIn buffer.new) }
+    ensures left { IfSome result
+        (λ answer. Consumes (R.remaining reader.old) (R.remaining reader.new) (bytes_given answer buffer.new)) }
+    ensures end { IfSome result (λ answer. IsTrueEnd answer (R.remaining reader.new)) }
+    ensures again { IfNone result (Keeps (R.remaining reader.old) (R.remaining reader.new)) }
+{
+    given_by(reader.read(buffer))
+}
+
+// What a reader's answer means. `None` where it was interrupted.
+fn given_by(answer: io::Result<usize>) -> Option<Given>
+    ensures { result ≡ given_by answer }
+{
+    match answer {
+        Ok(0) => Some(Given::End),
+        Ok(count) => Some(Given::Bytes(count)),
+        Err(error) => match error.kind() {
+            ErrorKind::Interrupted => None,
+            ErrorKind::WouldBlock => Some(Given::Stall),
+            _ => Some(Given::Fault),
+        },
+    }
+}
+
+// Offers a writer bytes until it is not interrupted. It failed where it is interrupted 2 ^ 64 - 1 times.
+pub(crate) fn offer<W: Write>(writer: &mut W, bytes: &[u8]) -> Taken
+    requires { 0 < length bytes.now }
+    ensures front { IsFrontOf bytes.now result }
+    ensures holds { Appends (W.contents writer.old) (W.contents writer.new) (bytes_taken result bytes.now) }
+{
+    for _turn in 0..u64::MAX {
+        if let Some(answer) = offer_once(writer, bytes) {
+            return answer;
+        }
+    }
+    Taken::Fault
+}
+
+// Offers a writer bytes once. `None` where it was interrupted.
+fn offer_once<W: Write>(writer: &mut W, bytes: &[u8]) -> Option<Taken>
+    requires { 0 < length bytes.now }
+    ensures front { IfSome result (IsFrontOf bytes.now) }
+    ensures holds { IfSome result
+        (λ answer. Appends (W.contents writer.old) (W.contents writer.new) (bytes_taken answer bytes.now)) }
+    ensures again { IfNone result (Keeps (W.contents writer.old) (W.contents writer.new)) }
+{
+    taken_by(writer.write(bytes))
+}
+
+// What a writer's answer means. `None` where it was interrupted.
+fn taken_by(answer: io::Result<usize>) -> Option<Taken>
+    ensures { result ≡ taken_by answer }
+{
+    match answer {
+        Ok(0) => Some(Taken::Nothing),
+        Ok(count) => Some(Taken::Bytes(count)),
+        Err(error) => match error.kind() {
+            ErrorKind::Interrupted => None,
+            ErrorKind::WouldBlock => Some(Taken::Nothing),
+            _ => Some(Taken::Fault),
+        },
+    }
+}

@@ -1,0 +1,62 @@
+"""What this repository's commands take of the toolchain's command rt: its crates, its words for rattle, its lanes.
+
+rt is a file of Python. These names of it are no documented interface; docs/DECISIONS.md says what stands on them, and
+what to do when they go.
+"""
+import importlib.machinery
+import importlib.util
+import os
+import shutil
+import sys
+
+sys.dont_write_bytecode = True
+TOP = os.path.dirname(os.path.dirname(os.path.realpath(__file__)))
+# What a check of one crate takes at the most, in bytes.
+CHECK = 3_600_000_000
+
+
+def load():
+    file = os.path.realpath(shutil.which("rt") or sys.exit("the toolchain's command rt is not on the path"))
+    loader = importlib.machinery.SourceFileLoader("rt", file)
+    made = importlib.util.module_from_spec(importlib.util.spec_from_loader("rt", loader))
+    loader.exec_module(made)
+    return made
+
+
+rt = load()
+Crate = rt.rtlib.Crate
+sum_of_sources, make, sums = Crate.stamp, Crate.__init__, {}
+
+
+def stamp(crate):
+    """Returns the sum of all that the crate is made from, once for each crate: rt reads those below once for each path to them."""
+    if crate.folder not in sums:
+        sums[crate.folder] = sum_of_sources(crate)
+    return sums[crate.folder]
+
+
+def make_with_files(crate, *given, **named):
+    make(crate, *given, **named)
+    rt.read_files(crate)
+
+
+Crate.stamp, Crate.__init__ = stamp, make_with_files
+
+
+def crates(names=()):
+    """Returns the repository's crates, lowest first: those of these names and all below them, or all."""
+    found = rt.rtlib.crates_below(TOP)
+    lacking = {*names} - {it.name for it in found}
+    if lacking:
+        sys.exit(f"crates.txt has no crate {' '.join(sorted(lacking))}")
+    if names:
+        kept = {below.name for it in found if it.name in names for below in [it, *it.below()]}
+        found = [it for it in found if it.name in kept]
+    rt.rtlib.guarded()
+    return sorted(found, key=lambda it: len(it.below()))
+
+
+def lanes():
+    """Returns how many checks go side by side: as many as processors and free memory bear, or what RT_JOBS says."""
+    said = os.environ.get("RT_JOBS", "")
+    return int(said) if said.isdigit() and int(said) else max(1, min(rt.processors(), rt.free() // CHECK))
