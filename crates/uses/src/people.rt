@@ -1,0 +1,26 @@
+// Who a person is.
+use anyhow::Error;
+use bytetext::Text;
+use std::alloc::Global;
+use userfile::{Change, Userfile};
+
+/// How long the handle is of who writes from a host, by the hostmask that decides.
+pub fn deciding_handle(alloc: Global) -> Result<usize, Error> {
+    let mut userfile = Userfile::new(alloc);
+    add(alloc, &mut userfile, b"anybody", b"*!*@*.net")?;
+    add(alloc, &mut userfile, b"bob", b"*!bob@*.net")?;
+    Ok(userfile.handle_of(b"Bobby!bob@a.net").len())
+}
+
+// Adds a user with one hostmask.
+fn add(alloc: Global, userfile: &mut Userfile, handle: &[u8], mask: &[u8]) -> Result<(), Error> {
+    let user = Change::AddUser {
+        handle: Text::from_slice(alloc, handle)?,
+    };
+    userfile.apply(alloc, &user)?;
+    let host = Change::AddHost {
+        handle: Text::from_slice(alloc, handle)?,
+        mask: Text::from_slice(alloc, mask)?,
+    };
+    Ok(userfile.apply(alloc, &host)?)
+}
