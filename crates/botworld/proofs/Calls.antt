@@ -107,10 +107,10 @@ unbind_due-none old gone None = refl
 unbind_due-none old gone (Some bind) = refl
 
 -- a done step made the calls of what happened, with some minutes for the numbers of minutes
-record AreCalled (code_of : List ℕ → Call → Code) (names : List (List ℕ)) (old : Bot) (happenings : List Happening) (calls : List ProcCall) : Type 0 where
-  occasions : List Occasion
-  are : AreOccasions happenings occasions
-  made : calls ≡ proc_calls (told_of (bot_setting code_of names old) occasions)
+pub record AreCalled (code_of : List ℕ → Call → Code) (names : List (List ℕ)) (old : Bot) (happenings : List Happening) (calls : List ProcCall) : Type 0 where
+  pub occasions : List Occasion
+  pub are : AreOccasions happenings occasions
+  pub made : calls ≡ proc_calls (told_of (bot_setting code_of names old) occasions)
 
 -- nothing happened, and nothing was called
 none_called : (code_of : List ℕ → Call → Code) (names : List (List ℕ)) (old : Bot) (report : BotReport) → HasNone report
@@ -179,7 +179,7 @@ reading_calls : (code_of : List ℕ → Call → Code) (may : List ℕ → Call 
 reading_calls code_of may names old now report new done (Some fault) t = absurd (refused_done report (clock_refusal fault) done t.0)
 reading_calls code_of may names old now report new done None t = moment_calls code_of may names old now report new done (is_stale old.clock now) refl t
 
-step_calls : (code_of : List ℕ → Call → Code) (may : List ℕ → Call → List Action → Type 0) (names : List (List ℕ)) (old : Bot) (event : Event)
+pub step_calls : (code_of : List ℕ → Call → Code) (may : List ℕ → Call → List Action → Type 0) (names : List (List ℕ)) (old : Bot) (event : Event)
     (report : BotReport) (new : Bot) → report.end ≡ Done → TakesStep code_of may names old event report new
     → AreCalled code_of names old (happenings_of old event) (map proc_call report.calls)
 step_calls code_of may names old Connect report new done t = none_called code_of names old report (none_due _ old _ report new done t refl)
@@ -204,15 +204,15 @@ step_calls code_of may names old Compact report new done t = none_called code_of
 step_calls code_of may names old Restart report new done t = none_called code_of names old report (call_none report new t)
 
 -- what a bot's calls depend on, by its version
-abbrev setting_at : (List ℕ → Call → Code) → List (List ℕ) → List AcceptedChange → Bot → Setting
+abbrev pub setting_at : (List ℕ → Call → Code) → List (List ℕ) → List AcceptedChange → Bot → Setting
 setting_at code_of names all bot = setting_of code_of names (records_of all (link_version bot.link)).users bot.binds.binds bot.config.exclusive
 
 -- the calls are those of the bot at its version
-record IsCalled (code_of : List ℕ → Call → Code) (names : List (List ℕ)) (all : List AcceptedChange) (a : Calling) : Type 0 where
-  version : link_version a.bot.link ≤ length all
-  occasions : List Occasion
-  are : AreOccasions a.happenings occasions
-  calls : a.calls ≡ proc_calls (told_of (setting_at code_of names all a.bot) occasions)
+pub record IsCalled (code_of : List ℕ → Call → Code) (names : List (List ℕ)) (all : List AcceptedChange) (a : Calling) : Type 0 where
+  pub version : link_version a.bot.link ≤ length all
+  pub occasions : List Occasion
+  pub are : AreOccasions a.happenings occasions
+  pub calls : a.calls ≡ proc_calls (told_of (setting_at code_of names all a.bot) occasions)
 
 part_calls : (code_of : List ℕ → Call → Code) (may : List ℕ → Call → List Action → Type 0) (s : State) (part : Part) (o : Outcome) (w : Net) → IsSound s
     → (t : TakesPart code_of may s.net part o w) (a : Calling) (end : End) → t.report.end ≡ end
@@ -245,7 +245,7 @@ calls_at code_of may s step o w sound rule a is = by (part_of s.net step) rule i
 
 -- the calls of a run ---------------------------------------------------------------------------------------------------
 
-IsCalled-extended : (code_of : List ℕ → Call → Code) (names : List (List ℕ)) (all now : List AcceptedChange) (a : Calling) → Extends all now
+pub IsCalled-extended : (code_of : List ℕ → Call → Code) (names : List (List ℕ)) (all now : List AcceptedChange) (a : Calling) → Extends all now
     → IsCalled code_of names all a → IsCalled code_of names now a
 IsCalled-extended code_of names all now a more called =
     let v = link_version a.bot.link in
@@ -278,7 +278,7 @@ all_called code_of may first (x ∷ ms) last sound run zero m a at is =
 all_called code_of may first (x ∷ ms) last sound run (suc i) m a at is = all_called code_of may x.after ms last run.1.sound run.2 i m a at is
 
 -- alike bots call the same procs
-alike_calls : (code_of : List ℕ → Call → Code) (names : List (List ℕ)) (all : List AcceptedChange) (a b : Calling) → IsCalled code_of names all a
+pub alike_calls : (code_of : List ℕ → Call → Code) (names : List (List ℕ)) (all : List AcceptedChange) (a b : Calling) → IsCalled code_of names all a
     → IsCalled code_of names all b → IsAlike a b → a.calls ≡ b.calls
 alike_calls code_of names all a b one other alike =
     let from : Setting = setting_of code_of names (records_of all (link_version b.bot.link)).users [] b.bot.config.exclusive in

@@ -1,5 +1,5 @@
 // What a case asks for.
-use crate::{clocks, files, wires};
+use crate::{clocks, files, handshakes, wires};
 use bytetext::Text;
 use caselines::{CaseError, NO_SUCH_CASE, Sink};
 use std::alloc::Global;
@@ -10,6 +10,10 @@ pub fn answer(alloc: Global, words: &[Text], out: &mut Sink) -> Result<(), CaseE
         return Err(NO_SUCH_CASE);
     };
     match first.as_bytes() {
+        b"hmac" => handshakes::hmac(words, out),
+        b"hub" => handshakes::hub(words, out),
+        b"late" => handshakes::late(words, out),
+        b"leaf" => handshakes::leaf(words, out),
         b"long" => files::long(alloc, words, out),
         b"redial" => clocks::redial(words, out),
         b"settings" => files::settings(alloc, words, out),

@@ -1,4 +1,5 @@
 // Configuration files.
+use bottimers::{Zone, civil, time_args};
 use bytetext::{Failure, NoMemory, Text};
 use caselines::{BAD_NUMBER, BAD_WORDS, CaseError, Sink, number};
 use settings::{Address, BindLine, Server, Settings};
@@ -6,6 +7,11 @@ use std::alloc::Global;
 
 // The most bytes of a file of `#`.
 const MOST: usize = 100_000;
+
+// The midnights of UTC that begin 1 January and 1 July 2026.
+const IN_WINTER: u64 = 1_767_225_600;
+
+const IN_SUMMER: u64 = 1_782_864_000;
 
 /// `settings LINE..`: what a file of these lines says.
 pub fn settings(alloc: Global, lines: &[Text], out: &mut Sink) -> Result<(), CaseError> {
@@ -41,7 +47,7 @@ pub fn long(alloc: Global, words: &[Text], out: &mut Sink) -> Result<(), CaseErr
 fn answer(alloc: Global, bytes: &[u8], out: &mut Sink) -> Result<(), CaseError> {
     match Settings::read(alloc, bytes) {
         Ok(settings) => {
-            put_settings(&settings, out);
+            put_settings(alloc, &settings, out)?;
             Ok(())
         }
         Err(Failure::Refused(fault)) => {
@@ -54,7 +60,7 @@ fn answer(alloc: Global, bytes: &[u8], out: &mut Sink) -> Result<(), CaseError> 
 }
 
 // Writes settings in the words of a file.
-fn put_settings(settings: &Settings, out: &mut Sink) {
+fn put_settings(alloc: Global, settings: &Settings, out: &mut Sink) -> Result<(), NoMemory> {
     out.put(b"data");
     put_word(settings.folder.as_bytes(), out);
     out.put(b" ; bot ");
@@ -69,11 +75,11 @@ fn put_settings(settings: &Settings, out: &mut Sink) {
     }
     put_address(b" ; hub", settings.hub.as_ref(), out);
     put_address(b" ; listen", settings.listen.as_ref(), out);
-    put_rest(settings, out);
+    put_rest(alloc, settings, out)
 }
 
 // Writes those that may be missing.
-fn put_rest(settings: &Settings, out: &mut Sink) {
+fn put_rest(alloc: Global, settings: &Settings, out: &mut Sink) -> Result<(), NoMemory> {
     if let Some(file) = &settings.secret {
         out.put(b" ; secret");
         put_word(file.as_bytes(), out);
@@ -83,7 +89,7 @@ fn put_rest(settings: &Settings, out: &mut Sink) {
         put_word(account.name.as_bytes(), out);
         put_word(account.file.as_bytes(), out);
     }
-    put_offset(settings.offset, out);
+    put_zone(alloc, &settings.zone, out)?;
     if settings.exclusive {
         out.put(b" ; exclusive");
     }
@@ -94,17 +100,33 @@ fn put_rest(settings: &Settings, out: &mut Sink) {
     for bind in settings.binds.as_slice() {
         put_bind(bind, out);
     }
+    Ok(())
 }
 
-fn put_offset(minutes: i32, out: &mut Sink) {
-    if minutes == 0 {
-        return;
+// Writes what a zone's clock shows at two moments, where that is not UTC's.
+fn put_zone(alloc: Global, zone: &Zone, out: &mut Sink) -> Result<(), NoMemory> {
+    let winter = shown_at(alloc, IN_WINTER, zone)?;
+    let summer = shown_at(alloc, IN_SUMMER, zone)?;
+    if winter.as_bytes() != b"00:00".as_slice() || summer.as_bytes() != b"00:00".as_slice() {
+        out.put(b" ; zone");
+        put_word(winter.as_bytes(), out);
+        put_word(summer.as_bytes(), out);
     }
-    out.put(b" ; offset ");
-    if minutes < 0 {
-        out.put(b"-");
+    Ok(())
+}
+
+// What a zone's clock shows at a moment, as HH:MM; nothing where it is none.
+fn shown_at(alloc: Global, moment: u64, zone: &Zone) -> Result<Text, NoMemory> {
+    let mut text = Vec::new(alloc);
+    if let Ok(at) = civil(moment, zone) {
+        let words = time_args(alloc, &at)?;
+        if let [minute, hour, ..] = words.as_slice() {
+            text.extend_from_slice(hour.as_bytes())?;
+            text.push(b':')?;
+            text.extend_from_slice(minute.as_bytes())?;
+        }
     }
-    out.number(u64::from(minutes.unsigned_abs()));
+    Ok(Text::new(text))
 }
 
 // Writes a space and a text.

@@ -3,12 +3,12 @@
 use bytetext::NoMemory;
 use loopback::House;
 use std::alloc::Global;
+use std::io;
 use std::net::Net;
-use std::time::{Clock, Duration};
-use std::{io, thread};
+use std::time::Clock;
 
-// How long it rests after a turn in which nothing moved, in milliseconds.
-const REST: u64 = 5;
+// How long it waits for sockets at most after a turn in which nothing moved, in milliseconds: then it looks at the clock.
+const REST: u64 = 1_000;
 
 /// Why it serves no longer.
 pub enum ServeError {
@@ -35,10 +35,15 @@ pub fn serve<R: Net + Clock + Print + AllocGlobal>(rt: &R, port: u16) -> Result<
     let mut house = House::open(rt, port)?;
     let port = house.port()?;
     println!(rt; "{port}")?;
+    let mut rest = 0;
     for _ in 0..u64::MAX {
-        if !turn(rt.alloc(), &mut house)? {
-            thread::sleep(rt, Duration::from_millis(REST));
-        }
+        house.wait(rest)?;
+        house.tick(rt.monotonic()?.as_secs())?;
+        rest = if turn(rt.alloc(), &mut house)? {
+            0
+        } else {
+            REST
+        };
     }
     Ok(())
 }

@@ -3,11 +3,14 @@
 //! What a file holds no contract can say, so these cases look: what is written is read back by another opening of the
 //! file; a second disk finds it in use; an opening changes the time of the last writing; and a disk whose descriptor was
 //! closed under it refuses a write and a sync, since both go to the file. Of a making of a journal that is stopped at
-//! each call of its disks, with five ways of tearing, it prints what the next start does.
+//! each call of its disks, with five ways of tearing, it prints what the next start does. Of a bot's folder it prints
+//! what a start finds after one that was stopped at each step of its making, beside one that runs, and after one that
+//! ended.
 //!
 //! The crate's file `stdout` was worked out by hand. The program ends with status 0 where all lines could be printed.
 #![tactic(auto)]
 
+mod bots;
 mod descriptors;
 mod folders;
 mod names;
@@ -15,6 +18,7 @@ mod seen;
 mod stops;
 mod writes;
 
+use crate::bots::bot_folders;
 use crate::descriptors::{closed_under, low_descriptor};
 use crate::folders::whole_folder;
 use crate::names::{lone_files, names, tidy};
@@ -44,5 +48,7 @@ fn play<R: AllocGlobal + Files<File = File>>(rt: &R, seen: &mut Seen) {
     closed_under(rt, seen);
     low_descriptor(rt, seen);
     whole_folder(rt, seen);
+    tidy(rt);
+    bot_folders(rt, seen);
     stops(rt.alloc(), seen);
 }

@@ -75,6 +75,8 @@ pub fn tidy<R: Files>(rt: &R) {
         "bot/journal/second",
         "bot/new/first",
         "bot/new/second",
+        "bot/lock",
+        "bot/control",
     ] {
         let _ = fs::remove_file(rt, file);
     }

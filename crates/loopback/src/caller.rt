@@ -1,7 +1,7 @@
 // One connection to the small server.
 use crate::peer::Peer;
 use bytetext::{NoMemory, Text};
-use miniircd::Client;
+use miniircd::{Client, Pulse};
 use mio::net::TcpStream;
 use std::alloc::Global;
 use std::mem;
@@ -14,16 +14,19 @@ const MAX_LINE: usize = 512;
 pub struct Caller {
     pub client: Client,
     pub peer: Peer,
+    /// How long the server waits for it.
+    pub pulse: Pulse,
     // What was read of a line whose end is still to come.
     line: Vec<u8>,
 }
 
 impl Caller {
-    /// A connection that has just come. Takes no memory.
-    pub fn new(alloc: Global, client: Client, stream: TcpStream) -> Caller {
+    /// A connection that comes at this second. Takes no memory.
+    pub fn new(alloc: Global, client: Client, stream: TcpStream, now: u64) -> Caller {
         Caller {
             client,
             peer: Peer::new(alloc, stream),
+            pulse: Pulse::new(now),
             line: Vec::new(alloc),
         }
     }
@@ -44,6 +47,16 @@ impl Caller {
     pub fn tell(&mut self, line: &[u8]) -> Result<(), NoMemory> {
         self.peer.tell(line)?;
         self.peer.tell(b"\r\n")
+    }
+
+    /// Leaves a last line for it, after which it is to be let go.
+    ///
+    /// # Errors
+    /// `NoMemory` where a growth was refused.
+    pub fn dismiss(&mut self, line: &[u8]) -> Result<(), NoMemory> {
+        self.tell(line)?;
+        self.peer.end();
+        Ok(())
     }
 }
 

@@ -2,8 +2,10 @@
 use crate::addresses::local;
 use crate::caller::Caller;
 use crate::guest::Guest;
+use crate::peer::Peer;
+use crate::waiting::Waiting;
 use bytetext::{Failure, NoMemory, Seq, Text};
-use miniircd::{Client, Fault, Ircd, IrcdError, MAX_CLIENTS, Sent};
+use miniircd::{Client, Due, Fault, Ircd, IrcdError, MAX_CLIENTS, Sent};
 use mio::net::{TcpListener, TcpStream};
 use std::alloc::Global;
 use std::io;
@@ -13,6 +15,8 @@ use std::net::Net;
 ///
 /// ```text
 /// let mut house = House::open(&rt, 6667)?;
+/// house.wait(1_000)?;        // until a socket has something, or a second has gone
+/// house.tick(now)?;          // who is asked whether it is there, and who has been silent for too long
 /// house.let_in(alloc)?;      // who waits
 /// house.read()?;             // what they sent
 /// house.step(alloc)?;        // what they said
@@ -20,9 +24,12 @@ use std::net::Net;
 /// ```
 pub struct House {
     listener: TcpListener,
+    waiting: Waiting,
     server: Ircd,
     callers: Vec<Caller>,
     guests: Vec<Guest>,
+    // The second of the last tick, from which on those who come are counted.
+    now: u64,
 }
 
 // By hand, so that this is proved once, and not in each crate in which a server with its clients ends.
@@ -30,9 +37,11 @@ impl Drop for House {
     fn drop(self) {
         let House {
             listener: _,
+            waiting: _,
             server: _,
             callers: _,
             guests: _,
+            now: _,
         } = self;
     }
 }
@@ -43,12 +52,44 @@ impl House {
     /// # Errors
     /// Those of the system, where the port can't be listened on.
     pub fn open<R: Net + AllocGlobal>(rt: &R, port: u16) -> io::Result<House> {
+        let mut listener = TcpListener::bind(rt, local(port))?;
+        let waiting = Waiting::for_listener(rt, &mut listener)?;
         Ok(House {
-            listener: TcpListener::bind(rt, local(port))?,
+            listener,
+            waiting,
             server: Ircd::new(rt.alloc()),
             callers: Vec::new(rt.alloc()),
             guests: Vec::new(rt.alloc()),
+            now: 0,
         })
+    }
+
+    /// Waits until the listener or a connection may have something to do, at most so many milliseconds. After a turn in
+    /// which something moved there may be more to do at once: wait for none then.
+    ///
+    /// # Errors
+    /// Those of the system.
+    pub fn wait(&mut self, millis: u64) -> io::Result<()> {
+        self.waiting.wait(millis)
+    }
+
+    /// It is this second of a clock that never goes back: asks those who are silent whether they are there, and has those
+    /// let go who haven't registered or answered in time. Without a tick nobody is; a guest never is.
+    ///
+    /// # Errors
+    /// `NoMemory` where a growth was refused.
+    pub fn tick(&mut self, now: u64) -> Result<(), NoMemory> {
+        self.now = now;
+        for caller in self.callers.iter_mut() {
+            let is_registered = self.server.is_registered(caller.client);
+            match caller.pulse.tick(is_registered, now) {
+                Due::Nothing => {}
+                Due::Ask => caller.tell(b"PING :irc.test")?,
+                Due::Nameless => caller.dismiss(b"ERROR :not registered within 30 seconds")?,
+                Due::Silent => caller.dismiss(b"ERROR :no answer within 4 minutes")?,
+            }
+        }
+        Ok(())
     }
 
     /// The port that it listens on.
@@ -59,7 +100,7 @@ impl House {
         Ok(self.listener.local_addr()?.port())
     }
 
-    /// Lets in who waits; a full server closes the connection. Whether anyone came.
+    /// Lets in who waits; one that finds the server full is told so and let go. Whether anyone came.
     ///
     /// # Errors
     /// `NoMemory` where a growth was refused.
@@ -75,10 +116,26 @@ impl House {
 
     fn admit(&mut self, alloc: Global, stream: TcpStream) -> Result<(), NoMemory> {
         match self.server.connect(alloc) {
-            Ok(client) => self.callers.push(Caller::new(alloc, client, stream))?,
-            Err(Failure::Refused(_)) => {}
-            Err(Failure::NoMemory) => return Err(NoMemory),
+            Ok(client) => self.add_caller(alloc, client, stream),
+            Err(Failure::Refused(_)) => turn_away(alloc, stream),
+            Err(Failure::NoMemory) => Err(NoMemory),
         }
+    }
+
+    // Adds a connection. One that can't be waited for is let go.
+    fn add_caller(
+        &mut self,
+        alloc: Global,
+        client: Client,
+        stream: TcpStream,
+    ) -> Result<(), NoMemory> {
+        let mut stream = stream;
+        let is_waited_for = self.waiting.add(&mut stream).is_ok();
+        let mut caller = Caller::new(alloc, client, stream, self.now);
+        if !is_waited_for {
+            caller.peer.end();
+        }
+        self.callers.push(caller)?;
         Ok(())
     }
 
@@ -117,6 +174,7 @@ impl House {
         if lines.is_empty() {
             return Ok(());
         }
+        caller.pulse.hear(self.now);
         self.say_all(alloc, client, lines.as_slice())?;
         // An empty line does nothing, and tells of a client that has quit.
         if !self.say(alloc, client, b"")? {
@@ -273,6 +331,14 @@ impl House {
             .iter_mut()
             .find(|guest| guest.nick.as_bytes() == nick.as_bytes())
     }
+}
+
+// One that finds the server full is told so, as far as that is taken at once.
+fn turn_away(alloc: Global, stream: TcpStream) -> Result<(), NoMemory> {
+    let mut peer = Peer::new(alloc, stream);
+    peer.tell(b"ERROR :full\r\n")?;
+    let _taken = peer.send();
+    Ok(())
 }
 
 // Words as a line.

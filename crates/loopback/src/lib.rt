@@ -6,7 +6,8 @@
 //! and an [`Uplink`] a leaf's.
 //!
 //! Each of them is driven by turns: let in who waits, read what has come, take it, and send what waits. No call waits for
-//! a socket. Who is slow, gone or sends rubbish is let go, and the others go on.
+//! a socket but [`House::wait`], which a program makes between two turns. Who is slow, gone or sends rubbish is let go,
+//! and the others go on.
 //!
 //! What sockets give and take is the system's, so no contract speaks of it. But each packet that comes was read from a
 //! frame, so its records are of good shape. Each call returns, and nothing is read or written out of bounds.
@@ -21,6 +22,7 @@ mod house;
 mod link;
 mod peer;
 mod uplink;
+mod waiting;
 
 pub use crate::addresses::local;
 pub use crate::frames::{FramePeer, frame_of};

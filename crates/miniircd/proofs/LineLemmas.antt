@@ -1,12 +1,12 @@
 -- Letters of lists, one element after another.
-use Rattle.std.proofs.Common.{◌≡◌, ℕ, ◌+◌, ◌<◌, List, [], ◌∷◌, ◌++◌, Option, length, take, get_or, refl, sym, ◌∙◌, ap, append_assoc, add-one}
-use Rattle.std.proofs.lemmas.List.{map_more, append-nil}
+use Rattle.std.proofs.Common.{◌≡◌, ℕ, ◌+◌, ◌<◌, ◌≤◌, List, [], ◌∷◌, ◌++◌, Option, length, take, drop, get_or, refl, sym, ap, add-one, arith}
+use Rattle.std.proofs.lemmas.List.{map_more}
 use Rattle.miniircd.specs.declared.person.Person.{Person}
 use Rattle.miniircd.specs.declared.member.Member.{Member}
 use Rattle.miniircd.specs.declared.member.Channel.{Channel}
-use Rattle.miniircd.specs.Rooms.{joined, joined_each}
+use Rattle.miniircd.specs.Rooms.{joined}
 use Rattle.miniircd.specs.Mail.{Mail, posted}
-use Rattle.miniircd.specs.Lines.{letter, spread, listed, listed_before, join_letters, join_letters_each}
+use Rattle.miniircd.specs.Lines.{letter, spread, listed, listed_before, source_of, join_letters, join_letters_each}
 use Rattle.miniircd.proofs.MailLemmas.{posted_step}
 
 -- ---- members
@@ -31,16 +31,10 @@ listed_none to p name names = refl
 
 -- ---- joins
 
-pub joined_each_more : (client : ℕ) (names : List (List ℕ)) (name : List ℕ) (channels : List Channel)
-    → joined_each client (names ++ name ∷ []) channels ≡ joined client name (joined_each client names channels)
-joined_each_more client [] name channels = refl
-joined_each_more client (first ∷ names) name channels = joined_each_more client names name (joined client first channels)
-
-pub join_letters_more : (client : ℕ) (p : Person) (clients : List (Option Person)) (names : List (List ℕ)) (name : List ℕ) (channels : List Channel)
-    → join_letters_each client p clients (names ++ name ∷ []) channels
-    ≡ join_letters_each client p clients names channels ++ join_letters client p clients name (joined_each client names channels)
-join_letters_more client p clients [] name channels = append-nil (join_letters client p clients name channels)
-join_letters_more client p clients (first ∷ names) name channels =
-    ap (λ letters. join_letters client p clients first channels ++ letters) (join_letters_more client p clients names name (joined client first channels))
-    ∙ sym (append_assoc (join_letters client p clients first channels) (join_letters_each client p clients names (joined client first channels))
-    (join_letters client p clients name (joined_each client names (joined client first channels))))
+pub join_letters_first : (client : ℕ) (p : Person) (clients : List (Option Person)) (names : List (List ℕ)) (name d : List ℕ) (channels : List Channel)
+    → 1 ≤ length names → name ≡ get_or names 0 d
+    → join_letters_each client p clients names channels
+    ≡ join_letters client p clients name channels ++ join_letters_each client p clients (drop 1 names) (joined client (source_of p) name channels)
+join_letters_first client p clients [] name d channels some is = absurd (omega arith)
+join_letters_first client p clients (first ∷ names) name d channels some is =
+    ap (λ n. join_letters client p clients n channels ++ join_letters_each client p clients names (joined client (source_of p) n channels)) (sym is)

@@ -1,10 +1,9 @@
 -- Nothing is left out of what is told of a PING, JOIN, PRIVMSG or NOTICE to a server that is whole.
-use Rattle.std.proofs.Common.{◌≡◌, ℕ, zero, suc, ◌+◌, ◌-◌, ◌*◌, ◌/◌, ◌≤◌, Bool, true, false, not, ◌&&◌, ◌==◌, cond, List, [], ◌∷◌, ◌++◌, Option, Some, None, is_some, map, take, drop, length, codes, refl, sym, ◌∙◌, ap, subst, inl, inr, arith}
+use Rattle.std.proofs.Common.{◌≡◌, ℕ, zero, suc, ◌+◌, ◌-◌, ◌*◌, ◌/◌, ◌≤◌, Bool, true, false, ◌&&◌, ◌==◌, cond, List, [], ◌∷◌, ◌++◌, Option, Some, None, is_some, map, take, drop, length, codes, refl, sym, ◌∙◌, ap, subst, inl, inr, arith}
 use Rattle.std.specs.List.{list_all, flat_map, slice_split, onto_first}
 use Rattle.std.specs.Prelude.{nat_lt, IfSome}
 use Rattle.std.proofs.lemmas.Bool.{and_from, and_parts, cond_both, or_cases, ltb-false}
 use Rattle.std.proofs.lemmas.List.Folds.{list_all-append}
-use Rattle.rfccase.specs.Channels.{is_channel_name}
 use Rattle.ircline.specs.Classes.{filled, octet, trailing, digit, is_end}
 use Rattle.ircline.specs.Carrying.{capital, kept_command, carries_params}
 use Rattle.ircline.specs.Words.{up_to}
@@ -20,13 +19,15 @@ use Rattle.miniircd.specs.declared.client.Sent.{Sent}
 use Rattle.miniircd.specs.declared.command.Command.{Command}
 use Rattle.miniircd.specs.declared.command.Command.TheVariants as command
 use Rattle.miniircd.specs.People.{held_at, word_at, is_registered}
-use Rattle.miniircd.specs.Rooms.{is_on_some, room, joined}
+use Rattle.miniircd.specs.declared.entrance.Entrance.{Entrance}
+use Rattle.miniircd.specs.declared.entrance.Entrance.TheVariants as entrance
+use Rattle.miniircd.specs.Rooms.{room, entrance_of, joined}
 use Rattle.miniircd.specs.Mail.{Letter, IsTold, is_readable, deliveries, is_line, sent}
-use Rattle.miniircd.specs.Lines.{Relays, repeated, relayed, source_of, told, spread, marks, name_of, names_of, row, listed, listed_before, listing, titling, arrival, join_letters, join_letters_each}
+use Rattle.miniircd.specs.Lines.{Relays, repeated, relayed, source_of, told, spread, marks, name_of, names_of, row, listed, listed_before, listing, titling, arrival, join_letters_by, join_letters, join_letters_each}
 use Rattle.miniircd.specs.Commands.{command_of, is_quit, needed}
 use Rattle.miniircd.specs.Talk.{pong, too_few, exact_by, exact_of_few, exact_letters}
 use Rattle.miniircd.specs.Server.{Server, letters_of, letters_held, letters}
-use Rattle.miniircd.specs.Whole.{is_held, are_clients, is_sound_slot, IsWhole}
+use Rattle.miniircd.specs.Whole.{is_held, are_clients, are_sound_channels, is_sound_slot, IsWhole}
 use Rattle.miniircd.proofs.WholeLemmas.{joined_keeps, params_texts, first_middle, word_text, line_parts}
 use Rattle.miniircd.proofs.PeopleLemmas.{Texts, texts, octets_of, source_octets, source_short, source_names, source_filled}
 use Rattle.miniircd.proofs.PrintedLemmas.{length-head}
@@ -128,18 +129,28 @@ arrival_arrives client p name clients (Some channel) people by is sound =
     (titling_arrives clients client p name channel.topic by is parts.1))
     (listing_arrives clients client p name names by is (names_texts clients channel.members people))
 
+by_entrance : (by : Entrance) (client : ℕ) (p : Person) (clients : List (Option Person)) (name : List ℕ) (after : List Channel)
+    → ((k : ℕ) → is_sound_slot (held_at clients k) ≡ true) → Speaks clients client p → trailing name ≡ true
+    → are_sound_channels (is_held clients) after ≡ true → all_arrive clients (join_letters_by by client p clients name after)
+by_entrance entrance.Nameless client p clients name after people by is all =
+    alone clients (told client p (codes "403") (repeated name) (codes "No such channel"))
+    (reply_arrives clients client p (codes "403") name (codes "No such channel") by refl (omega arith) is refl refl)
+by_entrance entrance.Inside client p clients name after people by is all = refl
+by_entrance entrance.TooMany client p clients name after people by is all =
+    alone clients (told client p (codes "405") (repeated name) (codes "You have joined too many channels"))
+    (reply_arrives clients client p (codes "405") name (codes "You have joined too many channels") by refl (omega arith) is refl refl)
+by_entrance entrance.Banned client p clients name after people by is all =
+    alone clients (told client p (codes "474") (repeated name) (codes "Cannot join channel (+b)"))
+    (reply_arrives clients client p (codes "474") name (codes "Cannot join channel (+b)") by refl (omega arith) is refl refl)
+by_entrance entrance.Open client p clients name after people by is all =
+    arrival_arrives client p name clients (room name after) people by is (room_sound (is_held clients) name after all)
+
 join_arrives : (client : ℕ) (p : Person) (clients : List (Option Person)) (name : List ℕ) (channels : List Channel)
     → IsWhole clients channels → Speaks clients client p → trailing name ≡ true
     → all_arrive clients (join_letters client p clients name channels)
 join_arrives client p clients name channels whole by is =
-    let refusal = told client p (codes "403") (repeated name) (codes "No such channel") in
-    let after = joined client name channels in
-    let came = arrival client p name clients (room name after) in
-    cond_both (not (is_channel_name name)) (refusal ∷ []) (cond (is_on_some client (room name channels)) [] came) (λ l. all_arrive clients l)
-    (λ b. alone clients refusal (reply_arrives clients client p (codes "403") name (codes "No such channel") by refl (omega arith) is refl refl))
-    (λ b. cond_both (is_on_some client (room name channels)) [] came (λ l. all_arrive clients l) (λ k. refl)
-    (λ k. arrival_arrives client p name clients (room name after) whole.people by is
-    (room_sound (is_held clients) name after (joined_keeps (is_held clients) client name channels by.held whole.rooms))))
+    by_entrance (entrance_of client (source_of p) name channels) client p clients name (joined client (source_of p) name channels)
+    whole.people by is (joined_keeps (is_held clients) client (source_of p) name channels by.held whole.rooms)
 
 join_each_arrives : (client : ℕ) (p : Person) (clients : List (Option Person)) (names : List (List ℕ)) (channels : List Channel)
     → IsWhole clients channels → Speaks clients client p → list_all trailing names ≡ true
@@ -147,11 +158,11 @@ join_each_arrives : (client : ℕ) (p : Person) (clients : List (Option Person))
 join_each_arrives client p clients [] channels whole by all = refl
 join_each_arrives client p clients (name ∷ names) channels whole by all =
     let parts = and_parts (trailing name) (list_all trailing names) all in
-    let after = joined client name channels in
+    let after = joined client (source_of p) name channels in
     let next : IsWhole clients after = record {
       people = whole.people;
       rooms = joined_keeps
-          (is_held clients) client name channels by.held whole.rooms;
+          (is_held clients) client (source_of p) name channels by.held whole.rooms;
     } in
     together clients (join_letters client p clients name channels) (join_letters_each client p clients names after)
     (join_arrives client p clients name channels whole by parts.0) (join_each_arrives client p clients names after next by parts.1)
@@ -229,6 +240,7 @@ of_few_arrives clients command.Mode client p word by is = tt
 of_few_arrives clients command.Names client p word by is = tt
 of_few_arrives clients command.Who client p word by is = tt
 of_few_arrives clients command.Quit client p word by is = tt
+of_few_arrives clients (command.Ask asked) client p word by is = tt
 of_few_arrives clients command.Unknown client p word by is = tt
 
 by_arrives : (c : Command) (client : ℕ) (p : Person) (clients : List (Option Person)) (channels : List Channel) (ps : List (List ℕ))
@@ -254,6 +266,7 @@ by_arrives command.Mode client p clients channels ps whole by carried enough = t
 by_arrives command.Names client p clients channels ps whole by carried enough = tt
 by_arrives command.Who client p clients channels ps whole by carried enough = tt
 by_arrives command.Quit client p clients channels ps whole by carried enough = tt
+by_arrives (command.Ask asked) client p clients channels ps whole by carried enough = tt
 by_arrives command.Unknown client p clients channels ps whole by carried enough = tt
 
 the_speaker : (clients : List (Option Person)) (client : ℕ) (p : Person) → is_held clients client ≡ true → Texts p → filled p.nick ≡ true

@@ -1,12 +1,11 @@
 -- Each command leaves sound channels, whose members are held.
 use Rattle.std.proofs.Common.{◌≡◌, ◌≢◌, ℕ, ◌<◌, Bool, true, not, ◌&&◌, ◌==◌, cond, List, [], ◌∷◌, Option, Some, None, is_some, filter, map, length, refl, sym, ◌∙◌, ap, subst, inl, inr, arith, zero, suc, ◌≤◌, ◌||◌, take, drop}
-use Rattle.std.specs.List.{list_all, slice_split}
-use Rattle.std.specs.Prelude.{slice_set, slice_get, nat_le}
+use Rattle.std.specs.List.{list_all, list_any, slice_split, position}
+use Rattle.std.specs.Prelude.{slice_set, slice_get, slice_index_or, nat_le}
 use Rattle.std.proofs.lemmas.Bool.{and_from, and_parts, cases_eq, cond_both, not-true, or_right, le-leb, leb-true}
 use Rattle.std.proofs.lemmas.Bool.Decides.{nat_tests}
 use Rattle.std.proofs.lemmas.List.{get_or-set_same, get_or-set_other, get_or_past, length-take, length-map}
 use Rattle.std.proofs.lemmas.List.Folds.{list_all-append}
-use Rattle.rfccase.specs.Channels.{is_channel_name}
 use Rattle.ircline.specs.Classes.{filled, nospcrlf, middle, trailing, is_end}
 use Rattle.ircline.specs.Carrying.{kept_command, carries_prefix, carries_params}
 use Rattle.ircline.specs.Words.{up_to}
@@ -29,13 +28,16 @@ use Rattle.miniircd.specs.declared.change.Effect.{Effect}
 use Rattle.miniircd.specs.declared.standing.Standing.{Standing}
 use Rattle.miniircd.specs.declared.standing.Standing.TheVariants as standing
 use Rattle.miniircd.specs.declared.modes.Single.{Single}
+use Rattle.miniircd.specs.declared.entrance.Entrance.{Entrance}
+use Rattle.miniircd.specs.declared.entrance.Entrance.TheVariants as entrance
 use Rattle.miniircd.specs.People.{blank, held_at, holder, or_empty, word_at, is_registered}
 use Rattle.miniircd.specs.Modes.{singles}
-use Rattle.miniircd.specs.Rooms.{Edition, Enter, Leave, Title, Mark, is_client, plain, opened, marked, members_after, topic_after, edited, edited_if, concerns, is_used, rooms_after, is_on_some, room, entered, joined, joined_each}
-use Rattle.miniircd.specs.Commands.{part_change, topic_change, kicked, kick_change, target_on, is_mark, marked_on, moded, moded_each, mode_change, nick_change, is_other, is_nick, user_change, change_by, is_admitted, change_of, command_of, needed, is_open, is_quit, user_byte, standing_in}
+use Rattle.miniircd.specs.Rooms.{Edition, Enter, Leave, Title, Mark, Ban, is_client, is_named, plain, opened, marked, members_after, topic_after, edited, edited_if, concerns, is_used, rooms_after, room, is_full, entrance_of, entered_at, joined_by, joined, joined_each}
+use Rattle.miniircd.specs.Lines.{source_of}
+use Rattle.miniircd.specs.Commands.{part_change, topic_change, kicked, kick_change, target_on, is_mark, is_ban_of, counts, marked_on, banned_on, moded, moded_each, mode_change, nick_change, is_other, is_nick, user_change, change_by, is_admitted, change_of, command_of, needed, is_open, is_quit, user_byte, standing_in}
 use Rattle.miniircd.specs.Server.{Server, changed, effected, left, after_message, after_line}
 use Rattle.miniircd.specs.Whole.{is_held, are_clients, is_sound_channel, are_sound_channels, is_sound_person, is_sound_slot, IsWhole}
-use Rattle.miniircd.proofs.ListLemmas.{list_all-filtered, list_all-mapped, list_all-weaker, list_all-taken}
+use Rattle.miniircd.proofs.ListLemmas.{list_all-filtered, list_all-mapped, list_all-weaker, list_all-taken, list_all-set, list_all-index}
 
 -- ---- channels that all pass
 
@@ -53,6 +55,7 @@ is_sound_edit test (Enter client) = test client
 is_sound_edit test (Leave client) = true
 is_sound_edit test (Title topic) = trailing topic
 is_sound_edit test (Mark client is_voice on) = true
+is_sound_edit test (Ban text on) = true
 
 marked_client : (client : ℕ) (is_voice on : Bool) (m : Member) → (marked client is_voice on m).client ≡ m.client
 marked_client client is_voice on m =
@@ -69,6 +72,7 @@ members_pass test (Leave client) members is all =
     list_all-filtered (λ (m : Member). test m.client) (λ (m : Member). test m.client) (λ m. not (is_client client m))
     (λ m there other. there) members all
 members_pass test (Title topic) members is all = all
+members_pass test (Ban text on) members is all = all
 members_pass test (Mark client is_voice on) members is all =
     list_all-mapped (λ (m : Member). test m.client) (λ (m : Member). test m.client) (marked client is_voice on)
     (λ m there. ap test (marked_client client is_voice on m) ∙ there) members all
@@ -86,6 +90,7 @@ members_left test next client step members all =
 topic_passes : (test : ℕ → Bool) (edit : Edition) (topic : List ℕ) → is_sound_edit test edit ≡ true → trailing topic ≡ true
     → trailing (topic_after edit topic) ≡ true
 topic_passes test (Enter client) topic is old = old
+topic_passes test (Ban text on) topic is old = old
 topic_passes test (Leave client) topic is old = old
 topic_passes test (Title new) topic is old = is
 topic_passes test (Mark client is_voice on) topic is old = old
@@ -119,25 +124,37 @@ rooms_left test next client step channels all =
 
 -- ---- JOIN
 
-entered_keeps : (test : ℕ → Bool) (channel : Option Channel) (name : List ℕ) (client : ℕ) (channels : List Channel) → test client ≡ true
-    → are_sound_channels test channels ≡ true → are_sound_channels test (entered channel name client channels) ≡ true
-entered_keeps test None name client channels is all =
+opened_passes : (test : ℕ → Bool) (name : List ℕ) (client : ℕ) → test client ≡ true → is_sound_channel test (opened name client) ≡ true
+opened_passes test name client is = and_from _ true (and_from _ true is refl) refl
+
+at_keeps : (test : ℕ → Bool) (place : Option ℕ) (name : List ℕ) (client : ℕ) (channels : List Channel) → test client ≡ true
+    → are_sound_channels test channels ≡ true → are_sound_channels test (entered_at place name client channels) ≡ true
+at_keeps test None name client channels is all =
     list_all-append (is_sound_channel test) channels (opened name client ∷ [])
-    ∙ and_from _ _ all (and_from _ true (and_from _ true (and_from _ true is refl) refl) refl)
-entered_keeps test (Some channel) name client channels is all = rooms_keep test (Some name) (Enter client) channels is all
+    ∙ and_from _ _ all (and_from _ true (opened_passes test name client is) refl)
+at_keeps test (Some place) name client channels is all =
+    let channel = slice_index_or channels place (opened name client) in
+    let sound = list_all-index (is_sound_channel test) channels place (opened name client) (opened_passes test name client is) all in
+    list_all-set (is_sound_channel test) channels place (edited (Enter client) channel)
+    (edited_passes test (Enter client) channel is sound) all
 
-pub joined_keeps : (test : ℕ → Bool) (client : ℕ) (name : List ℕ) (channels : List Channel) → test client ≡ true
-    → are_sound_channels test channels ≡ true → are_sound_channels test (joined client name channels) ≡ true
-joined_keeps test client name channels is all =
-    cond_both (is_channel_name name && not (is_on_some client (room name channels)))
-    (entered (room name channels) name client channels) channels (λ cs. are_sound_channels test cs ≡ true)
-    (λ b. entered_keeps test (room name channels) name client channels is all) (λ b. all)
+joined_by_keeps : (test : ℕ → Bool) (by : Entrance) (name : List ℕ) (client : ℕ) (channels : List Channel) → test client ≡ true
+    → are_sound_channels test channels ≡ true → are_sound_channels test (joined_by by name client channels) ≡ true
+joined_by_keeps test entrance.Open name client channels is all = at_keeps test (position (is_named name) channels) name client channels is all
+joined_by_keeps test entrance.Nameless name client channels is all = all
+joined_by_keeps test entrance.Inside name client channels is all = all
+joined_by_keeps test entrance.TooMany name client channels is all = all
+joined_by_keeps test entrance.Banned name client channels is all = all
 
-joined_each_keeps : (test : ℕ → Bool) (client : ℕ) (names : List (List ℕ)) (channels : List Channel) → test client ≡ true
-    → are_sound_channels test channels ≡ true → are_sound_channels test (joined_each client names channels) ≡ true
-joined_each_keeps test client [] channels is all = all
-joined_each_keeps test client (name ∷ names) channels is all =
-    joined_each_keeps test client names (joined client name channels) is (joined_keeps test client name channels is all)
+pub joined_keeps : (test : ℕ → Bool) (client : ℕ) (source name : List ℕ) (channels : List Channel) → test client ≡ true
+    → are_sound_channels test channels ≡ true → are_sound_channels test (joined client source name channels) ≡ true
+joined_keeps test client source name channels is all = joined_by_keeps test (entrance_of client source name channels) name client channels is all
+
+joined_each_keeps : (test : ℕ → Bool) (client : ℕ) (source : List ℕ) (names : List (List ℕ)) (channels : List Channel) → test client ≡ true
+    → are_sound_channels test channels ≡ true → are_sound_channels test (joined_each client source names channels) ≡ true
+joined_each_keeps test client source [] channels is all = all
+joined_each_keeps test client source (name ∷ names) channels is all =
+    joined_each_keeps test client source names (joined client source name channels) is (joined_keeps test client source name channels is all)
 
 -- ---- the other commands
 
@@ -186,12 +203,22 @@ marked_keeps test None name one channels all = all
 marked_keeps test (Some client) name one channels all =
     rooms_keep test (Some name) (Mark client (one.letter == 118) one.on) channels refl all
 
+banned_keeps : (test : ℕ → Bool) (name : List ℕ) (one : Single) (channels : List Channel)
+    → are_sound_channels test channels ≡ true → are_sound_channels test (banned_on name one channels) ≡ true
+banned_keeps test name one channels all =
+    cond_both (one.on && is_full one.argument (room name channels)) channels (rooms_after (Some name) (Ban one.argument one.on) channels)
+    (λ cs. are_sound_channels test cs ≡ true) (λ b. all)
+    (λ b. rooms_keep test (Some name) (Ban one.argument one.on) channels refl all)
+
 moded_keeps : (test : ℕ → Bool) (clients : List (Option Person)) (name : List ℕ) (one : Single) (channels : List Channel)
     → are_sound_channels test channels ≡ true → are_sound_channels test (moded clients name one channels) ≡ true
 moded_keeps test clients name one channels all =
-    cond_both (is_mark one.letter) (marked_on (target_on clients channels name one.argument) name one channels) channels
-    (λ cs. are_sound_channels test cs ≡ true)
-    (λ b. marked_keeps test (target_on clients channels name one.argument) name one channels all) (λ b. all)
+    let banned = banned_on name one channels in
+    cond_both (is_mark one.letter) (marked_on (target_on clients channels name one.argument) name one channels)
+    (cond (is_ban_of one) banned channels) (λ cs. are_sound_channels test cs ≡ true)
+    (λ b. marked_keeps test (target_on clients channels name one.argument) name one channels all)
+    (λ b. cond_both (is_ban_of one) banned channels (λ cs. are_sound_channels test cs ≡ true)
+    (λ k. banned_keeps test name one channels all) (λ k. all))
 
 moded_each_keeps : (test : ℕ → Bool) (clients : List (Option Person)) (name : List ℕ) (ones : List Single) (channels : List Channel)
     → are_sound_channels test channels ≡ true → are_sound_channels test (moded_each clients name ones channels) ≡ true
@@ -205,7 +232,9 @@ mode_keeps test standing.Unknown clients name modes arguments channels all = ref
 mode_keeps test standing.Outside clients name modes arguments channels all = refl
 mode_keeps test standing.Plain clients name modes arguments channels all = refl
 mode_keeps test standing.Op clients name modes arguments channels all =
-    moded_each_keeps test clients name (singles true modes arguments) channels all
+    let ones = singles true modes arguments in
+    cond_both (list_any counts ones) (change.Channels (moded_each clients name ones channels)) change.Same (λ c. keeps test c ≡ true)
+    (λ b. moded_each_keeps test clients name ones channels all) (λ b. refl)
 
 -- ---- NICK and USER
 
@@ -269,7 +298,7 @@ by_keeps test command.Nick client p clients channels ps is sound carried enough 
 by_keeps test command.User client p clients channels ps is sound carried enough all =
     user_keeps test p (word_at 0 ps) sound (middle_all (word_at 0 ps) (first_middle ps carried (omega arith)))
 by_keeps test command.Join client p clients channels ps is sound carried enough all =
-    joined_each_keeps test client (slice_split (λ b. b == 44) (word_at 0 ps)) channels is all
+    joined_each_keeps test client (source_of p) (slice_split (λ b. b == 44) (word_at 0 ps)) channels is all
 by_keeps test command.Part client p clients channels ps is sound carried enough all =
     part_keeps test (standing_in client (room (word_at 0 ps) channels)) client (word_at 0 ps) channels all
 by_keeps test command.Topic client p clients channels ps is sound carried enough all =
@@ -280,6 +309,7 @@ by_keeps test command.Kick client p clients channels ps is sound carried enough 
 by_keeps test command.Mode client p clients channels ps is sound carried enough all =
     mode_keeps test (standing_in client (room (word_at 0 ps) channels)) clients (word_at 0 ps) (word_at 1 ps) (drop 2 ps) channels all
 by_keeps test command.Quit client p clients channels ps is sound carried enough all = refl
+by_keeps test (command.Ask asked) client p clients channels ps is sound carried enough all = refl
 by_keeps test command.Privmsg client p clients channels ps is sound carried enough all = refl
 by_keeps test command.Notice client p clients channels ps is sound carried enough all = refl
 by_keeps test command.Names client p clients channels ps is sound carried enough all = refl

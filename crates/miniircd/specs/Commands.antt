@@ -9,12 +9,15 @@ use Rattle.miniircd.specs.declared.member.Member.{Member}
 use Rattle.miniircd.specs.declared.member.Channel.{Channel}
 use Rattle.miniircd.specs.declared.command.Command.{Command}
 use Rattle.miniircd.specs.declared.command.Command.TheVariants as command
+use Rattle.miniircd.specs.declared.command.Inquiry.{Inquiry}
+use Rattle.miniircd.specs.declared.command.Inquiry.TheVariants as inquiry
 use Rattle.miniircd.specs.declared.change.Change.{Change}
 use Rattle.miniircd.specs.declared.change.Change.TheVariants as change
 use Rattle.miniircd.specs.declared.standing.Standing.{Standing}
 use Rattle.miniircd.specs.declared.standing.Standing.TheVariants as standing
 use Rattle.miniircd.specs.People.{is_registered, holder, word_at}
-use Rattle.miniircd.specs.Rooms.{room, member_of, is_on_some, joined_each, rooms_after, Leave, Title, Mark}
+use Rattle.miniircd.specs.Rooms.{room, member_of, is_on_some, joined_each, rooms_after, is_full, Leave, Title, Mark, Ban}
+use Rattle.miniircd.specs.Lines.{source_of}
 use Rattle.miniircd.specs.declared.modes.Single.{Single}
 use Rattle.miniircd.specs.Modes.{singles}
 
@@ -22,6 +25,18 @@ use Rattle.miniircd.specs.Modes.{singles}
 
 abbrev pub is_command : List ℕ → List ℕ → Bool
 is_command word name = pointwise nat_eq word name
+
+-- a command that changes nothing here
+abbrev pub inquiry_of : List ℕ → Command
+inquiry_of c =
+    if is_command c (codes "INVITE") then command.Ask inquiry.Invite
+    else (if is_command c (codes "USERHOST") then command.Ask inquiry.Userhost
+    else (if is_command c (codes "CAP") then command.Ask inquiry.Cap
+    else (if is_command c (codes "ISON") then command.Ask inquiry.Ison
+    else (if is_command c (codes "LIST") then command.Ask inquiry.List
+    else (if is_command c (codes "PONG") then command.Ask inquiry.Pong
+    else (if is_command c (codes "WHOIS") then command.Ask inquiry.Whois
+    else command.Unknown))))))
 
 abbrev pub command_of : List ℕ → Command
 command_of c =
@@ -38,9 +53,18 @@ command_of c =
     else (if is_command c (codes "WHO") then command.Who
     else (if is_command c (codes "PING") then command.Ping
     else (if is_command c (codes "QUIT") then command.Quit
-    else command.Unknown))))))))))))
+    else inquiry_of c))))))))))))
 
 -- how many parameters a command needs
+abbrev pub needed_of : Inquiry → ℕ
+needed_of inquiry.Cap = 1
+needed_of inquiry.Invite = 2
+needed_of inquiry.Ison = 1
+needed_of inquiry.List = 0
+needed_of inquiry.Pong = 0
+needed_of inquiry.Userhost = 1
+needed_of inquiry.Whois = 0
+
 abbrev pub needed : Command → ℕ
 needed command.Nick = 1
 needed command.User = 4
@@ -55,14 +79,25 @@ needed command.Names = 1
 needed command.Who = 1
 needed command.Ping = 1
 needed command.Quit = 0
+needed (command.Ask asked) = needed_of asked
 needed command.Unknown = 0
 
 -- whether a client may send it before it is registered
+abbrev pub is_open_to_all : Inquiry → Bool
+is_open_to_all inquiry.Cap = true
+is_open_to_all inquiry.Pong = true
+is_open_to_all inquiry.Invite = false
+is_open_to_all inquiry.Ison = false
+is_open_to_all inquiry.List = false
+is_open_to_all inquiry.Userhost = false
+is_open_to_all inquiry.Whois = false
+
 abbrev pub is_open : Command → Bool
 is_open command.Nick = true
 is_open command.User = true
 is_open command.Ping = true
 is_open command.Quit = true
+is_open (command.Ask asked) = is_open_to_all asked
 is_open command.Join = false
 is_open command.Part = false
 is_open command.Topic = false
@@ -143,7 +178,7 @@ kick_change standing.Outside clients name nick channels = change.Same
 kick_change standing.Plain clients name nick channels = change.Same
 kick_change standing.Op clients name nick channels = kicked (target_on clients channels name nick) name channels
 
--- ---- MODE: o and v with a member's nick set and clear marks, one after another
+-- ---- MODE: o and v with a member's nick set and clear marks, and b with a text sets and clears bans, one after another
 
 abbrev pub is_mark : ℕ → Bool
 is_mark letter = letter == 111 || letter == 118
@@ -152,9 +187,24 @@ abbrev pub marked_on : Option ℕ → List ℕ → Single → List Channel → L
 marked_on None name one channels = channels
 marked_on (Some client) name one channels = rooms_after (Some name) (Mark client (one.letter == 118) one.on) channels
 
+-- b with a text
+abbrev pub is_ban_of : Single → Bool
+is_ban_of one = one.letter == 98 && filled one.argument
+
+-- whether a mode would change something, if only there is such a member
+abbrev pub counts : Single → Bool
+counts one = (is_mark one.letter || one.letter == 98) && filled one.argument
+
+-- a ban is set or cleared; one too many is refused
+abbrev pub banned_on : List ℕ → Single → List Channel → List Channel
+banned_on name one channels =
+    if one.on && is_full one.argument (room name channels) then channels
+    else rooms_after (Some name) (Ban one.argument one.on) channels
+
 abbrev pub moded : List (Option Person) → List ℕ → Single → List Channel → List Channel
 moded clients name one channels =
-    if is_mark one.letter then marked_on (target_on clients channels name one.argument) name one channels else channels
+    if is_mark one.letter then marked_on (target_on clients channels name one.argument) name one channels
+    else (if is_ban_of one then banned_on name one channels else channels)
 
 abbrev pub moded_each : List (Option Person) → List ℕ → List Single → List Channel → List Channel
 moded_each clients name [] channels = channels
@@ -165,7 +215,9 @@ mode_change standing.Unknown clients name modes arguments channels = change.Same
 mode_change standing.Outside clients name modes arguments channels = change.Same
 mode_change standing.Plain clients name modes arguments channels = change.Same
 mode_change standing.Op clients name modes arguments channels =
-    change.Channels (moded_each clients name (singles true modes arguments) channels)
+    if list_any counts (singles true modes arguments)
+    then change.Channels (moded_each clients name (singles true modes arguments) channels)
+    else change.Same
 
 -- ---- a whole message: a QUIT is told apart before
 
@@ -183,12 +235,14 @@ is_quit command.Notice = false
 is_quit command.Names = false
 is_quit command.Who = false
 is_quit command.Ping = false
+is_quit (command.Ask asked) = false
 is_quit command.Unknown = false
 
 abbrev pub change_by : Command → ℕ → Person → List (Option Person) → List Channel → List (List ℕ) → Change
 change_by command.Nick client p clients channels ps = nick_change client p clients (word_at 0 ps)
 change_by command.User client p clients channels ps = user_change p (word_at 0 ps)
-change_by command.Join client p clients channels ps = change.Channels (joined_each client (slice_split (λ b. b == 44) (word_at 0 ps)) channels)
+change_by command.Join client p clients channels ps =
+    change.Channels (joined_each client (source_of p) (slice_split (λ b. b == 44) (word_at 0 ps)) channels)
 change_by command.Part client p clients channels ps =
     part_change (standing_in client (room (word_at 0 ps) channels)) client (word_at 0 ps) channels
 change_by command.Topic client p clients channels ps =
@@ -203,6 +257,7 @@ change_by command.Notice client p clients channels ps = change.Same
 change_by command.Names client p clients channels ps = change.Same
 change_by command.Who client p clients channels ps = change.Same
 change_by command.Ping client p clients channels ps = change.Same
+change_by (command.Ask asked) client p clients channels ps = change.Same
 change_by command.Unknown client p clients channels ps = change.Same
 
 -- a command counts where the client may send it and gives the parameters that it needs

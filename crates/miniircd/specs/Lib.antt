@@ -6,4 +6,5 @@ pub mod Modes
 pub mod Commands
 pub mod Talk
 pub mod Whole
+pub mod Patience
 pub mod Server

@@ -1,7 +1,6 @@
 -- The lines that the server writes.
 use Rattle.std.specs.Prelude.{true, ◌≡◌, ℕ, zero, suc, ◌≤◌, ◌+◌, ◌-◌, ◌*◌, ◌/◌, ◌&&◌, List, [], ◌∷◌, ◌++◌, Option, Some, None, take, drop, length, map, filter, not, nat_le, codes, if◌then◌else◌}
 use Rattle.std.specs.List.{flat_map, list_all}
-use Rattle.rfccase.specs.Channels.{is_channel_name}
 use Rattle.ircline.specs.Classes.{filled, middle, trailing, names}
 use Rattle.ircline.specs.Carrying.{kept_command}
 use Rattle.ircline.specs.declared.message.Message.{Message}
@@ -10,7 +9,9 @@ use Rattle.miniircd.specs.declared.person.Person.{Person}
 use Rattle.miniircd.specs.declared.member.Member.{Member}
 use Rattle.miniircd.specs.declared.member.Channel.{Channel}
 use Rattle.miniircd.specs.People.{held_at}
-use Rattle.miniircd.specs.Rooms.{room, is_on_some, is_client, joined}
+use Rattle.miniircd.specs.declared.entrance.Entrance.{Entrance}
+use Rattle.miniircd.specs.declared.entrance.Entrance.TheVariants as entrance
+use Rattle.miniircd.specs.Rooms.{room, is_client, entrance_of, joined}
 use Rattle.miniircd.specs.Mail.{Letter}
 
 -- ---- one line
@@ -135,14 +136,23 @@ arrival client p name clients (Some channel) =
     ++ titling client p name channel.topic
     ++ listing client p name (names_of clients channel.members)
 
+-- what is told of a name in a JOIN, by what stands between, with the channels after it
+abbrev pub join_letters_by : Entrance → ℕ → Person → List (Option Person) → List ℕ → List Channel → List Letter
+join_letters_by entrance.Nameless client p clients name after = told client p (codes "403") (repeated name) (codes "No such channel") ∷ []
+join_letters_by entrance.Inside client p clients name after = []
+join_letters_by entrance.TooMany client p clients name after =
+    told client p (codes "405") (repeated name) (codes "You have joined too many channels") ∷ []
+join_letters_by entrance.Banned client p clients name after =
+    told client p (codes "474") (repeated name) (codes "Cannot join channel (+b)") ∷ []
+join_letters_by entrance.Open client p clients name after = arrival client p name clients (room name after)
+
 abbrev pub join_letters : ℕ → Person → List (Option Person) → List ℕ → List Channel → List Letter
 join_letters client p clients name channels =
-    if not (is_channel_name name) then told client p (codes "403") (repeated name) (codes "No such channel") ∷ []
-    else (if is_on_some client (room name channels) then []
-    else arrival client p name clients (room name (joined client name channels)))
+    join_letters_by (entrance_of client (source_of p) name channels) client p clients name (joined client (source_of p) name channels)
 
 -- a list of names, one after another
 abbrev pub join_letters_each : ℕ → Person → List (Option Person) → List (List ℕ) → List Channel → List Letter
 join_letters_each client p clients [] channels = []
 join_letters_each client p clients (name ∷ names) channels =
-    join_letters client p clients name channels ++ join_letters_each client p clients names (joined client name channels)
+    join_letters client p clients name channels
+    ++ join_letters_each client p clients names (joined client (source_of p) name channels)

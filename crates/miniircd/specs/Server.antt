@@ -47,6 +47,12 @@ changed client change.Same s = s
 changed client (change.Person p) s = record s { clients = slice_set s.clients client (Some p) }
 changed client (change.Channels channels) s = record s { channels = channels }
 
+-- a change leaves the same with these channels as another with those before
+abbrev pub LeavesAs : ℕ → List (Option Person) → Change → List Channel → Change → List Channel → Type 0
+LeavesAs client clients one channels other before =
+    changed client one (record { clients = clients; channels = channels })
+    ≡ changed client other (record { clients = clients; channels = before })
+
 abbrev pub effected : ℕ → Effect → Server → Server
 effected client (effect.Changed one) s = changed client one s
 effected client (effect.Left channels) s = record { clients = slice_set s.clients client None; channels = channels }

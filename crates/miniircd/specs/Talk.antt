@@ -72,6 +72,7 @@ exact_by command.Mode client p clients channels ps = None
 exact_by command.Names client p clients channels ps = None
 exact_by command.Who client p clients channels ps = None
 exact_by command.Quit client p clients channels ps = None
+exact_by (command.Ask asked) client p clients channels ps = None
 exact_by command.Unknown client p clients channels ps = None
 
 -- the same with too few parameters
@@ -89,6 +90,7 @@ exact_of_few command.Mode client p word = None
 exact_of_few command.Names client p word = None
 exact_of_few command.Who client p word = None
 exact_of_few command.Quit client p word = None
+exact_of_few (command.Ask asked) client p word = None
 exact_of_few command.Unknown client p word = None
 
 abbrev pub exact_letters : ℕ → Person → List (Option Person) → List Channel → Message → Option (List Letter)

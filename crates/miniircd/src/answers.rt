@@ -4,12 +4,12 @@ ghost use Rattle.ircline.specs.declared.line.Line.TheVariants.{Message as messag
 ghost use Rattle.ircline.specs.Words.{up_to};
 ghost use Rattle.ircline.specs.Classes.{is_end};
 ghost use Rattle.ircline.specs.Reading.{line_of, TakesMemory};
-ghost use Rattle.miniircd.specs.declared.change.Effect.TheVariants.{Changed, Left};
+ghost use Rattle.miniircd.specs.declared.change.Effect.TheVariants.{Left};
 ghost use Rattle.miniircd.specs.Mail.{deliveries};
 ghost use Rattle.miniircd.specs.Rooms.{rooms_after, Leave};
 ghost use Rattle.miniircd.specs.Commands.{change_of};
 ghost use Rattle.miniircd.specs.Talk.{exact_letters};
-ghost use Rattle.miniircd.specs.Server.{Server, effected, after_message, after_line, letters_of, IsSoundAfter};
+ghost use Rattle.miniircd.specs.Server.{changed, effected, after_message, after_line, letters_of, IsSoundAfter};
 
 use crate::change::{Change, Effect};
 use crate::client::Sent;
@@ -41,14 +41,17 @@ pub struct Reply {
 fn reply_to_message(
     alloc: Global,
     clients: &Slab<Person>,
-    channels: &[Channel],
+    channels: &mut Vec<Channel>,
     me: &Sender<'_>,
     message: &Message,
 ) -> Result<Reply, NoMemory>
-    ensures change { IfOk result (λ reply. reply.effect
-        ≡ Changed (change_of me.now.key me.now.person.now clients.now.slots channels.now message.now)) }
+    ensures change { IfOk result
+        (λ reply. effected me.now.key reply.effect (record { clients = clients.now.slots; channels = channels.new.items })
+        ≡ changed me.now.key (change_of me.now.key me.now.person.now clients.now.slots channels.old.items message.now)
+        (record { clients = clients.now.slots; channels = channels.old.items })) }
+    ensures err { OnErr result (channels.new.items ≡ channels.old.items) }
     ensures told { IfOk result
-        (λ reply. IfSome (exact_letters me.now.key me.now.person.now clients.now.slots channels.now message.now)
+        (λ reply. IfSome (exact_letters me.now.key me.now.person.now clients.now.slots channels.old.items message.now)
         (λ letters. reply.lines ≡ deliveries clients.now.slots None letters)) }
     ensures sound { IfOk result (λ reply. IsSoundAfter me.now.key clients.now.slots reply.effect reply.lines) }
 {
@@ -96,23 +99,24 @@ pub fn farewell_of(
 fn reply_to_any(
     alloc: Global,
     clients: &Slab<Person>,
-    channels: &[Channel],
+    channels: &mut Vec<Channel>,
     me: &Sender<'_>,
     message: &Message,
 ) -> Result<Reply, NoMemory>
     ensures after { IfOk result
-        (λ reply. let server : Server = record { clients = clients.now.slots; channels = channels.now } in
-        effected me.now.key reply.effect server ≡ after_message me.now.key me.now.person.now message.now server) }
+        (λ reply. effected me.now.key reply.effect (record { clients = clients.now.slots; channels = channels.new.items }) ≡ after_message me.now.key me.now.person.now message.now
+        (record { clients = clients.now.slots; channels = channels.old.items })) }
     ensures told { IfOk result
         (λ reply. IfSome (letters_of me.now.key me.now.person.now (message_line message.now)
-        (record { clients = clients.now.slots; channels = channels.now }))
+        (record { clients = clients.now.slots; channels = channels.old.items }))
         (λ letters. reply.lines ≡ deliveries clients.now.slots None letters)) }
+    ensures err { OnErr result (channels.new.items ≡ channels.old.items) }
     ensures sound { IfOk result (λ reply. IsSoundAfter me.now.key clients.now.slots reply.effect reply.lines) }
 {
     let command = read_command(message.command.as_bytes());
     if command.is_quit() {
         let reason = param(message.params.as_slice(), 0);
-        farewell_of(alloc, clients, channels, me, reason)
+        farewell_of(alloc, clients, channels.as_slice(), me, reason)
     } else {
         reply_to_message(alloc, clients, channels, me, message)
     }
@@ -125,17 +129,18 @@ fn reply_to_any(
 pub fn reply_to(
     alloc: Global,
     clients: &Slab<Person>,
-    channels: &[Channel],
+    channels: &mut Vec<Channel>,
     me: &Sender<'_>,
     text: &[u8],
 ) -> Result<Reply, NoMemory>
     ensures after { IfOk result
-        (λ reply. let server : Server = record { clients = clients.now.slots; channels = channels.now } in
-        effected me.now.key reply.effect server ≡ after_line me.now.key me.now.person.now (line_of (up_to is_end text.now)) server) }
+        (λ reply. effected me.now.key reply.effect (record { clients = clients.now.slots; channels = channels.new.items }) ≡ after_line me.now.key me.now.person.now (line_of (up_to is_end text.now))
+        (record { clients = clients.now.slots; channels = channels.old.items })) }
     ensures told { IfOk result
         (λ reply. IfSome (letters_of me.now.key me.now.person.now (line_of (up_to is_end text.now))
-        (record { clients = clients.now.slots; channels = channels.now }))
+        (record { clients = clients.now.slots; channels = channels.old.items }))
         (λ letters. reply.lines ≡ deliveries clients.now.slots None letters)) }
+    ensures err { OnErr result (channels.new.items ≡ channels.old.items) }
     ensures sound { IfOk result (λ reply. IsSoundAfter me.now.key clients.now.slots reply.effect reply.lines) }
     ensures memory { OnErr result (TakesMemory (line_of (up_to is_end text.now))) }
 {

@@ -1,6 +1,6 @@
 // The commands that the server knows (RFC 2812 section 3).
 ghost use Rattle.std.specs.Prelude.{◌≡◌};
-ghost use Rattle.miniircd.specs.Commands.{is_command, command_of, needed, is_open, is_quit};
+ghost use Rattle.miniircd.specs.Commands.{is_command, command_of, inquiry_of, needed, needed_of, is_open, is_open_to_all, is_quit};
 
 /// A command, by its name.
 #[derive(Clone, Copy)]
@@ -18,7 +18,21 @@ pub enum Command {
     Who,
     Ping,
     Quit,
+    Ask(Inquiry),
     Unknown,
+}
+
+/// A command that changes nothing here: it asks, passes something on, or answers.
+#[derive(Clone, Copy)]
+pub enum Inquiry {
+    // CAP, of which RFC 2812 says nothing: what the server can do besides (IRCv3, capability negotiation).
+    Cap,
+    Invite,
+    Ison,
+    List,
+    Pong,
+    Userhost,
+    Whois,
 }
 
 // Whether a word is this one.
@@ -33,24 +47,80 @@ pub fn read_command(word: &[u8]) -> Command
     ensures { result ≡ command_of word.now }
 {
     if is(word, b"PRIVMSG") {
-        return Command::Privmsg;
+        Command::Privmsg
+    } else if is(word, b"NOTICE") {
+        Command::Notice
+    } else if is(word, b"NICK") {
+        Command::Nick
+    } else if is(word, b"USER") {
+        Command::User
+    } else if is(word, b"JOIN") {
+        Command::Join
+    } else if is(word, b"PART") {
+        Command::Part
+    } else if is(word, b"TOPIC") {
+        Command::Topic
+    } else if is(word, b"KICK") {
+        Command::Kick
+    } else if is(word, b"MODE") {
+        Command::Mode
+    } else if is(word, b"NAMES") {
+        Command::Names
+    } else if is(word, b"WHO") {
+        Command::Who
+    } else if is(word, b"PING") {
+        Command::Ping
+    } else if is(word, b"QUIT") {
+        Command::Quit
+    } else {
+        inquiry_of(word)
     }
-    if is(word, b"NOTICE") {
-        return Command::Notice;
+}
+
+// The same of a word that is none of those above.
+fn inquiry_of(word: &[u8]) -> Command
+    ensures { result ≡ inquiry_of word.now }
+{
+    if is(word, b"INVITE") {
+        Command::Ask(Inquiry::Invite)
+    } else if is(word, b"USERHOST") {
+        Command::Ask(Inquiry::Userhost)
+    } else if is(word, b"CAP") {
+        Command::Ask(Inquiry::Cap)
+    } else if is(word, b"ISON") {
+        Command::Ask(Inquiry::Ison)
+    } else if is(word, b"LIST") {
+        Command::Ask(Inquiry::List)
+    } else if is(word, b"PONG") {
+        Command::Ask(Inquiry::Pong)
+    } else if is(word, b"WHOIS") {
+        Command::Ask(Inquiry::Whois)
+    } else {
+        Command::Unknown
     }
-    match word {
-        b"NICK" => Command::Nick,
-        b"USER" => Command::User,
-        b"JOIN" => Command::Join,
-        b"PART" => Command::Part,
-        b"TOPIC" => Command::Topic,
-        b"KICK" => Command::Kick,
-        b"MODE" => Command::Mode,
-        b"NAMES" => Command::Names,
-        b"WHO" => Command::Who,
-        b"PING" => Command::Ping,
-        b"QUIT" => Command::Quit,
-        _ => Command::Unknown,
+}
+
+impl Inquiry {
+    // How many parameters it needs.
+    fn needed(self) -> usize
+        ensures { result ≡ needed_of self }
+    {
+        match self {
+            Inquiry::Invite => 2,
+            Inquiry::Cap | Inquiry::Ison | Inquiry::Userhost => 1,
+            Inquiry::List | Inquiry::Pong | Inquiry::Whois => 0,
+        }
+    }
+
+    // Whether a client may send it before it is registered.
+    fn is_open(self) -> bool
+        ensures { result ≡ is_open_to_all self }
+    {
+        match self {
+            Inquiry::Cap | Inquiry::Pong => true,
+            Inquiry::Invite | Inquiry::Ison | Inquiry::List | Inquiry::Userhost | Inquiry::Whois =>
+                false,
+        }
     }
 }
 
@@ -70,6 +140,7 @@ impl Command {
             | Command::Names
             | Command::Who
             | Command::Ping => 1,
+            Command::Ask(inquiry) => inquiry.needed(),
             Command::Quit | Command::Unknown => 0,
         }
     }
@@ -80,6 +151,7 @@ impl Command {
     {
         match self {
             Command::Nick | Command::User | Command::Ping | Command::Quit => true,
+            Command::Ask(inquiry) => inquiry.is_open(),
             Command::Join
             | Command::Part
             | Command::Topic
@@ -111,6 +183,7 @@ impl Command {
             | Command::Names
             | Command::Who
             | Command::Ping
+            | Command::Ask(_)
             | Command::Unknown => false,
         }
     }

@@ -1,12 +1,14 @@
 // How commands leave channels.
 ghost use Rattle.std.specs.Prelude.{◌≡◌, ◌++◌, ◌∷◌, [], IfOk, map, filter, not};
 ghost use Rattle.std.specs.Option.{option_copied};
-ghost use Rattle.miniircd.specs.Rooms.{seen, is_client, plain, marked, members_after, topic_after, edited, edited_if, is_used, concerns, rooms_after};
+ghost use Rattle.miniircd.specs.Rooms.{seen, is_client, plain, marked, members_after, topic_after, edited, edited_if, is_used, concerns, rooms_after, bans_after};
 
+use crate::bans::{other_bans, push_ban};
 use crate::member::{Channel, Member, plain};
 use crate::texts::is_same;
 use bytetext::{NoMemory, Seq, Text, TryCopy, copies_of};
 use std::alloc::Global;
+use wildmask::Mask;
 
 /// A change of a channel.
 #[derive(Clone, Copy)]
@@ -21,6 +23,11 @@ pub enum Edit<'a> {
     Mark {
         client: usize,
         is_voice: bool,
+        on: bool,
+    },
+    // The ban of a text is set or cleared.
+    Ban {
+        text: &'a [u8],
         on: bool,
     },
 }
@@ -86,7 +93,7 @@ fn members_after(alloc: Global, members: &[Member], edit: Edit<'_>) -> Result<Ve
     match edit {
         Edit::Enter(client) => with(alloc, members, client),
         Edit::Leave(client) => without(alloc, members, client),
-        Edit::Title(_) => copies_of(alloc, members),
+        Edit::Title(_) | Edit::Ban { .. } => copies_of(alloc, members),
         Edit::Mark {
             client,
             is_voice,
@@ -100,18 +107,37 @@ fn topic_after<'a>(topic: &'a [u8], edit: Edit<'a>) -> &'a [u8]
 {
     match edit {
         Edit::Title(topic) => topic,
-        Edit::Enter(_) | Edit::Leave(_) | Edit::Mark { .. } => topic,
+        Edit::Enter(_) | Edit::Leave(_) | Edit::Mark { .. } | Edit::Ban { .. } => topic,
     }
 }
 
-fn edited(alloc: Global, channel: &Channel, edit: Edit<'_>) -> Result<Channel, NoMemory>
+fn bans_after(alloc: Global, bans: &[Mask], edit: Edit<'_>) -> Result<Vec<Mask>, NoMemory>
+    ensures { IfOk result (λ after. after.items ≡ bans_after (seen edit.entry) bans.now) }
+{
+    match edit {
+        Edit::Ban { text, on: false } => other_bans(alloc, bans, text),
+        Edit::Ban { text, on: true } => {
+            let mut after = other_bans(alloc, bans, text)?;
+            push_ban(alloc, &mut after, text)?;
+            Ok(after)
+        }
+        Edit::Enter(_) | Edit::Leave(_) | Edit::Title(_) | Edit::Mark { .. } => {
+            copies_of(alloc, bans)
+        }
+    }
+}
+
+// A channel after an edit.
+pub(crate) fn edited(alloc: Global, channel: &Channel, edit: Edit<'_>) -> Result<Channel, NoMemory>
     ensures { IfOk result (λ after. after ≡ edited (seen edit.entry) channel.now) }
 {
     let members = members_after(alloc, channel.members.as_slice(), edit)?;
+    let bans = bans_after(alloc, channel.bans.as_slice(), edit)?;
     Ok(Channel {
         name: channel.name.copy(alloc)?,
         topic: Text::from_slice(alloc, topic_after(channel.topic.as_bytes(), edit))?,
         members: Seq::new(members),
+        bans: Seq::new(bans),
     })
 }
 

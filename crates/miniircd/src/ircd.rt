@@ -9,6 +9,7 @@ ghost use Rattle.miniircd.specs.declared.fault.Fault.TheVariants.{Full, NoSuchCl
 ghost use Rattle.miniircd.specs.People.{held_at};
 ghost use Rattle.miniircd.specs.Mail.{IsTold, are_sound};
 ghost use Rattle.miniircd.specs.Whole.{IsWhole};
+ghost use Rattle.miniircd.specs.Talk.{is_there};
 ghost use Rattle.miniircd.specs.Server.{count, Comes, effected, left, after, letters};
 
 use crate::answers::{Reply, farewell_of, reply_to};
@@ -39,7 +40,7 @@ pub const MAX_CLIENTS: usize = 64;
 #[derive(Drop)]
 pub struct Ircd {
     clients: Slab<Person>,
-    channels: Seq<Channel>,
+    channels: Vec<Channel>,
 }
 
 impl Model for Ircd {
@@ -48,9 +49,9 @@ impl Model for Ircd {
 
     ghost Value = { Server };
 
-    ghost view = { λ s. record { clients = s.clients.slots; channels = s.channels } };
+    ghost view = { λ s. record { clients = s.clients.slots; channels = s.channels.items } };
 
-    ghost invariant = { λ s. IsWhole s.clients.slots s.channels };
+    ghost invariant = { λ s. IsWhole s.clients.slots s.channels.items };
 }
 
 impl Ircd {
@@ -60,7 +61,7 @@ impl Ircd {
     {
         Ircd {
             clients: Slab::new(alloc),
-            channels: Seq::empty(alloc),
+            channels: Vec::new(alloc),
         }
     }
 
@@ -106,7 +107,7 @@ impl Ircd {
             key: client.0,
             person,
         };
-        let reply = reply_to(alloc, &self.clients, self.channels.as_slice(), &me, text)?;
+        let reply = reply_to(alloc, &self.clients, &mut self.channels, &me, text)?;
         let Reply { effect, lines } = reply;
         commit(&mut self.clients, &mut self.channels, client.0, effect);
         Ok(lines)
@@ -135,6 +136,16 @@ impl Ircd {
         Ok(lines)
     }
 
+    /// Whether the client is held, and has given a nick and a user name.
+    pub fn is_registered(&self, client: Client) -> bool
+        ensures { result ≡ is_there (held_at self.now.clients client.0) }
+    {
+        match self.clients.get(client.0) {
+            Some(person) => person.is_registered(),
+            None => false,
+        }
+    }
+
     /// Whatever was called before, each member of a channel is a client that is held, and nicks, user names and topics
     /// are such as can stand in lines. This call says so, and does nothing.
     pub fn is_whole(&self)
@@ -161,18 +172,18 @@ fn remove(clients: &mut Slab<Person>, client: usize)
 }
 
 // What a line of a client that is held does is done. Takes no memory.
-fn commit(clients: &mut Slab<Person>, channels: &mut Seq<Channel>, client: usize, effect: Effect)
+fn commit(clients: &mut Slab<Person>, channels: &mut Vec<Channel>, client: usize, effect: Effect)
     requires { ContainsKey clients.old client }
-    ensures clients { clients.new.slots ≡ (effected client effect (record { clients = clients.old.slots; channels = channels.old })).clients }
-    ensures channels { channels.new ≡ (effected client effect (record { clients = clients.old.slots; channels = channels.old })).channels }
+    ensures clients { clients.new.slots ≡ (effected client effect (record { clients = clients.old.slots; channels = channels.old.items })).clients }
+    ensures channels { channels.new.items ≡ (effected client effect (record { clients = clients.old.slots; channels = channels.old.items })).channels }
 {
     match effect {
         Effect::Changed(Change::Same) => {}
         Effect::Changed(Change::Person(person)) => place(clients, client, person),
-        Effect::Changed(Change::Channels(after)) => *channels = after,
+        Effect::Changed(Change::Channels(after)) => *channels = after.into_vec(),
         Effect::Left(after) => {
             remove(clients, client);
-            *channels = after;
+            *channels = after.into_vec();
         }
     }
 }

@@ -1,42 +1,22 @@
 // JOIN (RFC 2812 section 3.2.1).
-ghost use Rattle.std.specs.Prelude.{◌≡◌, ◌==◌, [], IfOk, OnOk, codes};
-ghost use Rattle.std.specs.List.{slice_split};
+ghost use Rattle.std.specs.Prelude.{◌≡◌, ◌∷◌, [], IfOk, OnErr, OnOk, codes};
 ghost use Rattle.std.specs.Option.{option_copied};
-ghost use Rattle.miniircd.specs.Mail.{posted, readers};
-ghost use Rattle.miniircd.specs.Rooms.{room, entered, joined, joined_each};
-ghost use Rattle.miniircd.specs.Lines.{source_of, relayed, spread, titling, arrival, join_letters, join_letters_each};
+ghost use Rattle.miniircd.specs.Mail.{posted};
+ghost use Rattle.miniircd.specs.Rooms.{room, entered, joined, joined_each, undone};
+ghost use Rattle.miniircd.specs.declared.entry.Entry.TheVariants.{Nowhere};
+ghost use Rattle.miniircd.specs.Lines.{told, repeated, source_of, relayed, spread, titling, arrival, join_letters, join_letters_each};
 
-use crate::edit::{Edit, rooms_after};
+use crate::entrance::{Entrance, find_entrance};
+use crate::entry::{Entry, enter, undo};
 use crate::lines::{relayed, source_of};
-use crate::member::{Channel, Member, channel_of, is_on, opened};
+use crate::member::{Channel, Member, channel_of};
 use crate::names::tell_names;
 use crate::person::Person;
 use crate::post::Post;
 use crate::replies::{Sender, spread, tell_of};
-use bytetext::NoMemory;
-use rfccase::is_channel_name;
+use bytetext::{NoMemory, Text};
 use slab::Slab;
 use std::alloc::Global;
-
-// A client joins a channel that it isn't on.
-fn entered(
-    alloc: Global,
-    channels: Vec<Channel>,
-    name: &[u8],
-    client: usize,
-) -> Result<Vec<Channel>, NoMemory>
-    ensures { IfOk result
-        (λ after. after.items ≡ entered (room name.now channels.items) name.now client channels.items) }
-{
-    match channel_of(channels.as_slice(), name) {
-        Some(_) => rooms_after(alloc, channels.as_slice(), Some(name), Edit::Enter(client)),
-        None => {
-            let mut after = channels;
-            after.push(opened(alloc, name, client)?)?;
-            Ok(after)
-        }
-    }
-}
 
 // The topic goes to one who joins, where there is one.
 fn tell_topic(
@@ -93,60 +73,107 @@ fn arrive(
     Ok(())
 }
 
+// A client joins a channel that is open to it.
+fn come_in(
+    alloc: Global,
+    post: &mut Post<'_>,
+    clients: &Slab<Person>,
+    me: &Sender<'_>,
+    name: &[u8],
+    channels: &mut Vec<Channel>,
+) -> Result<Entry, NoMemory>
+    ensures joined { OnOk result (channels.new.items ≡ entered name.now me.now.key channels.old.items) }
+    ensures back { IfOk result (λ entry. undone entry channels.new.items ≡ channels.old.items) }
+    ensures told { OnOk result (post.new
+        ≡ posted (arrival me.now.key me.now.person.now name.now clients.now.slots (room name.now channels.new.items))
+        post.old) }
+    ensures err { OnErr result (channels.new.items ≡ channels.old.items) }
+{
+    let entry = enter(alloc, channels, name, me.key)?;
+    let channel = channel_of(channels.as_slice(), name);
+    match arrive(alloc, post, clients, me, name, channel) {
+        Ok(()) => Ok(entry),
+        Err(refused) => {
+            undo(channels, entry);
+            Err(refused)
+        }
+    }
+}
+
+// One that doesn't come in is told why.
+fn keep_out(
+    alloc: Global,
+    post: &mut Post<'_>,
+    me: &Sender<'_>,
+    code: &[u8],
+    name: &[u8],
+    why: &[u8],
+) -> Result<Entry, NoMemory>
+    ensures nowhere { IfOk result (λ entry. entry ≡ Nowhere) }
+    ensures told { OnOk result (post.new
+        ≡ posted (told me.now.key me.now.person.now code.now (repeated name.now) why.now ∷ []) post.old) }
+{
+    tell_of(alloc, post, me, code, name, why)?;
+    Ok(Entry::Nowhere)
+}
+
 // A client joins the channel of one name.
+#[tactic(auto, using(crate::proofs::MailLemmas::posted_none))]
 fn join(
     alloc: Global,
     post: &mut Post<'_>,
     clients: &Slab<Person>,
     me: &Sender<'_>,
     name: &[u8],
-    channels: Vec<Channel>,
-) -> Result<Vec<Channel>, NoMemory>
-    ensures joined { IfOk result (λ after. after.items ≡ joined me.now.key name.now channels.items) }
+    channels: &mut Vec<Channel>,
+) -> Result<Entry, NoMemory>
+    ensures joined { OnOk result (channels.new.items ≡ joined me.now.key (source_of me.now.person.now) name.now channels.old.items) }
+    ensures back { IfOk result (λ entry. undone entry channels.new.items ≡ channels.old.items) }
     ensures told { OnOk result (post.new
-        ≡ posted (join_letters me.now.key me.now.person.now clients.now.slots name.now channels.items) post.old) }
+        ≡ posted (join_letters me.now.key me.now.person.now clients.now.slots name.now channels.old.items) post.old) }
+    ensures err { OnErr result (channels.new.items ≡ channels.old.items) }
 {
-    if !is_channel_name(name) {
-        tell_of(alloc, post, me, b"403", name, b"No such channel")?;
-        return Ok(channels);
+    let source = source_of(alloc, me.person)?;
+    match find_entrance(channels.as_slice(), name, me.key, source.as_slice()) {
+        Entrance::Open => come_in(alloc, post, clients, me, name, channels),
+        Entrance::Inside => Ok(Entry::Nowhere),
+        Entrance::Nameless => keep_out(alloc, post, me, b"403", name, b"No such channel"),
+        Entrance::TooMany => {
+            let why = b"You have joined too many channels";
+            keep_out(alloc, post, me, b"405", name, why)
+        }
+        Entrance::Banned => keep_out(alloc, post, me, b"474", name, b"Cannot join channel (+b)"),
     }
-    if is_on(channels.as_slice(), name, me.key) {
-        return Ok(channels);
-    }
-    let after = entered(alloc, channels, name, me.key)?;
-    arrive(
-        alloc,
-        post,
-        clients,
-        me,
-        name,
-        channel_of(after.as_slice(), name),
-    )?;
-    Ok(after)
 }
 
-/// A client joins the channels of a list, with commas between.
+/// A client joins the channels of these names, one after another.
 ///
 /// # Errors
-/// `NoMemory` where room is refused.
+/// `NoMemory` where room is refused; then the channels are as before.
+#[tactic(auto, using(crate::proofs::MailLemmas::posted_append, crate::proofs::MailLemmas::posted_none))]
 pub fn join_each(
     alloc: Global,
     post: &mut Post<'_>,
     clients: &Slab<Person>,
     me: &Sender<'_>,
-    list: &[u8],
-    channels: Vec<Channel>,
-) -> Result<Vec<Channel>, NoMemory>
-    ensures joined { IfOk result
-        (λ after. after.items ≡ joined_each me.now.key (slice_split (λ b. b == 44) list.now) channels.items) }
+    names: &[Text],
+    channels: &mut Vec<Channel>,
+) -> Result<(), NoMemory>
+    ensures joined { OnOk result (channels.new.items ≡ joined_each me.now.key (source_of me.now.person.now) names.now channels.old.items) }
     ensures told { OnOk result (post.new
-        ≡ posted (join_letters_each me.now.key me.now.person.now clients.now.slots (slice_split (λ b. b == 44) list.now) channels.items)
+        ≡ posted (join_letters_each me.now.key me.now.person.now clients.now.slots names.now channels.old.items)
         post.old) }
-    ensures readers { OnOk result (readers post.new ≡ readers post.old) }
+    ensures err { OnErr result (channels.new.items ≡ channels.old.items) }
 {
-    let mut after = channels;
-    for name in list.split(|byte| *byte == b',') {
-        after = join(alloc, post, clients, me, name, after)?;
+    let [name, more @ ..] = names else {
+        return Ok(());
+    };
+    let entry = join(alloc, post, clients, me, name.as_bytes(), channels)?;
+    match join_each(alloc, post, clients, me, more, channels) {
+        Ok(()) => Ok(()),
+        Err(refused) => {
+            undo(channels, entry);
+            Err(refused)
+        }
     }
-    Ok(after)
 }

@@ -6,6 +6,7 @@ ghost use Rattle.miniircd.specs.Rooms.{plain, room, member_of, opened, has_membe
 use crate::texts::is_same;
 use bytetext::{NoMemory, Seq, Text, TryCopy};
 use std::alloc::Global;
+use wildmask::Mask;
 
 /// A client that is on a channel.
 #[derive(Clone, Copy, Debug)]
@@ -33,6 +34,8 @@ pub struct Channel {
     pub topic: Text,
     /// The members in the order in which they joined.
     pub members: Seq<Member>,
+    /// The bans, hostmasks of those who may not join, in the order in which they were set.
+    pub bans: Seq<Mask>,
 }
 
 impl TryCopy for Channel {
@@ -41,6 +44,7 @@ impl TryCopy for Channel {
             name: self.name.copy(alloc)?,
             topic: self.topic.copy(alloc)?,
             members: self.members.copy(alloc)?,
+            bans: self.bans.copy(alloc)?,
         })
     }
 }
@@ -73,6 +77,7 @@ pub fn opened(alloc: Global, name: &[u8], client: usize) -> Result<Channel, NoMe
         name: Text::from_slice(alloc, name)?,
         topic: Text::empty(alloc),
         members,
+        bans: Seq::empty(alloc),
     })
 }
 

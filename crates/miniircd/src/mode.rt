@@ -1,16 +1,19 @@
 // MODE (RFC 2812 section 3.2.3).
 ghost use Rattle.std.specs.Prelude.{◌≡◌, IfOk, OnOk};
+ghost use Rattle.std.specs.List.{list_any};
 ghost use Rattle.miniircd.specs.Mail.{readers};
 ghost use Rattle.miniircd.specs.Rooms.{room};
-ghost use Rattle.miniircd.specs.Commands.{standing_in, is_mark, marked_on, target_on, moded, moded_each, mode_change};
+ghost use Rattle.miniircd.specs.Commands.{standing_in, is_mark, is_ban_of, counts, marked_on, banned_on, target_on, moded, moded_each, mode_change};
 
+use crate::bans::{is_full, tell_bans};
 use crate::change::Change;
 use crate::edit::{Edit, rooms_after};
-use crate::member::Channel;
+use crate::lines::repeated;
+use crate::member::{Channel, channel_of};
 use crate::modes::{Single, singles};
 use crate::person::Person;
 use crate::post::Post;
-use crate::replies::Sender;
+use crate::replies::{Sender, tell, tell_of};
 use crate::rooms::{pass_on, target_on, turn_away};
 use crate::standing::{Standing, find_standing};
 use bytetext::{NoMemory, Seq, Text, copies_of};
@@ -25,9 +28,30 @@ fn is_mark(letter: u8) -> bool
     letter == b'o' || letter == b'v'
 }
 
+// Whether it sets or clears a ban.
+fn is_ban(single: &Single) -> bool
+    ensures { result ≡ is_ban_of single.now }
+{
+    single.letter == b'b' && single.argument.len() > 0
+}
+
+// Whether it asks for the bans.
+fn is_question(single: &Single) -> bool {
+    single.letter == b'b' && single.argument.is_empty()
+}
+
 // Whether it would change something, if only there is such a member.
-fn counts(single: &Single) -> bool {
+fn counts(single: &Single) -> bool
+    ensures { result ≡ counts single.now }
+{
     (is_mark(single.letter) || single.letter == b'b') && single.argument.len() > 0
+}
+
+// Whether any of these would.
+fn any_counts(singles: &[Single]) -> bool
+    ensures { result ≡ list_any counts singles.now }
+{
+    singles.iter().any(|single| counts(single))
 }
 
 // A single mode goes to all who are on the channel, as a line of its own.
@@ -82,6 +106,52 @@ fn mark(
     rooms_after(alloc, channels.as_slice(), Some(name), edit)
 }
 
+// One is told that a channel has no room for a ban.
+fn tell_full(
+    alloc: Global,
+    post: &mut Post<'_>,
+    me: &Sender<'_>,
+    name: &[u8],
+) -> Result<(), NoMemory>
+    ensures { OnOk result (readers post.new ≡ readers post.old) }
+{
+    let mut words = repeated(alloc, name)?;
+    words.extend_from_slice(b" b")?;
+    tell(
+        alloc,
+        post,
+        me,
+        b"478",
+        words.as_slice(),
+        b"Channel list is full",
+    )
+}
+
+// A ban is set or cleared, and goes to all who are on the channel; one too many is refused.
+fn ban(
+    alloc: Global,
+    post: &mut Post<'_>,
+    channels: Vec<Channel>,
+    me: &Sender<'_>,
+    name: &[u8],
+    single: &Single,
+) -> Result<Vec<Channel>, NoMemory>
+    ensures banned { IfOk result (λ after. after.items ≡ banned_on name.now single.now channels.items) }
+    ensures readers { OnOk result (readers post.new ≡ readers post.old) }
+{
+    let text = single.argument.as_bytes();
+    if single.on && is_full(channel_of(channels.as_slice(), name), text) {
+        tell_full(alloc, post, me, name)?;
+        return Ok(channels);
+    }
+    pass_mode_on(alloc, post, channels.as_slice(), me, name, single)?;
+    let edit = Edit::Ban {
+        text,
+        on: single.on,
+    };
+    rooms_after(alloc, channels.as_slice(), Some(name), edit)
+}
+
 // One single mode of an operator.
 fn apply(
     alloc: Global,
@@ -104,8 +174,8 @@ fn apply(
         );
         return mark(alloc, post, channels, me, name, single, target);
     }
-    if counts(single) {
-        pass_mode_on(alloc, post, channels.as_slice(), me, name, single)?;
+    if is_ban(single) {
+        return ban(alloc, post, channels, me, name, single);
     }
     Ok(channels)
 }
@@ -141,13 +211,49 @@ fn refuse(
 ) -> Result<(), NoMemory>
     ensures { OnOk result (readers post.new ≡ readers post.old) }
 {
-    if singles.iter().any(|single| counts(single)) {
+    if any_counts(singles) {
         turn_away(alloc, post, me, name, Standing::Plain)?;
     }
     Ok(())
 }
 
-/// MODE of a channel. Without modes, and with none that counts, it does nothing.
+// The modes of a channel, of which it has none, go to one who asks.
+fn tell_modes(
+    alloc: Global,
+    post: &mut Post<'_>,
+    channels: &[Channel],
+    me: &Sender<'_>,
+    name: &[u8],
+) -> Result<(), NoMemory>
+    ensures { OnOk result (readers post.new ≡ readers post.old) }
+{
+    if channel_of(channels, name).is_some() {
+        tell_of(alloc, post, me, b"324", name, b"+")?;
+    } else if is_channel_name(name) {
+        turn_away(alloc, post, me, name, Standing::Unknown)?;
+    }
+    Ok(())
+}
+
+// The bans of a channel go to one who is on it, if it asks.
+fn answer_questions(
+    alloc: Global,
+    post: &mut Post<'_>,
+    channels: &[Channel],
+    me: &Sender<'_>,
+    name: &[u8],
+    singles: &[Single],
+) -> Result<(), NoMemory>
+    ensures { OnOk result (readers post.new ≡ readers post.old) }
+{
+    if singles.iter().any(|single| is_question(single)) {
+        tell_bans(alloc, post, channels, me, name)?;
+    }
+    Ok(())
+}
+
+/// MODE of a channel. Without modes it asks for those of the channel, and b without a text asks for its bans. With none
+/// that counts it changes nothing.
 ///
 /// # Errors
 /// `NoMemory` where room is refused.
@@ -165,6 +271,9 @@ pub fn mode(
         ≡ mode_change (standing_in me.now.key (room name.now channels.now)) clients.now.slots name.now modes.now arguments.now channels.now) }
     ensures readers { OnOk result (readers post.new ≡ readers post.old) }
 {
+    if modes.is_empty() {
+        tell_modes(alloc, post, channels, me, name)?;
+    }
     let singles = singles(alloc, modes, arguments)?;
     let standing = find_standing(channels, name, me.key);
     match standing {
@@ -175,10 +284,15 @@ pub fn mode(
             Ok(Change::Same)
         }
         Standing::Plain => {
+            answer_questions(alloc, post, channels, me, name, singles.as_slice())?;
             refuse(alloc, post, me, name, singles.as_slice())?;
             Ok(Change::Same)
         }
         Standing::Op => {
+            answer_questions(alloc, post, channels, me, name, singles.as_slice())?;
+            if !any_counts(singles.as_slice()) {
+                return Ok(Change::Same);
+            }
             let after = apply_each(alloc, post, clients, channels, me, name, singles.as_slice())?;
             Ok(Change::Channels(Seq::new(after)))
         }

@@ -108,7 +108,7 @@ fn talk_to_client(
 }
 
 // The client, if it is registered.
-fn if_there(clients: &Slab<Person>, client: Option<usize>) -> Option<usize>
+pub(crate) fn if_there(clients: &Slab<Person>, client: Option<usize>) -> Option<usize>
     ensures { result ≡ if_there clients.now.slots client }
 {
     let client = client?;

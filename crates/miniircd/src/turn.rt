@@ -1,16 +1,18 @@
 // One message of a client: what it changes, and what is told of it.
-ghost use Rattle.std.specs.Prelude.{◌≡◌, ◌==◌, drop, IfOk, IfSome, OnOk};
+ghost use Rattle.std.specs.Prelude.{◌≡◌, ◌==◌, drop, IfOk, IfSome, OnErr, OnOk};
 ghost use Rattle.std.specs.List.{slice_split};
-ghost use Rattle.miniircd.specs.declared.change.Change.TheVariants.{Channels};
 ghost use Rattle.miniircd.specs.Mail.{readers, posted};
 ghost use Rattle.miniircd.specs.People.{word_at};
 ghost use Rattle.miniircd.specs.Rooms.{joined_each, room};
-ghost use Rattle.miniircd.specs.Lines.{join_letters_each};
+ghost use Rattle.miniircd.specs.Lines.{join_letters_each, source_of};
 ghost use Rattle.miniircd.specs.Commands.{change_by, change_of, standing_in, kick_change, mode_change};
-ghost use Rattle.miniircd.specs.Talk.{exact_by, exact_of_few, exact_letters};
+ghost use Rattle.miniircd.specs.Server.{LeavesAs};
+ghost use Rattle.miniircd.specs.declared.change.Change.TheVariants.{Same};
+ghost use Rattle.miniircd.specs.Talk.{talk_letters, exact_by, exact_of_few, exact_letters};
 
 use crate::change::Change;
 use crate::command::{Command, read_command};
+use crate::inquiries::inquire;
 use crate::join::join_each;
 use crate::member::Channel;
 use crate::mode::mode;
@@ -22,30 +24,41 @@ use crate::rooms::{kick, part, topic};
 use crate::talk::{answer_ping, talk};
 use crate::texts::{param, params_from, word};
 use crate::who::{names, who};
-use bytetext::{NoMemory, Seq, Text, copies_of};
+use bytetext::{NoMemory, Text};
 use ircline::Message;
 use slab::Slab;
 use std::alloc::Global;
 
-// What a client joins by a JOIN.
+// The pieces of a list, with commas between.
+fn names_in(alloc: Global, list: &[u8]) -> Result<Vec<Text>, NoMemory>
+    ensures { IfOk result (λ names. names.items ≡ slice_split (λ b. b == 44) list.now) }
+{
+    let mut names = Vec::new(alloc);
+    for name in list.split(|byte| *byte == b',') {
+        names.push(Text::from_slice(alloc, name)?)?;
+    }
+    Ok(names)
+}
+
+// A client joins the channels of a list.
 fn join(
     alloc: Global,
     post: &mut Post<'_>,
     clients: &Slab<Person>,
-    channels: &[Channel],
+    channels: &mut Vec<Channel>,
     me: &Sender<'_>,
     list: &[u8],
-) -> Result<Change, NoMemory>
-    ensures change { IfOk result
-        (λ change. change ≡ Channels (joined_each me.now.key (slice_split (λ b. b == 44) list.now) channels.now)) }
+) -> Result<(), NoMemory>
+    ensures joined { OnOk result (channels.new.items
+        ≡ joined_each me.now.key (source_of me.now.person.now) (slice_split (λ b. b == 44) list.now) channels.old.items) }
     ensures told { OnOk result (post.new
-        ≡ posted (join_letters_each me.now.key me.now.person.now clients.now.slots (slice_split (λ b. b == 44) list.now) channels.now)
+        ≡ posted (join_letters_each me.now.key me.now.person.now clients.now.slots (slice_split (λ b. b == 44) list.now) channels.old.items)
         post.old) }
     ensures readers { OnOk result (readers post.new ≡ readers post.old) }
+    ensures err { OnErr result (channels.new.items ≡ channels.old.items) }
 {
-    let channels = copies_of(alloc, channels)?;
-    let after = join_each(alloc, post, clients, me, list, channels)?;
-    Ok(Change::Channels(Seq::new(after)))
+    let names = names_in(alloc, list)?;
+    join_each(alloc, post, clients, me, names.as_slice(), channels)
 }
 
 // A KICK of these parameters.
@@ -86,51 +99,75 @@ fn mode_by(
     mode(alloc, post, clients, channels, me, name, modes, arguments)
 }
 
-// A command that its client may send, with the parameters that it needs. A QUIT is told apart before.
-fn act(
+// A PRIVMSG or a NOTICE of these parameters, which changes nothing.
+fn talk_by(
     alloc: Global,
     post: &mut Post<'_>,
     clients: &Slab<Person>,
     channels: &[Channel],
     me: &Sender<'_>,
+    loud: bool,
+    params: &[Text],
+) -> Result<Change, NoMemory>
+    ensures change { IfOk result (λ change. change ≡ Same) }
+    ensures told { OnOk result (post.new
+        ≡ posted (talk_letters loud me.now.key me.now.person.now clients.now.slots channels.now (word_at 0 params.now)
+        (word_at 1 params.now)) post.old) }
+    ensures readers { OnOk result (readers post.new ≡ readers post.old) }
+{
+    let (target, text) = (word(params, 0), word(params, 1));
+    talk(alloc, post, clients, channels, me, loud, target, text)?;
+    Ok(Change::Same)
+}
+
+// A command that its client may send, with the parameters that it needs. A QUIT is told apart before.
+fn act(
+    alloc: Global,
+    post: &mut Post<'_>,
+    clients: &Slab<Person>,
+    channels: &mut Vec<Channel>,
+    me: &Sender<'_>,
     command: Command,
     name: &[u8],
     params: &[Text],
 ) -> Result<Change, NoMemory>
-    ensures change { IfOk result
-        (λ change. change ≡ change_by command me.now.key me.now.person.now clients.now.slots channels.now params.now) }
+    ensures change { IfOk result (λ change. LeavesAs me.now.key clients.now.slots change channels.new.items
+        (change_by command me.now.key me.now.person.now clients.now.slots channels.old.items params.now) channels.old.items) }
+    ensures err { OnErr result (channels.new.items ≡ channels.old.items) }
     ensures told { OnOk result
-        (IfSome (exact_by command me.now.key me.now.person.now clients.now.slots channels.now params.now)
+        (IfSome (exact_by command me.now.key me.now.person.now clients.now.slots channels.old.items params.now)
         (λ letters. post.new ≡ posted letters post.old)) }
     ensures readers { OnOk result (readers post.new ≡ readers post.old) }
 {
-    let (first, second) = (word(params, 0), word(params, 1));
+    let rooms = channels.as_slice();
+    let first = word(params, 0);
     match command {
-        Command::Nick => nick(alloc, post, clients, channels, me, first),
+        Command::Nick => nick(alloc, post, clients, rooms, me, first),
         Command::User => user(alloc, post, me, first),
-        Command::Join => join(alloc, post, clients, channels, me, first),
-        Command::Part => part(alloc, post, channels, me, first, param(params, 1)),
-        Command::Topic => topic(alloc, post, channels, me, first, param(params, 1)),
-        Command::Kick => kick_by(alloc, post, clients, channels, me, params),
-        Command::Mode => mode_by(alloc, post, clients, channels, me, params),
-        Command::Privmsg => {
-            talk(alloc, post, clients, channels, me, true, first, second)?;
+        Command::Join => {
+            join(alloc, post, clients, channels, me, first)?;
             Ok(Change::Same)
         }
-        Command::Notice => {
-            talk(alloc, post, clients, channels, me, false, first, second)?;
-            Ok(Change::Same)
-        }
+        Command::Part => part(alloc, post, rooms, me, first, param(params, 1)),
+        Command::Topic => topic(alloc, post, rooms, me, first, param(params, 1)),
+        Command::Kick => kick_by(alloc, post, clients, rooms, me, params),
+        Command::Mode => mode_by(alloc, post, clients, rooms, me, params),
+        Command::Privmsg => talk_by(alloc, post, clients, rooms, me, true, params),
+        Command::Notice => talk_by(alloc, post, clients, rooms, me, false, params),
         Command::Names => {
-            names(alloc, post, clients, channels, me, first)?;
+            names(alloc, post, clients, rooms, me, first)?;
             Ok(Change::Same)
         }
         Command::Who => {
-            who(alloc, post, clients, channels, me, first)?;
+            who(alloc, post, clients, rooms, me, first)?;
             Ok(Change::Same)
         }
         Command::Ping => {
             answer_ping(alloc, post, me.key, first)?;
+            Ok(Change::Same)
+        }
+        Command::Ask(inquiry) => {
+            inquire(alloc, post, clients, rooms, me, inquiry, params)?;
             Ok(Change::Same)
         }
         Command::Unknown => {
@@ -168,6 +205,7 @@ fn tell_few(
         | Command::Who
         | Command::Ping
         | Command::Quit
+        | Command::Ask(_)
         | Command::Unknown => tell_of(alloc, post, me, b"461", word, b"Need more parameters"),
     }
 }
@@ -180,14 +218,15 @@ pub fn answer(
     alloc: Global,
     post: &mut Post<'_>,
     clients: &Slab<Person>,
-    channels: &[Channel],
+    channels: &mut Vec<Channel>,
     me: &Sender<'_>,
     message: &Message,
 ) -> Result<Change, NoMemory>
-    ensures change { IfOk result
-        (λ change. change ≡ change_of me.now.key me.now.person.now clients.now.slots channels.now message.now) }
+    ensures change { IfOk result (λ change. LeavesAs me.now.key clients.now.slots change channels.new.items
+        (change_of me.now.key me.now.person.now clients.now.slots channels.old.items message.now) channels.old.items) }
+    ensures err { OnErr result (channels.new.items ≡ channels.old.items) }
     ensures told { OnOk result
-        (IfSome (exact_letters me.now.key me.now.person.now clients.now.slots channels.now message.now)
+        (IfSome (exact_letters me.now.key me.now.person.now clients.now.slots channels.old.items message.now)
         (λ letters. post.new ≡ posted letters post.old)) }
     ensures readers { OnOk result (readers post.new ≡ readers post.old) }
 {

@@ -3,13 +3,12 @@ use Rattle.std.specs.Prelude.{ℕ, Bool, true, false, is_some, [], ◌∷◌, �
 use Rattle.settings.specs.declared.word.Word.{Word}
 use Rattle.settings.specs.declared.word.Word.TheVariants.{Account as account_word, Bot as bot_word, Data as data_word}
 use Rattle.settings.specs.declared.word.Word.TheVariants.{Exclusive as exclusive_word, Hub as hub_word, Listen as listen_word}
-use Rattle.settings.specs.declared.word.Word.TheVariants.{Log as log_word, Nick as nick_word, Offset as offset_word}
-use Rattle.settings.specs.declared.word.Word.TheVariants.{Secret as secret_word}
+use Rattle.settings.specs.declared.word.Word.TheVariants.{Log as log_word, Nick as nick_word, Secret as secret_word, Zone as zone_word}
 use Rattle.settings.specs.declared.advice.Advice.{Advice}
 use Rattle.settings.specs.declared.advice.Advice.TheVariants.{Once}
 use Rattle.settings.specs.declared.saying.Saying.{Saying}
 use Rattle.settings.specs.declared.saying.Saying.TheVariants.{Nothing, Wrong, Account, Bind, Bot, Channel, Data, Exclusive, Hub, Listen}
-use Rattle.settings.specs.declared.saying.Saying.TheVariants.{LogLines, Nick, Offset, Perform, Secret, Server}
+use Rattle.settings.specs.declared.saying.Saying.TheVariants.{LogLines, Nick, Perform, Secret, Server, Zone}
 use Rattle.settings.specs.declared.draft.Draft.{Draft}
 
 -- no line is read
@@ -24,7 +23,7 @@ no_line = record {
   listen = None;
   secret = None;
   account = None;
-  offset = None;
+  zone = None;
   exclusive = false;
   log_lines = false;
   performs = [];
@@ -50,10 +49,10 @@ refusal_of draft (Hub address) = once hub_word (is_some draft.hub)
 refusal_of draft (Listen address) = once listen_word (is_some draft.listen)
 refusal_of draft LogLines = once log_word draft.log_lines
 refusal_of draft (Nick nick) = once nick_word (is_some draft.nick)
-refusal_of draft (Offset minutes) = once offset_word (is_some draft.offset)
 refusal_of draft (Perform line) = None
 refusal_of draft (Secret file) = once secret_word (is_some draft.secret)
 refusal_of draft (Server server) = None
+refusal_of draft (Zone zone) = once zone_word (is_some draft.zone)
 
 -- what the line of this number adds
 abbrev pub added : ℕ → Draft → Saying → Draft
@@ -69,7 +68,7 @@ added line draft (Hub address) = record draft { hub = Some address }
 added line draft (Listen address) = record draft { listen = Some address }
 added line draft LogLines = record draft { log_lines = true }
 added line draft (Nick nick) = record draft { nick = Some nick }
-added line draft (Offset minutes) = record draft { offset = Some minutes }
 added line draft (Perform text) = record draft { performs = draft.performs ++ text ∷ [] }
 added line draft (Secret file) = record draft { secret = Some file }
 added line draft (Server server) = record draft { servers = draft.servers ++ server ∷ [] }
+added line draft (Zone zone) = record draft { zone = Some zone }

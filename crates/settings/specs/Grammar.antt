@@ -1,20 +1,21 @@
 -- What a line says by itself.
-use Rattle.std.specs.Prelude.{ℕ, ◌==◌, ◌||◌, ◌&&◌, ◌-◌, not, nat_le, nat_lt, Bool, List, [], ◌∷◌, length, slice_index, Option, None, Some, if◌then◌else◌, codes, ℤ}
+use Rattle.std.specs.Prelude.{ℕ, ◌==◌, ◌||◌, ◌&&◌, ◌-◌, not, nat_le, nat_lt, Bool, List, [], ◌∷◌, length, slice_index, Option, None, Some, if◌then◌else◌, codes}
 use Rattle.std.specs.List.{list_all}
 use Rattle.std.specs.Str.{bytes_eq}
 use Rattle.rfccase.specs.Channels.{is_channel_name}
+use Rattle.bottimers.specs.Zones.{TzText, rule_in}
 use Rattle.settings.specs.declared.TheConstants.{MAX_LEAVES, MAX_LINE}
 use Rattle.settings.specs.declared.word.Word.{Word}
 use Rattle.settings.specs.declared.word.Word.TheVariants.{Account as account_word, Bind as bind_word, Bot as bot_word, Channel as channel_word}
 use Rattle.settings.specs.declared.word.Word.TheVariants.{Data as data_word, Exclusive as exclusive_word, Hub as hub_word, Listen as listen_word}
-use Rattle.settings.specs.declared.word.Word.TheVariants.{Log as log_word, Nick as nick_word, Offset as offset_word, Perform as perform_word}
-use Rattle.settings.specs.declared.word.Word.TheVariants.{Secret as secret_word, Server as server_word}
+use Rattle.settings.specs.declared.word.Word.TheVariants.{Log as log_word, Nick as nick_word, Perform as perform_word}
+use Rattle.settings.specs.declared.word.Word.TheVariants.{Secret as secret_word, Server as server_word, Zone as zone_word}
 use Rattle.settings.specs.declared.advice.Advice.TheVariants.{Form, Leaves, Port, Unknown, CarriageReturn, Control, ByteOrderMark}
 use Rattle.settings.specs.declared.saying.Saying.{Saying}
 use Rattle.settings.specs.declared.saying.Saying.TheVariants.{Nothing, Wrong, Account, Bind, Bot, Channel, Data, Exclusive, Hub, Listen}
-use Rattle.settings.specs.declared.saying.Saying.TheVariants.{LogLines, Nick, Offset, Perform, Secret, Server}
+use Rattle.settings.specs.declared.saying.Saying.TheVariants.{LogLines, Nick, Perform, Secret, Server, Zone}
 use Rattle.settings.specs.Names.{is_nick}
-use Rattle.settings.specs.Words.{word_of, rest_of, after_spaces, number_of, port_of, offset_of}
+use Rattle.settings.specs.Words.{word_of, rest_of, after_spaces, number_of, port_of}
 use Rattle.settings.specs.Vocabulary.{word_named}
 
 abbrev pub is_empty : List ℕ → Bool
@@ -42,14 +43,6 @@ nick_said rest = if is_nick (word_of rest) && is_empty (rest_of rest) then Nick 
 abbrev pub channel_said : List ℕ → Saying
 channel_said rest =
     if is_channel_name (word_of rest) && is_empty (rest_of rest) then Channel (word_of rest) else Wrong (Form channel_word)
-
--- offset MINUTES
-abbrev pub offset_found : Option ℤ → Saying
-offset_found None = Wrong (Form offset_word)
-offset_found (Some minutes) = Offset minutes
-
-abbrev pub offset_said : List ℕ → Saying
-offset_said rest = if is_empty (rest_of rest) then offset_found (offset_of (word_of rest)) else Wrong (Form offset_word)
 
 -- exclusive
 abbrev pub exclusive_said : List ℕ → Saying
@@ -111,6 +104,14 @@ server_said rest =
     if is_empty (rest_of rest) then Wrong (Form server_word)
     else server_found (word_of rest) (port_of (word_of (rest_of rest))) (rest_of (rest_of rest))
 
+-- zone RULE
+abbrev pub zone_found : Option TzText → Saying
+zone_found None = Wrong (Form zone_word)
+zone_found (Some rule) = Zone rule
+
+abbrev pub zone_said : List ℕ → Saying
+zone_said rest = if is_empty (rest_of rest) then zone_found (rule_in (word_of rest)) else Wrong (Form zone_word)
+
 -- bind TYPE FLAGS PROC MASK
 abbrev pub bind_said : List ℕ → Saying
 bind_said rest =
@@ -136,10 +137,10 @@ said_of (Some hub_word) rest = hub_said rest
 said_of (Some listen_word) rest = listen_said rest
 said_of (Some log_word) rest = log_said rest
 said_of (Some nick_word) rest = nick_said rest
-said_of (Some offset_word) rest = offset_said rest
 said_of (Some perform_word) rest = perform_said rest
 said_of (Some secret_word) rest = secret_said rest
 said_of (Some server_word) rest = server_said rest
+said_of (Some zone_word) rest = zone_said rest
 
 -- a byte that shows: no control byte
 abbrev pub is_shown : ℕ → Bool

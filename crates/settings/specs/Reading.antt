@@ -2,6 +2,7 @@
 use Rattle.std.specs.Prelude.{◌≡◌, ℕ, suc, ◌==◌, ◌≤◌, Bool, true, false, is_some, List, [], ◌∷◌, length, nat_lt, Option, None, Some, Result, Ok, Err}
 use Rattle.std.specs.Prelude.{if◌then◌else◌, unwrap_or, pos}
 use Rattle.std.specs.List.{slice_split}
+use Rattle.bottimers.specs.Zones.{TzText, fixed_rule}
 use Rattle.bytetext.specs.declared.failure.Failure.{Failure}
 use Rattle.bytetext.specs.declared.failure.Failure.TheVariants.{Refused, NoMemory}
 use Rattle.settings.specs.declared.TheConstants.{MAX_FILE}
@@ -41,6 +42,10 @@ lines_read lines = read_from no_line 1 lines
 -- a hub without leaves
 abbrev pub alone : Station
 alone = record { number = 0; leaves = 0 }
+
+-- a clock that shows UTC
+abbrev pub utc : TzText
+utc = fixed_rule (pos 0)
 
 -- the first of two that there is
 abbrev pub first_of_two : Option Lack → Option Lack → Option Lack
@@ -84,7 +89,7 @@ settings_of draft = record {
   listen = draft.listen;
   secret = draft.secret;
   account = draft.account;
-  offset = unwrap_or draft.offset (pos 0);
+  zone = unwrap_or draft.zone utc;
   exclusive = draft.exclusive;
   log_lines = draft.log_lines;
   performs = draft.performs;

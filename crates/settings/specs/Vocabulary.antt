@@ -2,8 +2,8 @@
 use Rattle.std.specs.Prelude.{ℕ, List, [], ◌∷◌, Option, find, codes}
 use Rattle.std.specs.Str.{bytes_eq}
 use Rattle.settings.specs.declared.word.Word.{Word}
-use Rattle.settings.specs.declared.word.Word.TheVariants.{Account, Bind, Bot, Channel, Data, Exclusive, Hub, Listen, Log, Nick, Offset}
-use Rattle.settings.specs.declared.word.Word.TheVariants.{Perform, Secret, Server}
+use Rattle.settings.specs.declared.word.Word.TheVariants.{Account, Bind, Bot, Channel, Data, Exclusive, Hub, Listen, Log, Nick}
+use Rattle.settings.specs.declared.word.Word.TheVariants.{Perform, Secret, Server, Zone}
 
 abbrev pub spelling_of : Word → List ℕ
 spelling_of Account = codes "account"
@@ -16,14 +16,14 @@ spelling_of Hub = codes "hub"
 spelling_of Listen = codes "listen"
 spelling_of Log = codes "log"
 spelling_of Nick = codes "nick"
-spelling_of Offset = codes "offset"
 spelling_of Perform = codes "perform"
 spelling_of Secret = codes "secret"
 spelling_of Server = codes "server"
+spelling_of Zone = codes "zone"
 
 abbrev pub all_words : List Word
 all_words =
-    Account ∷ Bind ∷ Bot ∷ Channel ∷ Data ∷ Exclusive ∷ Hub ∷ Listen ∷ Log ∷ Nick ∷ Offset ∷ Perform ∷ Secret ∷ Server ∷ []
+    Account ∷ Bind ∷ Bot ∷ Channel ∷ Data ∷ Exclusive ∷ Hub ∷ Listen ∷ Log ∷ Nick ∷ Perform ∷ Secret ∷ Server ∷ Zone ∷ []
 
 -- the word that is spelled so: no two are spelled alike
 abbrev pub word_named : List ℕ → Option Word

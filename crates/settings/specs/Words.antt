@@ -1,6 +1,6 @@
 -- Words of a line, and the numbers that they mean.
-use Rattle.std.specs.Prelude.{ℕ, ◌+◌, ◌-◌, ◌*◌, ◌==◌, ◌&&◌, not, Bool, true, false, nat_le, nat_lt, List, [], ◌∷◌, drop, Option, None, Some}
-use Rattle.std.specs.Prelude.{option_and_then, if◌then◌else◌, ℤ, pos, ◌-ℤ◌}
+use Rattle.std.specs.Prelude.{ℕ, ◌+◌, ◌-◌, ◌*◌, ◌==◌, ◌&&◌, not, Bool, nat_le, nat_lt, List, [], ◌∷◌, drop, Option, None, Some}
+use Rattle.std.specs.Prelude.{option_and_then, if◌then◌else◌}
 use Rattle.std.specs.List.{prefix_len, take_while}
 
 -- ---- words
@@ -46,15 +46,3 @@ number_of (b ∷ bs) = number_from 0 (b ∷ bs)
 -- a port is no 0
 abbrev pub port_of : List ℕ → Option ℕ
 port_of word = option_and_then (λ n. if n == 0 then None else Some n) (number_of word)
-
--- so many minutes ahead, or behind, less than a day
-abbrev pub signed : Bool → Option ℕ → Option ℤ
-signed is_behind None = None
-signed true (Some n) = if nat_lt n 1440 then Some (pos 0 -ℤ pos n) else None
-signed false (Some n) = if nat_lt n 1440 then Some (pos n) else None
-
--- minutes ahead; after a minus behind
-abbrev pub offset_of : List ℕ → Option ℤ
-offset_of [] = None
-offset_of (b ∷ bs) =
-    if b == 45 then signed true (number_of bs) else if b == 43 then signed false (number_of bs) else signed false (number_of (b ∷ bs))

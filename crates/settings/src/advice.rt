@@ -36,8 +36,8 @@ impl Display for Advice {
             Advice::Port => write!(f, "say a port of 1 to 65535"),
             Advice::Unknown => write!(
                 f,
-                "begin with account, bind, bot, channel, data, exclusive, hub, listen, log, nick, offset, perform, secret, \
-                 server or #"
+                "begin with account, bind, bot, channel, data, exclusive, hub, listen, log, nick, perform, secret, server, \
+                 zone or #"
             ),
             Advice::CarriageReturn => write!(f, "end lines with a line feed alone"),
             Advice::Control => write!(f, "write spaces for tabs, and no other control bytes"),
@@ -59,10 +59,11 @@ fn form_of(word: Word) -> &'static str {
         Word::Listen => "say listen HOST PORT, as in listen 0.0.0.0 7100",
         Word::Log => "say log lines",
         Word::Nick => "say nick NICK, of 1 to 30 bytes without ! @ , * ?, as in nick egg1",
-        Word::Offset => "say offset MINUTES, -1439 to 1439, as in offset 60",
         Word::Perform => "say perform LINE, of at most 510 bytes, as in perform MODE egg1 +i",
         Word::Secret => "say secret FILE, as in secret /etc/eggnet/secret",
         Word::Server =>
             "say server HOST PORT, as in server irc.example.net 6667, and its password after that",
+        Word::Zone =>
+            "say zone RULE, a rule of POSIX and no name of a place, as in zone CET-1CEST,M3.5.0,M10.5.0/3",
     }
 }

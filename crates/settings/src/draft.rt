@@ -6,6 +6,7 @@ use crate::advice::Advice;
 use crate::saying::Saying;
 use crate::settings::{Account, Address, BindLine, BindLines, Servers, Station};
 use crate::word::Word;
+use bottimers::Zone;
 use bytetext::{NoMemory, Text, Texts};
 use std::alloc::Global;
 
@@ -30,8 +31,8 @@ pub struct Draft {
     pub secret: Option<Text>,
     /// Whom the bot authenticates as.
     pub account: Option<Account>,
-    /// How far its clock is ahead of UTC, in minutes.
-    pub offset: Option<i32>,
+    /// How far its clock is ahead of UTC at each moment.
+    pub zone: Option<Zone>,
     /// Whether a text that a mask matched is none for keywords.
     pub exclusive: bool,
     /// Whether lines are logged.
@@ -57,7 +58,7 @@ impl Draft {
             listen: None,
             secret: None,
             account: None,
-            offset: None,
+            zone: None,
             exclusive: false,
             log_lines: false,
             performs: Texts::empty(alloc),
@@ -84,8 +85,8 @@ impl Draft {
             Saying::Listen(_) => once(Word::Listen, self.listen.is_some()),
             Saying::LogLines => once(Word::Log, self.log_lines),
             Saying::Nick(_) => once(Word::Nick, self.nick.is_some()),
-            Saying::Offset(_) => once(Word::Offset, self.offset.is_some()),
             Saying::Secret(_) => once(Word::Secret, self.secret.is_some()),
+            Saying::Zone(_) => once(Word::Zone, self.zone.is_some()),
         }
     }
 
@@ -105,10 +106,10 @@ impl Draft {
             Saying::Listen(address) => self.listen = Some(address),
             Saying::LogLines => self.log_lines = true,
             Saying::Nick(nick) => self.nick = Some(nick),
-            Saying::Offset(minutes) => self.offset = Some(minutes),
             Saying::Perform(text) => self.performs.push(text)?,
             Saying::Secret(file) => self.secret = Some(file),
             Saying::Server(server) => self.servers.push(server)?,
+            Saying::Zone(zone) => self.zone = Some(zone),
         }
         Ok(())
     }

@@ -17,7 +17,7 @@
 //! | `bind` type flags proc MASK | any | a bind, in order |
 //! | `perform LINE` | any | a line of 1 to 510 bytes for the server, once after each registration |
 //! | `account` name FILE | once or not at all | whom it authenticates as, and the file of the password |
-//! | `offset` minutes | once or not at all | how far its clock is ahead of UTC, -1439 to 1439, 0 where there is no such line |
+//! | `zone` rule | once or not at all | its clock, by a rule of POSIX; UTC where there is no such line |
 //! | `exclusive` | once or not at all | a text that a `msgm` or `pubm` bind matched is none for `msg` and `pub` binds |
 //! | `log lines` | once or not at all | each line from and to the server is logged |
 //!

@@ -1,6 +1,6 @@
 // Numbers as words.
 ghost use Rattle.std.specs.Prelude.{◌≡◌, ◌<◌};
-ghost use Rattle.settings.specs.Words.{digit_onto, is_digit, number_of, offset_of, signed, port_of};
+ghost use Rattle.settings.specs.Words.{digit_onto, is_digit, number_of, port_of};
 
 /// The number that a word of digits means, where it is below 65,536.
 pub fn number(word: &[u8]) -> Option<u16>
@@ -39,27 +39,4 @@ pub fn port(word: &[u8]) -> Option<u16>
         Some(0) | None => None,
         Some(port) => Some(port),
     }
-}
-
-/// Whole minutes, -1,439 to 1,439, with or without a sign.
-pub fn offset(word: &[u8]) -> Option<i32>
-    ensures { result ≡ offset_of word.now }
-{
-    match word {
-        [b'-', digits @ ..] => signed(true, number(digits)),
-        [b'+', digits @ ..] => signed(false, number(digits)),
-        _ => signed(false, number(word)),
-    }
-}
-
-// So many minutes ahead, or behind where it is negative.
-fn signed(is_behind: bool, minutes: Option<u16>) -> Option<i32>
-    ensures { result ≡ signed is_behind minutes }
-{
-    let minutes = minutes?;
-    if minutes >= 1_440 {
-        return None;
-    }
-    let minutes = i32::from(minutes);
-    Some(if is_behind { -minutes } else { minutes })
 }

@@ -1,13 +1,14 @@
 // A whole file.
 ghost use Rattle.std.specs.Prelude.{◌≡◌, ◌==◌, None, map, IfOk};
 ghost use Rattle.std.specs.List.{slice_split};
-ghost use Rattle.settings.specs.Reading.{Answers, completed, lack_of, lines_read, role_lack, settings_of};
+ghost use Rattle.settings.specs.Reading.{Answers, completed, lack_of, lines_read, role_lack, settings_of, utc};
 
 use crate::MAX_FILE;
 use crate::draft::Draft;
 use crate::fault::{Lack, SettingsError, SettingsFault};
 use crate::saying::saying_of;
 use crate::settings::{Settings, Station};
+use bottimers::Zone;
 use bytetext::{Failure, NoMemory};
 use std::alloc::{AllocError, Global};
 
@@ -134,10 +135,17 @@ fn settings_of(draft: Draft) -> Settings
         listen: draft.listen,
         secret: draft.secret,
         account: draft.account,
-        offset: draft.offset.unwrap_or(0),
+        zone: draft.zone.unwrap_or(utc()),
         exclusive: draft.exclusive,
         log_lines: draft.log_lines,
         performs: draft.performs,
         binds: draft.binds,
     }
+}
+
+// A clock that shows UTC.
+fn utc() -> Zone
+    ensures { result ≡ utc }
+{
+    Zone::fixed(0).unwrap()
 }

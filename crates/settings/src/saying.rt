@@ -2,16 +2,17 @@
 ghost use Rattle.std.specs.Prelude.{◌≡◌, IfOk};
 ghost use Rattle.std.specs.List.{list_all};
 ghost use Rattle.settings.specs.Grammar.{account_said, bind_said, bot_numbered, bot_of, bot_said, channel_said, data_said, ends_in_return};
-ghost use Rattle.settings.specs.Grammar.{exclusive_said, has_mark, hub_said, is_shown, listen_said, log_said, nick_said, offset_said};
-ghost use Rattle.settings.specs.Grammar.{pass_of, perform_said, said_of, saying_by_words, saying_of, secret_said, server_said};
+ghost use Rattle.settings.specs.Grammar.{exclusive_said, has_mark, hub_said, is_shown, listen_said, log_said, nick_said};
+ghost use Rattle.settings.specs.Grammar.{pass_of, perform_said, said_of, saying_by_words, saying_of, secret_said, server_said, zone_said};
 
 use crate::advice::Advice;
 use crate::cutting::{after_spaces, cut_word};
 use crate::names::is_nick;
-use crate::numeral::{number, offset, port};
+use crate::numeral::{number, port};
 use crate::settings::{Account, Address, BindWords, Server, Station};
 use crate::word::Word;
 use crate::{MAX_LEAVES, MAX_LINE};
+use bottimers::Zone;
 use bytetext::{NoMemory, Text};
 use rfccase::is_channel_name;
 use std::alloc::Global;
@@ -43,14 +44,14 @@ pub enum Saying {
     LogLines,
     /// The bot's nick.
     Nick(Text),
-    /// How far its clock is ahead.
-    Offset(i32),
     /// A line for the server.
     Perform(Text),
     /// The file of what both ends of the link know.
     Secret(Text),
     /// A server to try.
     Server(Server),
+    /// How far its clock is ahead of UTC at each moment.
+    Zone(Zone),
 }
 
 /// What a line says.
@@ -124,10 +125,10 @@ fn said_of(alloc: Global, word: Option<Word>, rest: &[u8]) -> Result<Saying, NoM
         Word::Listen => listen_said(alloc, rest),
         Word::Log => Ok(log_said(rest)),
         Word::Nick => nick_said(alloc, rest),
-        Word::Offset => Ok(offset_said(rest)),
         Word::Perform => perform_said(alloc, rest),
         Word::Secret => secret_said(alloc, rest),
         Word::Server => server_said(alloc, rest),
+        Word::Zone => Ok(zone_said(rest)),
     }
 }
 
@@ -176,19 +177,6 @@ fn channel_said(alloc: Global, rest: &[u8]) -> Result<Saying, NoMemory>
         return Ok(Saying::Wrong(Advice::Form(Word::Channel)));
     }
     Ok(Saying::Channel(Text::from_slice(alloc, cut.word)?))
-}
-
-fn offset_said(rest: &[u8]) -> Saying
-    ensures { result ≡ offset_said rest.now }
-{
-    let cut = cut_word(rest);
-    if !cut.rest.is_empty() {
-        return Saying::Wrong(Advice::Form(Word::Offset));
-    }
-    match offset(cut.word) {
-        Some(minutes) => Saying::Offset(minutes),
-        None => Saying::Wrong(Advice::Form(Word::Offset)),
-    }
 }
 
 fn exclusive_said(rest: &[u8]) -> Saying
@@ -301,6 +289,19 @@ fn server_said(alloc: Global, rest: &[u8]) -> Result<Saying, NoMemory>
     let pass = pass_of(alloc, numeral.rest)?;
     let address = Address { host, port };
     Ok(Saying::Server(Server { address, pass }))
+}
+
+fn zone_said(rest: &[u8]) -> Saying
+    ensures { result ≡ zone_said rest.now }
+{
+    let cut = cut_word(rest);
+    if !cut.rest.is_empty() {
+        return Saying::Wrong(Advice::Form(Word::Zone));
+    }
+    match Zone::posix(cut.word) {
+        Ok(zone) => Saying::Zone(zone),
+        Err(_) => Saying::Wrong(Advice::Form(Word::Zone)),
+    }
 }
 
 // A PASS; none where it is left out.

@@ -1,4 +1,5 @@
 // What a configuration file says.
+use bottimers::Zone;
 use bytetext::{Seq, Text, Texts};
 
 /// What a configuration file says.
@@ -22,8 +23,8 @@ pub struct Settings {
     pub secret: Option<Text>,
     /// Whom it authenticates as.
     pub account: Option<Account>,
-    /// How many whole minutes its clock is ahead of UTC, -1,439 to 1,439.
-    pub offset: i32,
+    /// How far its clock is ahead of UTC at each moment.
+    pub zone: Zone,
     /// Whether a text for which a `msgm` or `pubm` proc was called is no event for `msg` or `pub` binds.
     pub exclusive: bool,
     /// Whether each line from and to the server is logged.

@@ -25,14 +25,14 @@ pub enum Word {
     Log,
     /// The bot's nick.
     Nick,
-    /// How far its clock is ahead of UTC.
-    Offset,
     /// A line for the server.
     Perform,
     /// The file of what both ends of the link know.
     Secret,
     /// A server to try.
     Server,
+    /// How far its clock is ahead of UTC at each moment.
+    Zone,
 }
 
 // Every word.
@@ -47,10 +47,10 @@ const ALL: [Word; 14] = [
     Word::Listen,
     Word::Log,
     Word::Nick,
-    Word::Offset,
     Word::Perform,
     Word::Secret,
     Word::Server,
+    Word::Zone,
 ];
 
 impl Word {
@@ -69,10 +69,10 @@ impl Word {
             Word::Listen => "listen",
             Word::Log => "log",
             Word::Nick => "nick",
-            Word::Offset => "offset",
             Word::Perform => "perform",
             Word::Secret => "secret",
             Word::Server => "server",
+            Word::Zone => "zone",
         }
     }
 

@@ -1,0 +1,28 @@
+-- The disks of a bot's folder.
+use Rattle.std.specs.Prelude.{◌≡◌, [], pos, ◌≤ℤ◌}
+use Rattle.storage.specs.State.{IsSettled}
+use Rattle.disks.specs.Memory.{state_of}
+use Rattle.disks.specs.Files.{FileState, IsKept}
+use Rattle.disks.specs.declared.pair.Pair.{Pair}
+use Rattle.botfolder.specs.declared.begun.Begun.{Begun}
+use Rattle.botfolder.specs.declared.begun.Begun.TheVariants.{Found, Empty}
+use Rattle.botfolder.specs.declared.stopped.Stopped.{Stopped}
+
+-- nothing is pending on the disk, its file was told all of it and brought to its device, and is no standard stream's
+abbrev pub IsReady : FileState → Type 0
+IsReady disk = IsSettled (state_of disk.mirror) × IsKept disk × (pos 3 ≤ℤ disk.file.descriptor)
+
+abbrev pub AreReady : Pair → Type 0
+AreReady disks = IsReady disks.first × IsReady disks.second
+
+abbrev pub AreEmpty : Pair → Type 0
+AreEmpty disks = (disks.first.mirror.content ≡ []) × (disks.second.mirror.content ≡ [])
+
+-- the disks on which a journal is to be made are empty
+abbrev pub IsBegun : Begun → Type 0
+IsBegun (Found disks) = AreReady disks
+IsBegun (Empty disks) = AreReady disks × AreEmpty disks
+
+-- nothing is pending on the copies
+abbrev pub AreCopies : Stopped → Type 0
+AreCopies copies = IsSettled (state_of copies.first) × IsSettled (state_of copies.second)

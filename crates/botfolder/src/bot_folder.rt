@@ -1,0 +1,241 @@
+// A folder that this program has taken.
+ghost use Rattle.std.specs.Prelude.{IfOk};
+ghost use Rattle.botfolder.specs.Folders.{AreEmpty, AreReady, IsBegun, IsReady};
+
+use crate::begun::Begun;
+use crate::fault::{FolderError, FolderFault, folder_error};
+use crate::paths::{
+    JOURNAL, JOURNAL_FIRST, JOURNAL_SECOND, LOCK, MAX_PATH, NEW, NEW_FIRST, NEW_SECOND, below,
+    control_of,
+};
+use bytetext::Failure;
+use disks::{FileDisk, Pair, make_folder, rename_folder};
+use std::fs;
+use std::fs::File;
+use std::io::ErrorKind;
+use std::os::unix::fs::MetadataExt;
+use std::rt::Files;
+use storage::Disk;
+
+/// A bot's folder that this program has taken: no other program can, while this lives. It has to live as long as the
+/// bot.
+pub struct BotFolder {
+    path: String,
+    control: String,
+    // An empty disk, whose file's lock is the folder's.
+    lock: FileDisk,
+}
+
+// By hand, so that this is proved once, and not in each crate in which a folder is left.
+impl Drop for BotFolder {
+    fn drop(self) {
+        let BotFolder {
+            path: _,
+            control: _,
+            lock: _,
+        } = self;
+    }
+}
+
+impl BotFolder {
+    /// Takes a folder for this program alone. It is made where it is missing, for its owner alone (mode 700), and its
+    /// name is brought to its device.
+    ///
+    /// # Errors
+    /// `LongName`, `NoParent`, `Unusable`, `LetsOthersIn`, `InUse` and `DiskFails` as they say; `NoMemory` where
+    /// memory is refused. The folder may have been made, and a file `lock` in it.
+    pub fn take<R: AllocGlobal + Files<File = File>>(
+        rt: &R,
+        folder: &str,
+    ) -> Result<BotFolder, FolderError> {
+        if folder.len() > MAX_PATH {
+            return Err(Failure::Refused(FolderFault::LongName));
+        }
+        match make_folder(rt, folder) {
+            Ok(()) => {}
+            Err(error) => return Err(folder_error(error, FolderFault::NoParent)),
+        }
+        keep_others_out(rt, folder)?;
+        let lock = disk_of(rt, folder, LOCK)?;
+        Ok(BotFolder {
+            path: String::from_str(rt.alloc(), folder)?,
+            control: control_of(rt.alloc(), folder)?,
+            lock,
+        })
+    }
+
+    /// The folder's name, as it was given.
+    pub fn path(&self) -> &str {
+        self.path.as_str()
+    }
+
+    /// Where its bot takes commands.
+    pub fn control(&self) -> &str {
+        self.control.as_str()
+    }
+
+    /// The disks of its journal where one was made, and else two empty ones on which to make it. What a making left
+    /// that was stopped is taken away.
+    ///
+    /// # Errors
+    /// `Unusable`, `InUse`, `LacksFile` and `DiskFails` as they say; `NoMemory` where memory is refused. A journal is
+    /// as it was.
+    pub fn begin<R: AllocGlobal + Files<File = File>>(&self, rt: &R) -> Result<Begun, FolderError>
+        ensures { IfOk result IsBegun }
+    {
+        if is_there(rt, self.path(), JOURNAL)? {
+            let disks = found_disks(rt, self.path())?;
+            let _left = clear_new(rt, self.path());
+            Ok(Begun::Found(disks))
+        } else {
+            Ok(Begun::Empty(empty_disks(rt, self.path())?))
+        }
+    }
+
+    /// The journal on the empty disks of `begin` was made whole: from now on, whatever crash comes, it is found. The
+    /// disks go on in their files.
+    ///
+    /// # Errors
+    /// `Unusable` and `DiskFails` as they say, `InUse` where a journal is there already; `NoMemory` where memory is
+    /// refused. The journal may be found or not: nothing is to be told of the bot, and the program to be ended.
+    pub fn finish<R: AllocGlobal + Files<File = File>>(&self, rt: &R) -> Result<(), FolderError> {
+        let new = below(rt.alloc(), self.path(), NEW)?;
+        let journal = below(rt.alloc(), self.path(), JOURNAL)?;
+        match rename_folder(rt, new.as_str(), journal.as_str()) {
+            Ok(()) => Ok(()),
+            Err(error) => Err(folder_error(error, FolderFault::Unusable)),
+        }
+    }
+
+    /// Takes the socket away that a bot left which was killed, so that a new one can be made there.
+    ///
+    /// # Errors
+    /// `Unusable` where it can't be removed.
+    pub fn clear_control<R: Files>(&self, rt: &R) -> Result<(), FolderError> {
+        remove(rt, self.control())
+    }
+}
+
+// Refuses a folder that others may enter: they could tell its bot what to do.
+fn keep_others_out<R: Files>(rt: &R, folder: &str) -> Result<(), FolderError> {
+    match fs::metadata(rt, folder) {
+        Ok(found) => {
+            if found.is_dir() && found.mode() & 0o011 == 0 {
+                Ok(())
+            } else if found.is_dir() {
+                Err(Failure::Refused(FolderFault::LetsOthersIn))
+            } else {
+                Err(Failure::Refused(FolderFault::Unusable))
+            }
+        }
+        Err(_) => Err(Failure::Refused(FolderFault::Unusable)),
+    }
+}
+
+// Whether a folder holds something of this name.
+pub(crate) fn is_there<R: AllocGlobal + Files<File = File>>(
+    rt: &R,
+    folder: &str,
+    name: &str,
+) -> Result<bool, FolderError> {
+    let path = below(rt.alloc(), folder, name)?;
+    match fs::exists(rt, path.as_str()) {
+        Ok(is_there) => Ok(is_there),
+        Err(_) => Err(Failure::Refused(FolderFault::Unusable)),
+    }
+}
+
+// The disks of the journal that is there.
+fn found_disks<R: AllocGlobal + Files<File = File>>(
+    rt: &R,
+    folder: &str,
+) -> Result<Pair, FolderError>
+    ensures { IfOk result AreReady }
+{
+    let first = found_disk(rt, folder, JOURNAL_FIRST)?;
+    let second = found_disk(rt, folder, JOURNAL_SECOND)?;
+    Ok(Pair { first, second })
+}
+
+// The disk in a file that is to be there.
+fn found_disk<R: AllocGlobal + Files<File = File>>(
+    rt: &R,
+    folder: &str,
+    name: &str,
+) -> Result<FileDisk, FolderError>
+    ensures { IfOk result IsReady }
+{
+    let path = below(rt.alloc(), folder, name)?;
+    match FileDisk::open(rt, path.as_str()) {
+        Ok(disk) => Ok(disk),
+        Err(error) => Err(folder_error(error, FolderFault::LacksFile)),
+    }
+}
+
+// The disk in a file that is made where it is missing.
+fn disk_of<R: AllocGlobal + Files<File = File>>(
+    rt: &R,
+    folder: &str,
+    name: &str,
+) -> Result<FileDisk, FolderError>
+    ensures { IfOk result IsReady }
+{
+    let path = below(rt.alloc(), folder, name)?;
+    match FileDisk::make(rt, path.as_str()) {
+        Ok(disk) => Ok(disk),
+        Err(error) => Err(folder_error(error, FolderFault::Unusable)),
+    }
+}
+
+// New disks in place of what a making left that was stopped.
+fn empty_disks<R: AllocGlobal + Files<File = File>>(
+    rt: &R,
+    folder: &str,
+) -> Result<Pair, FolderError>
+    ensures ready { IfOk result AreReady }
+    ensures empty { IfOk result AreEmpty }
+{
+    let new = below(rt.alloc(), folder, NEW)?;
+    match make_folder(rt, new.as_str()) {
+        Ok(()) => {}
+        Err(error) => return Err(folder_error(error, FolderFault::Unusable)),
+    }
+    remove_below(rt, folder, NEW_FIRST)?;
+    remove_below(rt, folder, NEW_SECOND)?;
+    let first = disk_of(rt, folder, NEW_FIRST)?;
+    let second = disk_of(rt, folder, NEW_SECOND)?;
+    if first.len() > 0 || second.len() > 0 {
+        return Err(Failure::Refused(FolderFault::Unusable));
+    }
+    Ok(Pair { first, second })
+}
+
+// Takes away what a making left, beside the journal of a later one.
+fn clear_new<R: AllocGlobal + Files<File = File>>(rt: &R, folder: &str) -> Result<(), FolderError> {
+    remove_below(rt, folder, NEW_FIRST)?;
+    remove_below(rt, folder, NEW_SECOND)?;
+    let new = below(rt.alloc(), folder, NEW)?;
+    let _gone = fs::remove_dir(rt, new.as_str());
+    Ok(())
+}
+
+// Removes the file of this name, where there is one.
+fn remove_below<R: AllocGlobal + Files<File = File>>(
+    rt: &R,
+    folder: &str,
+    name: &str,
+) -> Result<(), FolderError> {
+    let path = below(rt.alloc(), folder, name)?;
+    remove(rt, path.as_str())
+}
+
+// Removes a file, where there is one.
+fn remove<R: Files>(rt: &R, path: &str) -> Result<(), FolderError> {
+    match fs::remove_file(rt, path) {
+        Ok(()) => Ok(()),
+        Err(error) => match error.kind() {
+            ErrorKind::NotFound => Ok(()),
+            _ => Err(Failure::Refused(FolderFault::Unusable)),
+        },
+    }
+}

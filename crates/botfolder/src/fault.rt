@@ -1,0 +1,53 @@
+// Why a folder can't be used.
+use bytetext::Failure;
+use disks::{FileDiskError, FileFault};
+use thiserror::Error;
+
+/// Why a folder can't be a bot's. Each text goes on from the folder's name: `/var/lib/eggnet/egg1 is in use: ..`.
+#[derive(Clone, Copy, Debug, PartialEq, Eq, Error)]
+pub enum FolderFault {
+    /// Its name is so long that no socket can be made in it.
+    #[error("has a name of more than 99 bytes: give it a shorter one")]
+    LongName,
+    /// The folder above it is missing.
+    #[error("can't be made: make the folder above it first")]
+    NoParent,
+    /// It is no folder, or it or what is in it can't be made, opened, read or removed.
+    #[error("can't be used: give a folder that this user may read and write")]
+    Unusable,
+    /// Its mode lets others enter it.
+    #[error("lets others in: take their right to enter it away, as chmod 700 does")]
+    LetsOthersIn,
+    /// Another program holds its lock, or that of a disk.
+    #[error("is in use: end the bot that runs on it")]
+    InUse,
+    /// A file of its journal is missing.
+    #[error("holds a journal that lacks a file: bring back journal/first and journal/second")]
+    LacksFile,
+    /// No journal was made in it.
+    #[error("holds no bot: give the folder of one")]
+    NoBot,
+    /// A file or a name could not be brought to its device.
+    #[error("lies on a disk that fails: free space or mend it, then run again")]
+    DiskFails,
+}
+
+/// Why a folder can't be a bot's, or want of memory.
+pub type FolderError = Failure<FolderFault>;
+
+// What a file's fault means of the folder; `missing` is what it means that a file or folder is missing.
+pub(crate) fn folder_error(error: FileDiskError, missing: FolderFault) -> FolderError {
+    match error {
+        Failure::NoMemory => Failure::NoMemory,
+        Failure::Refused(fault) => Failure::Refused(folder_fault(fault, missing)),
+    }
+}
+
+fn folder_fault(fault: FileFault, missing: FolderFault) -> FolderFault {
+    match fault {
+        FileFault::Missing => missing,
+        FileFault::InUse => FolderFault::InUse,
+        FileFault::Unreadable => FolderFault::Unusable,
+        FileFault::NotKept => FolderFault::DiskFails,
+    }
+}

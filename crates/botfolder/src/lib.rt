@@ -1,0 +1,44 @@
+//! The folder of a bot: one bot at a time, and a journal that is there whole or not at all.
+//!
+//! ```text
+//! FOLDER            mode 700: who may enter it may tell the bot what to do
+//!   lock            an empty file, locked while a bot runs on the folder
+//!   journal/        first and second, the two disks of the bot's journal
+//!   new/            the same while they are made
+//!   control         a socket, at which the running bot takes commands
+//! ```
+//!
+//! [`BotFolder::take`] makes the folder where it is missing, and locks it. [`BotFolder::begin`] gives the disks of
+//! its journal, or where none was made yet two empty ones in `new`; once a bot was made on them [`BotFolder::finish`]
+//! renames `new` to `journal`. A program that ends before that, at any moment, leaves a folder in which the next
+//! start begins anew, and nobody was told anything of a bot. One that ends later leaves the journal.
+//!
+//! ```text
+//! let folder = BotFolder::take(rt, "/var/lib/eggnet/egg1")?;
+//! let bot = match folder.begin(rt)? {
+//!     Begun::Found(disks) => Bot::open(alloc, config, disks.first, disks.second)?,
+//!     Begun::Empty(disks) => {
+//!         let bot = Bot::create(alloc, config, disks.first, disks.second)?;
+//!         folder.finish(rt)?;
+//!         bot
+//!     }
+//! };
+//! folder.clear_control(rt)?;
+//! // listen at folder.control()
+//! ```
+//!
+//! The lock is freed when the program ends, however it ends. [`read_stopped`] reads the journal of a bot that does
+//! not run, and leaves the folder as it is.
+#![tactic(auto)]
+
+mod begun;
+mod bot_folder;
+mod fault;
+mod paths;
+mod stopped;
+
+pub use crate::begun::Begun;
+pub use crate::bot_folder::BotFolder;
+pub use crate::fault::{FolderError, FolderFault};
+pub use crate::paths::{MAX_PATH, control_of};
+pub use crate::stopped::{Stopped, read_stopped};

@@ -1,0 +1,37 @@
+// What stands where in a folder.
+use bytetext::NoMemory;
+use std::alloc::Global;
+
+/// The most bytes of a folder's name: with `/control` behind it, it is a socket's, and the system takes 107 bytes of
+/// one.
+pub const MAX_PATH: usize = 99;
+
+// The file that is locked.
+pub(crate) const LOCK: &str = "lock";
+
+// The journal, and its two files.
+pub(crate) const JOURNAL: &str = "journal";
+
+pub(crate) const JOURNAL_FIRST: &str = "journal/first";
+
+pub(crate) const JOURNAL_SECOND: &str = "journal/second";
+
+// The same while they are made.
+pub(crate) const NEW: &str = "new";
+
+pub(crate) const NEW_FIRST: &str = "new/first";
+
+pub(crate) const NEW_SECOND: &str = "new/second";
+
+// The path of what has this name in a folder.
+pub(crate) fn below(alloc: Global, folder: &str, name: &str) -> Result<String, NoMemory> {
+    Ok(format!(in alloc; "{folder}/{name}")?)
+}
+
+/// Where the bot that runs on a folder takes commands.
+///
+/// # Errors
+/// `NoMemory` where room for the path is refused.
+pub fn control_of(alloc: Global, folder: &str) -> Result<String, NoMemory> {
+    below(alloc, folder, "control")
+}

@@ -1,0 +1,3 @@
+pub mod Vocabulary
+pub mod Reading
+pub mod Answering

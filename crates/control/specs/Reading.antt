@@ -1,0 +1,122 @@
+-- What a command asks for, or what to say instead.
+use Rattle.std.specs.Prelude.{◌≡◌, ℕ, ◌==◌, ◌||◌, nat_lt, Bool, List, [], ◌∷◌, length, Option, None, Some, unwrap_or, Result, Ok, Err, if◌then◌else◌}
+use Rattle.std.specs.List.{list_any}
+use Rattle.bytetext.specs.declared.failure.Failure.{Failure}
+use Rattle.bytetext.specs.declared.failure.Failure.TheVariants.{Refused, NoMemory}
+use Rattle.userfile.specs.declared.change.Change.{Change}
+use Rattle.scriptwords.specs.Words.{words_of, is_empty, rest_of}
+use Rattle.scriptwords.specs.Changes.{change_named}
+use Rattle.control.specs.declared.TheConstants.{MAX_COMMAND, MAX_LINE}
+use Rattle.control.specs.declared.word.Word.{Word}
+use Rattle.control.specs.declared.word.Word.TheVariants as word
+use Rattle.control.specs.declared.advice.Advice.{Advice}
+use Rattle.control.specs.declared.advice.Advice.TheVariants.{TooLong, BareByte, Unknown, Form}
+use Rattle.control.specs.declared.command.Command.{Command}
+use Rattle.control.specs.declared.command.Command.TheVariants as command
+use Rattle.control.specs.Vocabulary.{word_named}
+
+-- ---- what follows each word
+
+-- a word that stands alone
+abbrev pub alone : Word → List (List ℕ) → Command → Result Command Advice
+alone name [] asked = Ok asked
+alone name (w ∷ words) asked = Err (Form name)
+
+-- a change by its name and words
+abbrev pub change_found : Word → Option Change → Result Command Advice
+change_found name None = Err (Form name)
+change_found name (Some change) = Ok (command.Change change)
+
+abbrev pub change_said : Word → List ℕ → List (List ℕ) → Result Command Advice
+change_said name spelling words = change_found name (change_named spelling words)
+
+-- bind TYPE FLAGS PROC MASK: the mask takes the rest of the line
+abbrev pub bound : List ℕ → List ℕ → List ℕ → Option (List ℕ) → Result Command Advice
+bound kind flags proc None = Err (Form word.Bind)
+bound kind flags proc (Some mask) =
+    if is_empty kind || is_empty flags || is_empty proc then Err (Form word.Bind)
+    else Ok (command.Bind (record { kind = kind; flags = flags; proc = proc; mask = mask }))
+
+abbrev pub bind_said : List (List ℕ) → Result Command Advice
+bind_said (kind ∷ flags ∷ proc ∷ mask ∷ words) = bound kind flags proc (rest_of (mask ∷ words))
+bind_said (kind ∷ flags ∷ proc ∷ []) = Err (Form word.Bind)
+bind_said (kind ∷ flags ∷ []) = Err (Form word.Bind)
+bind_said (kind ∷ []) = Err (Form word.Bind)
+bind_said [] = Err (Form word.Bind)
+
+-- unbind TYPE PROC MASK
+abbrev pub unbound : List ℕ → List ℕ → Option (List ℕ) → Result Command Advice
+unbound kind proc None = Err (Form word.Unbind)
+unbound kind proc (Some mask) =
+    if is_empty kind || is_empty proc then Err (Form word.Unbind)
+    else Ok (command.Unbind (record { kind = kind; proc = proc; mask = mask }))
+
+abbrev pub unbind_said : List (List ℕ) → Result Command Advice
+unbind_said (kind ∷ proc ∷ mask ∷ words) = unbound kind proc (rest_of (mask ∷ words))
+unbind_said (kind ∷ proc ∷ []) = Err (Form word.Unbind)
+unbind_said (kind ∷ []) = Err (Form word.Unbind)
+unbind_said [] = Err (Form word.Unbind)
+
+-- say LINE: as long as a line of IRC may be
+abbrev pub said : Option (List ℕ) → Result Command Advice
+said None = Err (Form word.Say)
+said (Some line) = if nat_lt MAX_LINE (length line) then Err (Form word.Say) else Ok (command.Say line)
+
+abbrev pub say_said : List (List ℕ) → Result Command Advice
+say_said [] = Err (Form word.Say)
+say_said (w ∷ words) = said (rest_of (w ∷ words))
+
+-- die TEXT, which may be left out
+abbrev pub die_text : Option (List ℕ) → List ℕ
+die_text None = []
+die_text (Some text) = text
+
+abbrev pub die_said : List (List ℕ) → Result Command Advice
+die_said [] = Ok (command.Die [])
+die_said (w ∷ words) = Ok (command.Die (die_text (rest_of (w ∷ words))))
+
+-- ---- a line
+
+abbrev pub said_of : Option Word → List ℕ → List (List ℕ) → Result Command Advice
+said_of None spelling words = Err Unknown
+said_of (Some word.AddBan) spelling words = change_said word.AddBan spelling words
+said_of (Some word.AddHost) spelling words = change_said word.AddHost spelling words
+said_of (Some word.AddUser) spelling words = change_said word.AddUser spelling words
+said_of (Some word.Bind) spelling words = bind_said words
+said_of (Some word.Bot) spelling words = change_said word.Bot spelling words
+said_of (Some word.Chan) spelling words = change_said word.Chan spelling words
+said_of (Some word.Compact) spelling words = alone word.Compact words command.Compact
+said_of (Some word.DelBan) spelling words = change_said word.DelBan spelling words
+said_of (Some word.DelHost) spelling words = change_said word.DelHost spelling words
+said_of (Some word.DelUser) spelling words = change_said word.DelUser spelling words
+said_of (Some word.Die) spelling words = die_said words
+said_of (Some word.Global) spelling words = change_said word.Global spelling words
+said_of (Some word.Jump) spelling words = alone word.Jump words command.Jump
+said_of (Some word.Say) spelling words = say_said words
+said_of (Some word.Show) spelling words = alone word.Show words command.Show
+said_of (Some word.Status) spelling words = alone word.Status words command.Status
+said_of (Some word.Unbind) spelling words = unbind_said words
+
+-- the first word says what is asked for
+abbrev pub command_by_words : List (List ℕ) → Result Command Advice
+command_by_words [] = Err Unknown
+command_by_words (name ∷ words) = said_of (word_named name) name words
+
+-- NUL, LF and CR stand in no line of IRC
+abbrev pub is_bare : ℕ → Bool
+is_bare b = b == 0 || b == 10 || b == 13
+
+-- what a line asks for
+abbrev pub command_of : List ℕ → Result Command Advice
+command_of line =
+    if nat_lt MAX_COMMAND (length line) then Err TooLong
+    else if list_any is_bare line then Err BareByte
+    else command_by_words (words_of line)
+
+-- ---- what reading answers
+
+-- this is what is to be answered, unless memory runs out
+abbrev pub Answers : Result Command Advice → Result Command (Failure Advice) → Type 0
+Answers asked (Ok found) = asked ≡ Ok found
+Answers asked (Err (Refused advice)) = asked ≡ Err advice
+Answers asked (Err NoMemory) = Unit {0}

@@ -1,0 +1,34 @@
+-- The first words of commands, as operators spell them.
+use Rattle.std.specs.Prelude.{ℕ, List, [], ◌∷◌, Option, find, codes}
+use Rattle.std.specs.Str.{bytes_eq}
+use Rattle.control.specs.declared.word.Word.{Word}
+use Rattle.control.specs.declared.word.Word.TheVariants.{AddBan, AddHost, AddUser, Bind, Bot, Chan, Compact, DelBan, DelHost}
+use Rattle.control.specs.declared.word.Word.TheVariants.{DelUser, Die, Global, Jump, Say, Show, Status, Unbind}
+
+abbrev pub spelling_of : Word → List ℕ
+spelling_of AddBan = codes "addban"
+spelling_of AddHost = codes "addhost"
+spelling_of AddUser = codes "adduser"
+spelling_of Bind = codes "bind"
+spelling_of Bot = codes "bot"
+spelling_of Chan = codes "chan"
+spelling_of Compact = codes "compact"
+spelling_of DelBan = codes "delban"
+spelling_of DelHost = codes "delhost"
+spelling_of DelUser = codes "deluser"
+spelling_of Die = codes "die"
+spelling_of Global = codes "global"
+spelling_of Jump = codes "jump"
+spelling_of Say = codes "say"
+spelling_of Show = codes "show"
+spelling_of Status = codes "status"
+spelling_of Unbind = codes "unbind"
+
+abbrev pub all_words : List Word
+all_words =
+    AddBan ∷ AddHost ∷ AddUser ∷ Bind ∷ Bot ∷ Chan ∷ Compact ∷ DelBan ∷ DelHost ∷ DelUser ∷ Die ∷ Global ∷ Jump ∷ Say ∷ Show ∷ Status ∷
+    Unbind ∷ []
+
+-- the word that is spelled so: no two are spelled alike
+abbrev pub word_named : List ℕ → Option Word
+word_named spelling = find (λ word. bytes_eq (spelling_of word) spelling) all_words

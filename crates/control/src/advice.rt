@@ -1,0 +1,60 @@
+// What to say instead of a command that is not understood.
+use crate::word::Word;
+use bytetext::Failure;
+use std::fmt;
+use std::fmt::Display;
+
+/// What to say instead of a command that is not understood, in the order in which it is looked for.
+#[derive(Clone, Copy, Debug, PartialEq, Eq)]
+pub enum Advice {
+    /// It has more than 600 bytes.
+    TooLong,
+    /// A NUL, a line feed or a carriage return stands in it.
+    BareByte,
+    /// The first word is none that there is.
+    Unknown,
+    /// The line is not formed as this word wants it.
+    Form(Word),
+}
+
+/// Why a line is no command: what to say instead, or else a growth was refused.
+pub type CommandError = Failure<Advice>;
+
+impl Display for Advice {
+    fn fmt<W: fmt::Write>(&self, f: &mut fmt::Formatter<W>) -> fmt::Result {
+        match *self {
+            Advice::TooLong => write!(f, "say at most 600 bytes"),
+            Advice::BareByte => write!(f, "say it in one line, without a carriage return or NUL"),
+            Advice::Unknown => write!(
+                f,
+                "begin with addban, addhost, adduser, bind, bot, chan, compact, delban, delhost, deluser, die, global, \
+                 jump, say, show, status or unbind"
+            ),
+            Advice::Form(word) => write!(f, "{}", form_of(word)),
+        }
+    }
+}
+
+// How a command of this word is formed.
+fn form_of(word: Word) -> &'static str {
+    match word {
+        Word::AddBan =>
+            "say addban CHANNEL MASK HANDLE EXPIRY COMMENT, as in addban #egg *!*@spam.example alice 0 no spam here",
+        Word::AddHost => "say addhost HANDLE MASK, as in addhost alice *!*alice@host.example",
+        Word::AddUser => "say adduser HANDLE, as in adduser alice",
+        Word::Bind => "say bind TYPE FLAGS PROC MASK, as in bind pub - echo !echo",
+        Word::Bot => "say bot HANDLE FLAGS, as in bot egg1 s",
+        Word::Chan => "say chan HANDLE CHANNEL FLAGS, as in chan alice #egg o",
+        Word::Compact => "say compact alone",
+        Word::DelBan => "say delban CHANNEL MASK, as in delban #egg *!*@spam.example",
+        Word::DelHost => "say delhost HANDLE MASK, as in delhost alice *!*alice@host.example",
+        Word::DelUser => "say deluser HANDLE, as in deluser alice",
+        Word::Die => "say die, and what the server is told after it, as in die back soon",
+        Word::Global => "say global HANDLE FLAGS, as in global alice o",
+        Word::Jump => "say jump alone",
+        Word::Say => "say say LINE, of at most 510 bytes, as in say PRIVMSG #egg :hello",
+        Word::Show => "say show alone",
+        Word::Status => "say status alone",
+        Word::Unbind => "say unbind TYPE PROC MASK, as in unbind pub echo !echo",
+    }
+}

@@ -1,0 +1,99 @@
+// The first words of commands.
+ghost use Rattle.std.specs.Prelude.{◌≡◌};
+ghost use Rattle.control.specs.Vocabulary.{spelling_of, word_named};
+
+/// The first word of a command.
+#[derive(Clone, Copy, Debug, PartialEq, Eq)]
+pub enum Word {
+    /// A ban is added.
+    AddBan,
+    /// A hostmask is added to a user.
+    AddHost,
+    /// A user is added.
+    AddUser,
+    /// A bind is made.
+    Bind,
+    /// A user's flags as a bot are set.
+    Bot,
+    /// A user's flags on a channel are set.
+    Chan,
+    /// The journal is written anew.
+    Compact,
+    /// A ban is taken away.
+    DelBan,
+    /// A hostmask is taken away from a user.
+    DelHost,
+    /// A user is taken away.
+    DelUser,
+    /// The bot ends.
+    Die,
+    /// A user's global flags are set.
+    Global,
+    /// The bot leaves its server for the next.
+    Jump,
+    /// The server is told a line.
+    Say,
+    /// The records are shown.
+    Show,
+    /// It is shown how the bot is.
+    Status,
+    /// A bind is taken away.
+    Unbind,
+}
+
+// Every word.
+const ALL: [Word; 17] = [
+    Word::AddBan,
+    Word::AddHost,
+    Word::AddUser,
+    Word::Bind,
+    Word::Bot,
+    Word::Chan,
+    Word::Compact,
+    Word::DelBan,
+    Word::DelHost,
+    Word::DelUser,
+    Word::Die,
+    Word::Global,
+    Word::Jump,
+    Word::Say,
+    Word::Show,
+    Word::Status,
+    Word::Unbind,
+];
+
+impl Word {
+    /// As operators spell it.
+    pub fn spelling(self) -> &'static str
+        ensures { result.now ≡ spelling_of self }
+    {
+        match self {
+            Word::AddBan => "addban",
+            Word::AddHost => "addhost",
+            Word::AddUser => "adduser",
+            Word::Bind => "bind",
+            Word::Bot => "bot",
+            Word::Chan => "chan",
+            Word::Compact => "compact",
+            Word::DelBan => "delban",
+            Word::DelHost => "delhost",
+            Word::DelUser => "deluser",
+            Word::Die => "die",
+            Word::Global => "global",
+            Word::Jump => "jump",
+            Word::Say => "say",
+            Word::Show => "show",
+            Word::Status => "status",
+            Word::Unbind => "unbind",
+        }
+    }
+
+    /// The word that is spelled so, byte for byte.
+    pub fn named(spelling: &[u8]) -> Option<Word>
+        ensures { result ≡ word_named spelling.now }
+    {
+        ALL.iter()
+            .copied()
+            .find(|word| word.spelling().as_bytes() == spelling)
+    }
+}

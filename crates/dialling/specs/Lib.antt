@@ -1,0 +1,3 @@
+pub mod Dials
+pub mod Addresses
+pub mod Turns

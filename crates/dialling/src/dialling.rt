@@ -1,0 +1,154 @@
+// Which server is tried, and when.
+ghost use Rattle.std.specs.Prelude.{◌<◌, ℕ};
+ghost use Rattle.dialling.specs.Dials.{Dials};
+ghost use Rattle.dialling.specs.Turns.{IsTriedSoon};
+
+use crate::address::{DialFault, address_of};
+use mio::Registry;
+use redial::Redial;
+use sockets::TcpSocket;
+use std::marker::Model;
+use std::net::{Net, SocketAddr};
+
+/// Which server of a list is tried next, or is connected, and when the next try is due. Contracts see it as a
+/// `Rattle.dialling.specs.Dials.Dials`.
+#[derive(Drop)]
+pub struct Dialling {
+    servers: usize,
+    place: usize,
+    round: u64,
+    is_good: bool,
+    redial: Redial,
+}
+
+impl Model for Dialling {
+    ghost use Rattle.std.specs.Prelude.{◌<◌, ℕ};
+    ghost use Rattle.dialling.specs.Dials.{Dials};
+
+    ghost Value = { Dials };
+
+    ghost view = { λ d. record {
+      servers = d.servers;
+      place = d.place;
+      round = d.round;
+      good = d.is_good;
+      waits = d.redial;
+    } };
+
+    ghost invariant = { λ d. d.place < d.servers };
+}
+
+/// A connection that was begun, and to which address.
+#[derive(Drop)]
+pub struct Dialled {
+    /// The connection, which may still come to nothing.
+    pub socket: TcpSocket,
+    /// Where it leads.
+    pub address: SocketAddr,
+}
+
+impl Dialling {
+    ghost use Rattle.std.specs.Prelude.{◌≡◌, ◌≤◌, ◌+◌, ◌↔◌, IsTrue, true, false};
+    ghost use Rattle.bytetext.specs.declared.moment.TheConstants.{MOMENTS_END};
+    ghost use Rattle.redial.specs.declared.redial.TheConstants.{FIRST_WAIT};
+    ghost use Rattle.dialling.specs.Dials.{good, lost};
+
+    /// The first of so many servers is to be tried, at once. `number` is the bot's, and `most` the longest wait, in
+    /// seconds.
+    pub fn new(number: u16, most: u16, servers: usize) -> Dialling
+        requires most { FIRST_WAIT ≤ most }
+        requires some { 0 < servers }
+        ensures { result ≡ record {
+          servers = servers;
+          place = 0;
+          round = 0;
+          good = false;
+          waits = record { number = number; most = most; due = 0; wait = FIRST_WAIT };
+        } }
+    {
+        Dialling {
+            servers,
+            place: 0,
+            round: 0,
+            is_good: false,
+            redial: Redial::new(number, most),
+        }
+    }
+
+    /// Whether a try is due at this second.
+    pub fn is_due(&self, now: u64) -> bool
+        ensures { IsTrue result ↔ (self.now.waits.due ≤ now) }
+    {
+        self.redial.is_due(now)
+    }
+
+    /// The second at which the next try is due.
+    pub fn due(&self) -> u64
+        ensures { result ≡ self.now.waits.due }
+    {
+        self.redial.due()
+    }
+
+    /// The place in the list of the server that is tried next, or is connected.
+    pub fn place(&self) -> usize
+        ensures value { result ≡ self.now.place }
+        ensures within { result < self.now.servers }
+    {
+        self.place
+    }
+
+    /// The connection was good: whoever owns it has seen it hold, or its other end has shown who it is. Where it is
+    /// lost, the first wait is the shortest again.
+    pub fn good(&mut self)
+        ensures { self.new ≡ good self.old }
+    {
+        self.is_good = true;
+    }
+
+    /// At this second a try failed, or a connection was lost. The next server of the list is due then, after the wait.
+    pub fn lost(&mut self, now: u64)
+        requires { now < MOMENTS_END }
+        ensures value { self.new ≡ lost self.old now }
+        ensures later { now < self.new.waits.due }
+        ensures soon { self.new.waits.due ≤ now + self.old.waits.most }
+        ensures good { self.old.good ≡ true → self.new.waits.due ≤ now + FIRST_WAIT }
+    {
+        self.redial.lost(now, self.is_good);
+        self.is_good = false;
+        if self.place + 1 == self.servers {
+            self.place = 0;
+            self.round = self.round.saturating_add(1);
+        } else {
+            self.place += 1;
+        }
+    }
+
+    /// Begins to connect to a server, which is to be the one at [`Dialling::place`]: looks its name up, where the
+    /// host is no address already, and connects to the address of this round. Returns when the resolver has answered,
+    /// before there is a connection. It is watched under this token.
+    ///
+    /// # Errors
+    /// `Unreadable`, `Unknown` and `Unreached` as they say. The try has failed then: [`Dialling::lost`] is to follow.
+    pub fn connect<R: Net>(
+        &self,
+        rt: &R,
+        registry: &Registry,
+        token: usize,
+        host: &[u8],
+        port: u16,
+    ) -> Result<Dialled, DialFault> {
+        let address = address_of(rt, host, port, self.round)?;
+        match TcpSocket::connect(rt, registry, token, address) {
+            Ok(socket) => Ok(Dialled { socket, address }),
+            Err(_) => Err(DialFault::Unreached),
+        }
+    }
+}
+
+/// The law of turns: each server of the list is tried before one is tried again. It does nothing: what it ensures
+/// holds of any list.
+pub fn law_of_turns()
+    // From any try on, so many tries as there are servers reach each of them, whenever they are lost, good or not.
+    ensures each { (dials : Dials) (place : ℕ) → dials.place < dials.servers → place < dials.servers
+        → IsTriedSoon dials place }
+{}

@@ -1,0 +1,144 @@
+// The hub's side.
+ghost use Rattle.std.specs.Prelude.{◌≡◌, []};
+
+use crate::MAX_LINE;
+use crate::codes::is_same_code;
+use crate::fault::HandshakeFault;
+use crate::key::Key;
+use crate::line::Line;
+use crate::meeting::{Meeting, Speaker};
+use crate::net_number::{NetNumber, may_be_of};
+use crate::nonce::Nonce;
+use crate::reading::{Ask, ask_in};
+use crate::words::line_len;
+
+/// The hub's side of one connection, before the first frame.
+#[derive(Drop)]
+pub struct HubSide {
+    /// What both sides know.
+    pub key: Key,
+    /// The hub's net.
+    pub net: NetNumber,
+    /// How many leaves the net has.
+    pub leaves: u16,
+    /// What was drawn for this connection.
+    pub nonce: Nonce,
+}
+
+/// What the bytes that a hub heard come to.
+#[derive(Drop)]
+pub enum HubHears {
+    /// No whole line: hear more.
+    More,
+    /// A leaf showed the right code: say the line, and then frames.
+    Welcome {
+        /// Which leaf it is, from 1.
+        leaf: u16,
+        /// How many bytes its line has. Those after them are its first frames.
+        used: usize,
+        /// What to say.
+        line: Line,
+    },
+    /// Let it go.
+    Refused {
+        /// Why.
+        fault: HandshakeFault,
+        /// What to say before: nothing, but to a leaf of another net, which learns so that it is.
+        line: Line,
+    },
+}
+
+impl HubSide {
+    ghost use Rattle.std.specs.Prelude.{◌≡◌};
+    ghost use Rattle.handshake.specs.Lines.{greeting};
+    ghost use Rattle.handshake.specs.Sides.{hub_hears, hub_judges, own_meeting, shows_code, told_meeting};
+
+    /// What to say first.
+    pub fn greeting(&self) -> Line
+        ensures { result ≡ greeting self.now.nonce }
+    {
+        let mut line = Line::empty();
+        line.put(b"eggnet 1 ");
+        line.put(self.nonce.as_bytes());
+        line.put(b"\n");
+        line
+    }
+
+    /// What all bytes that were heard so far come to. More bytes after a line change nothing.
+    pub fn hear(&self, heard: &[u8]) -> HubHears
+        ensures { result ≡ hub_hears self.now heard.now }
+    {
+        match line_len(heard) {
+            Some(len) => self.judge(len + 1, ask_in(&heard[..len])),
+            None if heard.len() >= MAX_LINE => refused(HandshakeFault::TooLong),
+            None => HubHears::More,
+        }
+    }
+
+    // What a line comes to that has so many bytes and says this.
+    fn judge(&self, used: usize, ask: Option<Ask>) -> HubHears
+        ensures { result ≡ hub_judges self.now used ask }
+    {
+        let Some(ask) = ask else {
+            return refused(HandshakeFault::NoLeafLine);
+        };
+        if ask.leaf < 1 || ask.leaf > self.leaves {
+            return refused(HandshakeFault::NoSuchLeaf);
+        }
+        if !self.shows_code(&ask) {
+            return refused(HandshakeFault::WrongCode);
+        }
+        let line = self.own_meeting(&ask).hub_line(&self.key);
+        if !may_be_of(&self.net, &ask.net) {
+            return HubHears::Refused {
+                fault: HandshakeFault::OtherNet,
+                line,
+            };
+        }
+        HubHears::Welcome {
+            leaf: ask.leaf,
+            used,
+            line,
+        }
+    }
+
+    // Whether a leaf shows the right code.
+    fn shows_code(&self, ask: &Ask) -> bool
+        ensures { result ≡ shows_code self.now ask.now }
+    {
+        let told = self.told_meeting(ask);
+        is_same_code(&ask.code, &told.code(&self.key, Speaker::Leaf))
+    }
+
+    // The connection as the leaf knows it.
+    fn told_meeting(&self, ask: &Ask) -> Meeting
+        ensures { result ≡ told_meeting self.now ask.now }
+    {
+        Meeting {
+            leaf: ask.leaf,
+            net: ask.net,
+            leaf_nonce: ask.nonce,
+            hub_nonce: self.nonce,
+        }
+    }
+
+    // The connection as the hub knows it.
+    fn own_meeting(&self, ask: &Ask) -> Meeting
+        ensures { result ≡ own_meeting self.now ask.now }
+    {
+        Meeting {
+            net: Some(self.net),
+            ..self.told_meeting(ask)
+        }
+    }
+}
+
+// To be let go with nothing said.
+fn refused(fault: HandshakeFault) -> HubHears
+    ensures { result ≡ HubHears.Refused fault [] }
+{
+    HubHears::Refused {
+        fault,
+        line: Line::empty(),
+    }
+}

@@ -1,0 +1,47 @@
+// A line to be said.
+use crate::MAX_LINE;
+use arrayvec::ArrayVec;
+use std::marker::Model;
+
+/// A line that a side says, with its line feed: at most 200 bytes, which take no memory. Contracts see its bytes.
+#[derive(Drop)]
+pub struct Line {
+    bytes: ArrayVec<u8, MAX_LINE>,
+}
+
+impl Model for Line {
+    ghost use Rattle.std.specs.Prelude.{List, ℕ};
+
+    ghost Value = { List ℕ };
+
+    ghost view = { λ line. line.bytes.items };
+}
+
+impl Line {
+    ghost use Rattle.std.specs.Prelude.{◌≡◌, ◌≤◌, ◌+◌, ◌++◌, [], length};
+
+    /// No byte yet.
+    pub fn empty() -> Line
+        ensures { result ≡ [] }
+    {
+        Line {
+            bytes: ArrayVec::new(),
+        }
+    }
+
+    /// The bytes.
+    pub fn as_bytes(&self) -> &[u8]
+        ensures { result.now ≡ self.now }
+    {
+        self.bytes.as_slice()
+    }
+
+    /// Puts these after the others.
+    pub fn put(&mut self, bytes: &[u8])
+        requires { length self.old + length bytes.now ≤ MAX_LINE }
+        ensures all { self.new ≡ self.old ++ bytes.now }
+        ensures len { length self.new ≡ length self.old + length bytes.now }
+    {
+        self.bytes.try_extend_from_slice(bytes).unwrap();
+    }
+}

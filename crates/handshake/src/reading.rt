@@ -1,0 +1,101 @@
+// What lines say.
+ghost use Rattle.std.specs.Prelude.{◌≡◌};
+ghost use Rattle.handshake.specs.Digits.{digits_in};
+ghost use Rattle.handshake.specs.Reading.{answer_after, answer_in, ask_after, ask_in, greeting_in, net_in};
+
+use crate::digits::are_digits;
+use crate::net_number::NetNumber;
+use crate::nonce::Nonce;
+use crate::words::{cut_word, number_in};
+
+/// What a line `leaf N NET NONCE CODE` says.
+#[derive(Clone, Copy)]
+pub struct Ask {
+    /// Which leaf it is.
+    pub leaf: u16,
+    /// The net of which it is, if it keeps its number.
+    pub net: Option<NetNumber>,
+    /// What it drew.
+    pub nonce: Nonce,
+    /// The code that it shows.
+    pub code: [u8; 64],
+}
+
+/// What a line `hub NET CODE` says.
+#[derive(Clone, Copy)]
+pub struct Answer {
+    /// The hub's net.
+    pub net: NetNumber,
+    /// The code that it shows.
+    pub code: [u8; 64],
+}
+
+/// What a line without its line feed says, if it is a leaf's.
+pub fn ask_in(line: &[u8]) -> Option<Ask>
+    ensures { result ≡ ask_in line.now }
+{
+    ask_after(line.strip_prefix(b"leaf ")?)
+}
+
+fn ask_after(words: &[u8]) -> Option<Ask>
+    ensures { result ≡ ask_after words.now }
+{
+    let number = cut_word(words);
+    let net = cut_word(number.rest);
+    let nonce = cut_word(net.rest);
+    Some(Ask {
+        leaf: number_in(number.word)?,
+        net: net_in(net.word)?,
+        nonce: Nonce::read(nonce.word)?,
+        code: code_in(nonce.rest)?,
+    })
+}
+
+// The net that a word names: a number, or none.
+fn net_in(word: &[u8]) -> Option<Option<NetNumber>>
+    ensures { result ≡ net_in word.now }
+{
+    if word == b"-".as_slice() {
+        return Some(None);
+    }
+    match NetNumber::read(word) {
+        Some(net) => Some(Some(net)),
+        None => None,
+    }
+}
+
+// The code that a word is.
+fn code_in(word: &[u8]) -> Option<[u8; 64]>
+    ensures { result ≡ digits_in 64 word.now }
+{
+    if !are_digits(64, word) {
+        return None;
+    }
+    let mut code = [0; 64];
+    code.copy_from_slice(word);
+    Some(code)
+}
+
+/// What a line without its line feed says, if it is a hub's answer.
+pub fn answer_in(line: &[u8]) -> Option<Answer>
+    ensures { result ≡ answer_in line.now }
+{
+    answer_after(line.strip_prefix(b"hub ")?)
+}
+
+fn answer_after(words: &[u8]) -> Option<Answer>
+    ensures { result ≡ answer_after words.now }
+{
+    let net = cut_word(words);
+    Some(Answer {
+        net: NetNumber::read(net.word)?,
+        code: code_in(net.rest)?,
+    })
+}
+
+/// The nonce of a line without its line feed, if it is a hub's greeting.
+pub fn greeting_in(line: &[u8]) -> Option<Nonce>
+    ensures { result ≡ greeting_in line.now }
+{
+    Nonce::read(line.strip_prefix(b"eggnet 1 ")?)
+}

@@ -1,0 +1,78 @@
+// How a client comes into a channel, in place, and how that is undone.
+ghost use Rattle.std.specs.Prelude.{◌≡◌, ◌<◌, IfOk, IfSome, OnErr, OnOk, length, position};
+ghost use Rattle.miniircd.specs.Rooms.{is_named, entered, undone};
+
+use crate::edit::{Edit, edited};
+use crate::member::{Channel, opened};
+use crate::texts::is_same;
+use bytetext::NoMemory;
+use std::alloc::Global;
+use std::mem;
+
+/// What is to be undone where memory runs out later.
+#[derive(Drop)]
+pub enum Entry {
+    // Nothing.
+    Nowhere,
+    // The last channel has been made.
+    Made,
+    // The channel at a place was this one before.
+    Came { place: usize, old: Channel },
+}
+
+// Where the channel of this name is, by casemapping.
+fn place_of(channels: &[Channel], name: &[u8]) -> Option<usize>
+    ensures value { result ≡ position (is_named name.now) channels.now }
+    ensures within { IfSome result (λ place. place < length channels.now) }
+{
+    channels
+        .iter()
+        .position(|channel| is_same(name, channel.name.as_bytes()))
+}
+
+/// A client comes into the channel of a name, which it isn't on, or makes it.
+///
+/// # Errors
+/// `NoMemory` where room is refused; then the channels are as before.
+#[tactic(auto, using(crate::proofs::ListLemmas::set_back, crate::proofs::ListLemmas::take_pushed))]
+pub fn enter(
+    alloc: Global,
+    channels: &mut Vec<Channel>,
+    name: &[u8],
+    client: usize,
+) -> Result<Entry, NoMemory>
+    ensures entered { OnOk result (channels.new.items ≡ entered name.now client channels.old.items) }
+    ensures back { IfOk result (λ entry. undone entry channels.new.items ≡ channels.old.items) }
+    ensures err { OnErr result (channels.new.items ≡ channels.old.items) }
+{
+    match place_of(channels.as_slice(), name) {
+        Some(place) => {
+            let after = edited(alloc, &channels[place], Edit::Enter(client))?;
+            let old = mem::replace(&mut channels[place], after);
+            Ok(Entry::Came { place, old })
+        }
+        None => {
+            let channel = opened(alloc, name, client)?;
+            channels.push(channel)?;
+            Ok(Entry::Made)
+        }
+    }
+}
+
+/// The channels are as before an entry. Takes no memory.
+#[tactic(auto, using(std::proofs::lemmas::List::set_past))]
+pub fn undo(channels: &mut Vec<Channel>, entry: Entry)
+    ensures { channels.new.items ≡ undone entry channels.old.items }
+{
+    match entry {
+        Entry::Nowhere => {}
+        Entry::Made => {
+            channels.truncate(channels.len().saturating_sub(1));
+        }
+        Entry::Came { place, old } => {
+            if place < channels.len() {
+                channels[place] = old;
+            }
+        }
+    }
+}

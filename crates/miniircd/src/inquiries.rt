@@ -1,0 +1,197 @@
+// Commands that change nothing here (RFC 2812 sections 3.2.6, 3.7.3, 4.8 and 4.9; IRCv3's CAP).
+ghost use Rattle.std.specs.Prelude.{◌≡◌, OnOk};
+ghost use Rattle.miniircd.specs.Mail.{readers};
+
+use crate::command::Inquiry;
+use crate::invite::invite;
+use crate::lines::repeated;
+use crate::member::Channel;
+use crate::people::holder;
+use crate::person::Person;
+use crate::post::Post;
+use crate::replies::{Sender, tell, tell_of};
+use crate::talk::if_there;
+use crate::texts::{is_same, word};
+use crate::whois::whois;
+use bytetext::{NoMemory, Text};
+use itoa::Buffer;
+use slab::Slab;
+use std::alloc::Global;
+
+// The most nicks of a USERHOST (RFC 2812 section 4.8).
+const MAX_ASKED: usize = 5;
+
+/// What is told of a command that changes nothing here. A PONG needs no answer.
+///
+/// # Errors
+/// `NoMemory` where room is refused.
+pub fn inquire(
+    alloc: Global,
+    post: &mut Post<'_>,
+    clients: &Slab<Person>,
+    channels: &[Channel],
+    me: &Sender<'_>,
+    inquiry: Inquiry,
+    params: &[Text],
+) -> Result<(), NoMemory>
+    ensures { OnOk result (readers post.new ≡ readers post.old) }
+{
+    let (first, second) = (word(params, 0), word(params, 1));
+    match inquiry {
+        Inquiry::Cap => cap(alloc, post, me, first, second),
+        Inquiry::Invite => invite(alloc, post, clients, channels, me, first, second),
+        Inquiry::Ison => ison(alloc, post, clients, me, params),
+        Inquiry::List => list(alloc, post, channels, me, first),
+        Inquiry::Pong => Ok(()),
+        Inquiry::Userhost => userhost(alloc, post, clients, me, params),
+        Inquiry::Whois => {
+            let nick = if params.len() > 1 { second } else { first };
+            whois(alloc, post, clients, channels, me, nick)
+        }
+    }
+}
+
+// CAP: the server can do nothing besides.
+fn cap(
+    alloc: Global,
+    post: &mut Post<'_>,
+    me: &Sender<'_>,
+    subcommand: &[u8],
+    asked: &[u8],
+) -> Result<(), NoMemory>
+    ensures { OnOk result (readers post.new ≡ readers post.old) }
+{
+    if is_same(subcommand, b"LS") {
+        tell(alloc, post, me, b"CAP", b" LS", b"")
+    } else if is_same(subcommand, b"LIST") {
+        tell(alloc, post, me, b"CAP", b" LIST", b"")
+    } else if is_same(subcommand, b"REQ") {
+        tell(alloc, post, me, b"CAP", b" NAK", asked)
+    } else if is_same(subcommand, b"END") {
+        Ok(())
+    } else {
+        tell_of(alloc, post, me, b"410", subcommand, b"Invalid CAP command")
+    }
+}
+
+// The registered client of a nick.
+fn person_of<'a>(clients: &'a Slab<Person>, nick: &[u8]) -> Option<&'a Person> {
+    clients.get(if_there(clients, holder(clients, nick))?)
+}
+
+// The nicks of a text, with spaces between, that registered clients hold go to others, with a space before each.
+fn push_present(
+    clients: &Slab<Person>,
+    present: &mut Vec<u8>,
+    nicks: &[u8],
+) -> Result<(), NoMemory> {
+    for nick in nicks.split(|byte| *byte == b' ') {
+        if let Some(person) = person_of(clients, nick) {
+            present.push(b' ')?;
+            present.extend_from_slice(person.nick.as_bytes())?;
+        }
+    }
+    Ok(())
+}
+
+// ISON: those of the nicks that registered clients hold.
+fn ison(
+    alloc: Global,
+    post: &mut Post<'_>,
+    clients: &Slab<Person>,
+    me: &Sender<'_>,
+    params: &[Text],
+) -> Result<(), NoMemory>
+    ensures { OnOk result (readers post.new ≡ readers post.old) }
+{
+    let mut present = Vec::new(alloc);
+    for nicks in params {
+        push_present(clients, &mut present, nicks.as_bytes())?;
+    }
+    tell(
+        alloc,
+        post,
+        me,
+        b"303",
+        b"",
+        after_space(present.as_slice()),
+    )
+}
+
+// A text without the space that it begins with.
+fn after_space(text: &[u8]) -> &[u8] {
+    match text {
+        [] => b"",
+        [_, rest @ ..] => rest,
+    }
+}
+
+// What USERHOST tells of a client goes to others, with a space before it.
+fn push_userhost(told: &mut Vec<u8>, person: &Person) -> Result<(), NoMemory> {
+    told.push(b' ')?;
+    told.extend_from_slice(person.nick.as_bytes())?;
+    told.extend_from_slice(b"=+")?;
+    told.extend_from_slice(person.user.as_bytes())?;
+    told.extend_from_slice(b"@local")?;
+    Ok(())
+}
+
+// USERHOST: who registered clients of at most five nicks are. Nobody is away, and nobody an operator of the server.
+fn userhost(
+    alloc: Global,
+    post: &mut Post<'_>,
+    clients: &Slab<Person>,
+    me: &Sender<'_>,
+    params: &[Text],
+) -> Result<(), NoMemory>
+    ensures { OnOk result (readers post.new ≡ readers post.old) }
+{
+    let mut told = Vec::new(alloc);
+    for nick in &params[..MAX_ASKED.min(params.len())] {
+        if let Some(person) = person_of(clients, nick.as_bytes()) {
+            push_userhost(&mut told, person)?;
+        }
+    }
+    tell(alloc, post, me, b"302", b"", after_space(told.as_slice()))
+}
+
+// Whether a list of names, with commas between, has that of a channel; one without names has all.
+fn is_asked(names: &[u8], channel: &Channel) -> bool {
+    let mut each = names.split(|byte| *byte == b',');
+    names.is_empty() || each.any(|name| is_same(name, channel.name.as_bytes()))
+}
+
+// The reply about one channel: how many are on it, and its topic.
+fn tell_channel(
+    alloc: Global,
+    post: &mut Post<'_>,
+    me: &Sender<'_>,
+    channel: &Channel,
+) -> Result<(), NoMemory>
+    ensures { OnOk result (readers post.new ≡ readers post.old) }
+{
+    let mut words = repeated(alloc, channel.name.as_bytes())?;
+    let mut buffer = Buffer::new();
+    words.push(b' ')?;
+    words.extend_from_slice(buffer.format(channel.members.len()).as_bytes())?;
+    let topic = channel.topic.as_bytes();
+    tell(alloc, post, me, b"322", words.as_slice(), topic)
+}
+
+// LIST: of the channels of these names, or without names of all.
+fn list(
+    alloc: Global,
+    post: &mut Post<'_>,
+    channels: &[Channel],
+    me: &Sender<'_>,
+    names: &[u8],
+) -> Result<(), NoMemory>
+    ensures { OnOk result (readers post.new ≡ readers post.old) }
+{
+    for channel in channels {
+        if is_asked(names, channel) {
+            tell_channel(alloc, post, me, channel)?;
+        }
+    }
+    tell(alloc, post, me, b"323", b"", b"End of LIST")
+}

@@ -1,0 +1,106 @@
+// WHOIS (RFC 2812 section 3.6.2).
+ghost use Rattle.std.specs.Prelude.{◌≡◌, OnOk};
+ghost use Rattle.miniircd.specs.Mail.{readers};
+
+use crate::lines::repeated;
+use crate::member::{Channel, member_of};
+use crate::names::marks;
+use crate::people::holder;
+use crate::person::Person;
+use crate::post::Post;
+use crate::replies::{Sender, tell, tell_of};
+use crate::talk::if_there;
+use bytetext::NoMemory;
+use slab::Slab;
+use std::alloc::Global;
+
+/// WHOIS of a nick. The server keeps no real names: the nick stands for that.
+///
+/// # Errors
+/// `NoMemory` where room is refused.
+pub fn whois(
+    alloc: Global,
+    post: &mut Post<'_>,
+    clients: &Slab<Person>,
+    channels: &[Channel],
+    me: &Sender<'_>,
+    nick: &[u8],
+) -> Result<(), NoMemory>
+    ensures { OnOk result (readers post.new ≡ readers post.old) }
+{
+    if nick.is_empty() {
+        return tell(alloc, post, me, b"431", b"", b"No nickname given");
+    }
+    tell_nick(alloc, post, clients, channels, me, nick)?;
+    tell_of(alloc, post, me, b"318", nick, b"End of WHOIS list")
+}
+
+// What is told of the registered client of a nick, or that there is none.
+fn tell_nick(
+    alloc: Global,
+    post: &mut Post<'_>,
+    clients: &Slab<Person>,
+    channels: &[Channel],
+    me: &Sender<'_>,
+    nick: &[u8],
+) -> Result<(), NoMemory>
+    ensures { OnOk result (readers post.new ≡ readers post.old) }
+{
+    match if_there(clients, holder(clients, nick)) {
+        Some(client) => tell_client(alloc, post, clients, channels, me, client),
+        None => tell_of(alloc, post, me, b"401", nick, b"No such nick"),
+    }
+}
+
+// What is told of a client that is held.
+fn tell_client(
+    alloc: Global,
+    post: &mut Post<'_>,
+    clients: &Slab<Person>,
+    channels: &[Channel],
+    me: &Sender<'_>,
+    client: usize,
+) -> Result<(), NoMemory>
+    ensures { OnOk result (readers post.new ≡ readers post.old) }
+{
+    let Some(person) = clients.get(client) else {
+        return Ok(());
+    };
+    let nick = person.nick.as_bytes();
+    let words = words_of(alloc, person)?;
+    tell(alloc, post, me, b"311", words.as_slice(), nick)?;
+    tell_channels(alloc, post, channels, me, client, nick)?;
+    let mut words = repeated(alloc, nick)?;
+    words.extend_from_slice(b" irc.test")?;
+    tell(alloc, post, me, b"312", words.as_slice(), b"A small server")
+}
+
+// The words of the reply about a client, with a space before each.
+fn words_of(alloc: Global, person: &Person) -> Result<Vec<u8>, NoMemory> {
+    let mut words = repeated(alloc, person.nick.as_bytes())?;
+    words.push(b' ')?;
+    words.extend_from_slice(person.user.as_bytes())?;
+    words.extend_from_slice(b" local *")?;
+    Ok(words)
+}
+
+// The channels that a client is on, each in a reply of its own.
+fn tell_channels(
+    alloc: Global,
+    post: &mut Post<'_>,
+    channels: &[Channel],
+    me: &Sender<'_>,
+    client: usize,
+    nick: &[u8],
+) -> Result<(), NoMemory>
+    ensures { OnOk result (readers post.new ≡ readers post.old) }
+{
+    for channel in channels {
+        if let Some(member) = member_of(channel.members.as_slice(), client) {
+            let mut name = Vec::from_slice(alloc, marks(member))?;
+            name.extend_from_slice(channel.name.as_bytes())?;
+            tell_of(alloc, post, me, b"319", nick, name.as_slice())?;
+        }
+    }
+    Ok(())
+}

@@ -1,0 +1,6 @@
+mod Lists
+mod Standing
+mod Going
+mod Running
+mod Calling
+mod Dying

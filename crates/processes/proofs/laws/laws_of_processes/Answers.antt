@@ -1,0 +1,36 @@
+use Rattle.protocol.specs.History.{start}
+use Rattle.processes.proofs.Running.{run_goes, first_stands, run_same_records, run_never_back, stands_once}
+use Rattle.processes.proofs.Calling.{run_same_calls}
+use Rattle.processes.proofs.Dying.{hub_dies, leaf_dies}
+use Rattle.processes.proofs.laws.laws_of_processes.Goals as goal
+
+pub returns-clause-begins : goal.returns-clause-begins
+returns-clause-begins g c = first_stands
+
+pub returns-clause-goes : goal.returns-clause-goes
+returns-clause-goes g c = λ w h deeds st run. run_goes g.P.Promise.code_of g.P.Promise.may w h deeds st run
+
+pub returns-clause-same_records : goal.returns-clause-same_records
+returns-clause-same_records g c = λ count w first more is run. run_same_records g.P.Promise.code_of g.P.Promise.may
+    count w first more is run
+
+pub returns-clause-never_back : goal.returns-clause-never_back
+returns-clause-never_back g c = λ count w first more is run. run_never_back g.P.Promise.code_of g.P.Promise.may count
+    w first more is run
+
+pub returns-clause-once : goal.returns-clause-once
+returns-clause-once g c =
+    λ count w deeds is run.
+    let last = run_goes g.P.Promise.code_of g.P.Promise.may w (start count) deeds (first_stands count w is) run in
+    stands_once _ last.after last.stands
+
+pub returns-clause-same_calls : goal.returns-clause-same_calls
+returns-clause-same_calls g c =
+    λ count w deeds is run i j one other s t a b. run_same_calls g.P.Promise.code_of g.P.Promise.may count w deeds is
+    run i j one other s t a b
+
+pub returns-clause-hub_dies : goal.returns-clause-hub_dies
+returns-clause-hub_dies g c = hub_dies
+
+pub returns-clause-leaf_dies : goal.returns-clause-leaf_dies
+returns-clause-leaf_dies g c = leaf_dies

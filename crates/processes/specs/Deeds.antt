@@ -1,0 +1,216 @@
+-- What bots do in processes of their own, and where a list of their deeds leads.
+use Rattle.std.specs.Prelude.{◌≡◌, ℕ, suc, ◌+◌, List, [], ◌∷◌, ◌++◌, length, slice_get, slice_set, Option, None, Some}
+use Rattle.userfile.specs.Records.{Records}
+use Rattle.sharewire.specs.declared.packet.Packet.{Packet}
+use Rattle.procstore.specs.declared.action.Action.{Action}
+use Rattle.procstore.specs.declared.call.Call.{Call}
+use Rattle.procstore.specs.declared.reply.Code.{Code}
+use Rattle.botjournal.specs.Contents.{Contents, meaning}
+use Rattle.botjournal.specs.Ledger.{Failures}
+use Rattle.protocol.specs.Bots.{Fails}
+use Rattle.protocol.specs.HubRules.{Hub}
+use Rattle.protocol.specs.LeafRules.{Leaf}
+use Rattle.protocol.specs.Network.Event.{Pump as pumps, Compact as compacts}
+use Rattle.linknet.specs.Ends.{End, AtHub, AtLeaf}
+use Rattle.botlink.specs.Links.{BotEnd, did, took}
+use Rattle.botlink.specs.Opening.{end_meaning, AreOf}
+use Rattle.botcore.specs.declared.event.Event.{Event}
+use Rattle.botcore.specs.declared.event.Event.TheVariants.{Connect, Line, Ask, Pump, Receive, Clock, Bind, Unbind}
+use Rattle.botcore.specs.declared.event.Event.TheVariants.{Compact, Restart}
+use Rattle.botcore.specs.declared.report.Report.{Report}
+use Rattle.botcore.specs.Bots.{Bot, begun, new_bot}
+use Rattle.botcore.specs.Links.{link_version, link_records}
+use Rattle.botcore.specs.Steps.{TakesStep}
+use Rattle.botworld.specs.declared.sent.Sent.{Sent}
+use Rattle.botworld.specs.Net.{packet_at, posted}
+
+-- ---- processes and their deeds
+
+-- The process of a bot. While it runs it has the bot; once it has ended there are the bytes of the bot's two disks.
+pub data Process : Type 0 where
+  Runs : Bot → Process
+  Ended : (first second : List ℕ) → Process
+
+-- the process of each bot, the hub's first, and every packet that a report told, the first of them first
+pub record Net : Type 0 where
+  pub processes : List Process
+  pub packets : List Sent
+
+-- one call of a bot: the names of the procs of its store, the bot before, what it is told, what it reports, the bot
+-- after
+pub record Step : Type 0 where
+  pub names : List (List ℕ)
+  pub was : Bot
+  pub event : Event
+  pub report : Report
+  pub after : Bot
+
+-- what a process did when it ended: no call of its bot, or one that tells it this and has not returned
+pub data Doing : Type 0 where
+  Nothing : Doing
+  Telling : Event → Doing
+
+-- what the process of a bot does
+pub data Deed : Type 0 where
+  -- its bot makes a step
+  Made : (bot : ℕ) → Step → Deed
+  -- it ends, and this is on the disks
+  Died : (bot : ℕ) → (was : Bot) → Doing → (first second : List ℕ) → Deed
+  -- another one opens the bot on what is on the disks
+  Opened : (bot : ℕ) → (after : Bot) → Deed
+  -- another one was to open it, and ended before it had: this is on the disks
+  Unopened : (bot : ℕ) → (first second : List ℕ) → Deed
+
+-- ---- the net after deeds
+
+abbrev pub with_process : Net → ℕ → Process → List Sent → Net
+with_process w bot process more =
+    record { processes = slice_set w.processes bot process; packets = w.packets ++ more }
+
+abbrev pub after_deed : Net → Deed → Net
+after_deed w (Made bot step) = with_process w bot (Runs step.after) (posted bot step.report.packets)
+after_deed w (Died bot was doing first second) = with_process w bot (Ended first second) []
+after_deed w (Opened bot after) = with_process w bot (Runs after) []
+after_deed w (Unopened bot first second) = with_process w bot (Ended first second) []
+
+abbrev pub net_after : Net → List Deed → Net
+net_after w [] = w
+net_after w (deed ∷ deeds) = net_after (after_deed w deed) deeds
+
+-- ---- which deeds may happen
+
+-- A bot takes no packet but one that was told to it: by whatever bot, whenever, and as often as it comes.
+abbrev pub WasTold : List Sent → ℕ → Event → Type 0
+WasTold packets bot Connect = Unit {0}
+WasTold packets bot (Line line) = Unit {0}
+WasTold packets bot (Ask change) = Unit {0}
+WasTold packets bot Pump = Unit {0}
+WasTold packets bot (Receive packet) =
+    (number from : ℕ) × (packet_at packets number ≡ Some (record { from = from; to = bot; packet = packet }))
+WasTold packets bot (Clock now) = Unit {0}
+WasTold packets bot (Bind asked) = Unit {0}
+WasTold packets bot (Unbind gone) = Unit {0}
+WasTold packets bot Compact = Unit {0}
+WasTold packets bot Restart = Unit {0}
+
+abbrev pub WasDoing : List Sent → ℕ → Doing → Type 0
+WasDoing packets bot Nothing = Unit {0}
+WasDoing packets bot (Telling event) = WasTold packets bot event
+
+-- The end of the link after such a call, had the device failed in it: what the call was journaling is in doubt. A call
+-- that journals nothing puts nothing in doubt.
+abbrev pub failing : BotEnd → Doing → End
+failing link Nothing = link.end
+failing link (Telling Connect) = link.end
+failing link (Telling (Line line)) = link.end
+failing link (Telling (Ask change)) = link.end
+failing link (Telling Pump) = (did link pumps Fails).after
+failing link (Telling (Receive packet)) = (took link packet Fails).after
+failing link (Telling (Clock now)) = link.end
+failing link (Telling (Bind asked)) = link.end
+failing link (Telling (Unbind gone)) = link.end
+failing link (Telling Compact) = (did link compacts Fails).after
+failing link (Telling Restart) = link.end
+
+-- the same bot's end of the link, where it holds this
+abbrev pub with_end : BotEnd → End → BotEnd
+with_end link end = record link { end = end }
+
+-- the end of the link of a hub with so many leaves, and of a leaf
+abbrev pub hub_end : ℕ → Hub → Failures → BotEnd
+hub_end leaves hub failures = record { number = 0; leaves = leaves; end = AtHub hub; failures = failures }
+
+abbrev pub leaf_end : ℕ → ℕ → Leaf → Failures → BotEnd
+leaf_end leaves place leaf failures = record {
+  number = suc place;
+  leaves = leaves;
+  end = AtLeaf leaf;
+  failures =
+      failures;
+}
+
+-- these bytes mean what the bot kept before the call, or that with what the call was journaling
+abbrev pub LeavesIn : Doing → BotEnd → List ℕ → List ℕ → Type 0
+LeavesIn doing link first second = AreOf (with_end link (failing link doing)) first second
+
+-- The bot of this number, of so many, keeps what these bytes mean. Its binds, channels, clock, timers and queues are
+-- new.
+pub record IsOpened (bot bots : ℕ) (first second : List ℕ) (after : Bot) : Type 0 where
+  pub number : after.config.number ≡ bot
+  pub leaves : after.config.leaves + 1 ≡ bots
+  pub contents : Contents
+  pub found : meaning first second ≡ Some contents
+  pub means : end_meaning after.config.number after.config.leaves contents ≡ Some after.link.end
+  pub link : after.link ≡ record {
+    number = after.config.number;
+    leaves = after.config.leaves;
+    end = after.link.end;
+    failures = after.link.failures;
+  }
+  pub anew : after ≡ begun after.config after.link
+
+module _ (code_of : List ℕ → Call → Code) (may : List ℕ → Call → List Action → Type 0) where
+  -- the bot runs, a packet that it takes was told to it, and the step is one that a bot takes
+  pub record Makes (w : Net) (bot : ℕ) (step : Step) : Type 0 where
+    pub running : slice_get w.processes bot ≡ Some (Runs step.was)
+    pub told : WasTold w.packets bot step.event
+    pub takes : TakesStep code_of may step.names step.was step.event step.report step.after
+
+  -- the bot ran, and a death at that moment of the call may leave these bytes
+  pub record Dies (w : Net) (bot : ℕ) (was : Bot) (doing : Doing) (first second : List ℕ) : Type 0 where
+    pub running : slice_get w.processes bot ≡ Some (Runs was)
+    pub told : WasDoing w.packets bot doing
+    pub leaves : LeavesIn doing was.link first second
+
+  -- this deed may happen now
+  abbrev pub Happens : Net → Deed → Type 0
+  Happens w (Made bot step) = Makes w bot step
+  Happens w (Died bot was doing first second) = Dies w bot was doing first second
+  Happens w (Opened bot after) = (first second : List ℕ) × (slice_get w.processes bot ≡ Some (Ended first second))
+      × IsOpened bot (length w.processes) first second after
+  Happens w (Unopened bot first second) = (x y : List ℕ) × (slice_get w.processes bot ≡ Some (Ended x y))
+      × (meaning first second ≡ meaning x y)
+
+  -- each of these deeds happens where those before it have led
+  abbrev pub Run : Net → List Deed → Type 0
+  Run w [] = Unit {0}
+  Run w (deed ∷ deeds) = Happens w deed × Run (after_deed w deed) deeds
+
+-- ---- the first moment
+
+-- the bot of this number runs as it was made, in a net of so many leaves
+pub record IsNew (count place : ℕ) (process : Process) : Type 0 where
+  pub bot : Bot
+  pub runs : process ≡ Runs bot
+  pub made : bot ≡ new_bot bot.config bot.link.failures
+  pub number : bot.config.number ≡ place
+  pub leaves : bot.config.leaves ≡ count
+
+-- a hub and so many leaves run as they were made, and no packet was told
+pub record IsFirst (count : ℕ) (w : Net) : Type 0 where
+  pub many : length w.processes ≡ count + 1
+  pub packets : w.packets ≡ []
+  pub all_new : (place : ℕ) (process : Process) → slice_get w.processes place ≡ Some process → IsNew count place process
+
+-- ---- what is shown
+
+abbrev pub version_in : Option Process → Option ℕ
+version_in None = None
+version_in (Some (Runs bot)) = Some (link_version bot.link)
+version_in (Some (Ended first second)) = None
+
+abbrev pub records_in : Option Process → Option Records
+records_in None = None
+records_in (Some (Runs bot)) = Some (link_records bot.link)
+records_in (Some (Ended first second)) = None
+
+-- the version that a bot shows, and its records; none while its process doesn't run
+abbrev pub shown_version : Net → ℕ → Option ℕ
+shown_version w bot = version_in (slice_get w.processes bot)
+
+abbrev pub shown_records : Net → ℕ → Option Records
+shown_records w bot = records_in (slice_get w.processes bot)
+
+-- this packet was told
+abbrev pub IsTold : Net → Packet → Type 0
+IsTold w packet = (number : ℕ) × (sent : Sent) × (packet_at w.packets number ≡ Some sent) × (sent.packet ≡ packet)

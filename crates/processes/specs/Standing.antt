@@ -1,0 +1,49 @@
+-- Which moment of a link's history a net of processes stands for.
+use Rattle.std.specs.Prelude.{◌≡◌, ◌+◌, ℕ, List, [], ◌∷◌, length, slice_get, Some}
+use Rattle.protocol.specs.Packets.{Sent as LinkSent}
+use Rattle.protocol.specs.Numbers.{item_at}
+use Rattle.protocol.specs.History.{History, Grows}
+use Rattle.linknet.specs.Ends.{End as LinkEnd}
+use Rattle.linknet.specs.Nets.{IsMoment}
+use Rattle.botlink.specs.Links.{BotEnd}
+use Rattle.botlink.specs.Opening.{AreOf}
+use Rattle.botworld.specs.declared.sent.Sent.{Sent}
+use Rattle.botworld.specs.Network.{sent_as}
+use Rattle.processes.specs.Deeds.{Process, Runs, Ended, Net}
+
+-- a process has this end of the link: its bot has it, or its disks mean what a restart of it finds
+abbrev pub HasEnd : BotEnd → Process → Type 0
+HasEnd link (Runs bot) = bot.link ≡ link
+HasEnd link (Ended first second) = AreOf link first second
+
+-- the process at a place has the end of the link that stands there
+pub record IsAt (h : History) (ends : List LinkEnd) (place : ℕ) (process : Process) : Type 0 where
+  pub link : BotEnd
+  pub at : slice_get ends place ≡ Some link.end
+  pub number : link.number ≡ place
+  pub leaves : link.leaves ≡ h.count
+  pub has : HasEnd link process
+
+abbrev pub IsAmong : LinkSent → List LinkSent → Type 0
+IsAmong sent packets = (number : ℕ) × (item_at packets number ≡ Some sent)
+
+-- each packet that was told is among these
+abbrev pub AreAmong : List Sent → List LinkSent → Type 0
+AreAmong [] packets = Unit {0}
+AreAmong (sent ∷ others) packets = IsAmong (sent_as sent) packets × AreAmong others packets
+
+-- The processes stand for this moment of history, of which all that the links promise holds. Its packets may be more
+-- than were told: those too that a call was to tell in which its process ended.
+pub record Stands (w : Net) (h : History) : Type 0 where
+  pub ends : List LinkEnd
+  pub packets : List LinkSent
+  pub moment : IsMoment ends packets h
+  pub many : length w.processes ≡ h.count + 1
+  pub told : AreAmong w.packets packets
+  pub each : (place : ℕ) (process : Process) → slice_get w.processes place ≡ Some process → IsAt h ends place process
+
+-- the net stands for a moment that this history grew into
+pub record Reaches (h : History) (w : Net) : Type 0 where
+  pub after : History
+  pub stands : Stands w after
+  pub grows : Grows h after

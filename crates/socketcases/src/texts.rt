@@ -1,0 +1,38 @@
+// Answers as words.
+use sockets::DoorFault;
+use streams::{Given, Taken};
+
+/// What a stream answered when it was asked.
+pub fn given(answer: Given) -> &'static str {
+    match answer {
+        Given::Bytes(_) => "bytes",
+        Given::End => "its end",
+        Given::Stall => "nothing yet",
+        Given::Fault => "a fault",
+    }
+}
+
+/// What a stream answered when it was offered bytes.
+pub fn taken(answer: Taken) -> &'static str {
+    match answer {
+        Taken::Bytes(_) => "bytes",
+        Taken::Nothing => "none now",
+        Taken::Fault => "a fault",
+    }
+}
+
+/// Whether a door was opened.
+pub fn opened<D>(door: &Result<D, DoorFault>) -> &'static str {
+    match door {
+        Ok(_) => "done",
+        Err(DoorFault::InUse) => "in use",
+        Err(DoorFault::NotHere) => "no address of this machine",
+        Err(DoorFault::Barred) => "barred",
+        Err(DoorFault::Closed) => "closed",
+    }
+}
+
+/// Whether something is so.
+pub fn yes(is: bool) -> &'static str {
+    if is { "yes" } else { "no" }
+}

@@ -1,0 +1,66 @@
+// Packets as words.
+ghost use Rattle.std.specs.Prelude.{IfOk};
+ghost use Rattle.linkcalls.specs.Shapes.{HasGoodRecords};
+
+use bytetext::Text;
+use caselines::{BAD_WORDS, CaseError, Sink, cut, number};
+use sharewire::Packet;
+use std::alloc::Global;
+use turns::is_said_by;
+use userfile::Change;
+
+/// `said LEAF PACKET..`: of each packet, whether it names this leaf as the one that says it.
+pub fn said(alloc: Global, words: &[Text], out: &mut Sink) -> Result<(), CaseError> {
+    let [leaf, packets @ ..] = words else {
+        return Err(BAD_WORDS);
+    };
+    let leaf = number(leaf.as_bytes())?;
+    for (place, words) in packets.iter().enumerate() {
+        let packet = packet_of(alloc, words.as_bytes())?;
+        out.between(b" ", place);
+        out.put(if is_said_by(&packet, leaf) {
+            b"yes"
+        } else {
+            b"no"
+        });
+    }
+    Ok(())
+}
+
+/// The packet that these words tell.
+pub fn packet_of(alloc: Global, words: &[u8]) -> Result<Packet, CaseError>
+    ensures { IfOk result HasGoodRecords }
+{
+    let (kind, rest) = cut(words, b' ');
+    let (first, rest) = cut(rest, b' ');
+    let (second, third) = cut(rest, b' ');
+    match kind {
+        b"hello" => Ok(Packet::Hello {
+            leaf: number(first)?,
+            version: number(second)?,
+        }),
+        b"request" => Ok(Packet::Request {
+            leaf: number(first)?,
+            request: number(second)?,
+            change: added(alloc, third)?,
+        }),
+        b"accepted" => Ok(Packet::Accepted {
+            leaf: number(first)?,
+            request: number(second)?,
+            number: number(third)?,
+        }),
+        b"text" => Ok(Packet::BotText {
+            from: number(first)?,
+            to: number(second)?,
+            text: Text::from_slice(alloc, third)?,
+        }),
+        _ => Err(BAD_WORDS),
+    }
+}
+
+/// The change that adds a user.
+pub fn added(alloc: Global, handle: &[u8]) -> Result<Change, CaseError> {
+    Ok(Change::AddUser {
+        handle: Text::from_slice(alloc, handle)?,
+    })
+}

@@ -1,0 +1,3 @@
+pub mod Speakers
+pub mod Turns
+pub mod Waiting

@@ -1,0 +1,6 @@
+pub mod Vigils
+pub mod Paces
+pub mod Lines
+pub mod Nicks
+pub mod Cues
+pub mod Seats

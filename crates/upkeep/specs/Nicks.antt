@@ -1,0 +1,16 @@
+-- Other nicks, where a server does not take the bot's own.
+use Rattle.std.specs.Prelude.{ℕ, suc, ◌+◌, ◌-◌, ◌^◌, ◌||◌, min, nat_lt, nat_le, List, ◌++◌, length, take, replicate, Option, None, Some, if◌then◌else◌}
+use Rattle.upkeep.specs.declared.nicks.TheConstants.{SHORT_NICK}
+
+-- a nick of nine bytes at most, whose last so many are underscores
+abbrev pub cut_nick : List ℕ → ℕ → List ℕ
+cut_nick nick underscores = take (min SHORT_NICK (length nick) - underscores) nick ++ replicate underscores 95
+
+-- a long nick is first cut alone
+abbrev pub place_of : ℕ → ℕ → ℕ
+place_of len tried = if nat_lt SHORT_NICK len then tried else min (tried + 1) (2 ^ 64 - 1)
+
+abbrev pub other_nick : List ℕ → ℕ → Option (List ℕ)
+other_nick nick tried =
+    if nat_le SHORT_NICK (place_of (length nick) tried) || nat_le (length nick) (place_of (length nick) tried) then None
+    else Some (cut_nick nick (place_of (length nick) tried))

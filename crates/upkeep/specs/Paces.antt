@@ -1,0 +1,14 @@
+-- A server's timer: never before the clock, and two seconds on with each line.
+use Rattle.std.specs.Prelude.{ℕ, ◌+◌, ◌-◌, ◌^◌, min, max, nat_lt, Bool}
+use Rattle.upkeep.specs.declared.pace.TheConstants.{COST, AHEAD}
+use Rattle.upkeep.specs.declared.pace.Pace.{Pace}
+
+-- the largest number of 64 bits
+abbrev pub most : ℕ
+most = 2 ^ 64 - 1
+
+abbrev pub after : Pace → ℕ → Pace
+after pace now = record { timer = min (max pace.timer now + COST) most }
+
+abbrev pub may : Pace → ℕ → Bool
+may pace now = nat_lt pace.timer (min (now + AHEAD) most)
