@@ -21,6 +21,7 @@ pub fn answer<R: Net + AllocGlobal>(
         b"drive" => drives::drive_case(alloc, words, out),
         b"live" => lives::live_case(rt, words, out),
         b"script" => scripts::script(alloc, words, out),
+        b"why" => scripts::why(alloc, words, out),
         _ => Err(NO_SUCH_CASE),
     }
 }

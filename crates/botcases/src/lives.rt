@@ -26,10 +26,10 @@ pub fn live_case<R: Net + AllocGlobal>(
 // Why a live script ended early.
 fn tell(error: LiveError, out: &mut Sink) -> Result<(), CaseError> {
     match error {
-        LiveError::Script(fault) => put_fault(fault, out),
+        LiveError::Script(fault) => put_fault(fault.line, out),
         LiveError::Read => out.put(b"read"),
         LiveError::Write => out.put(b"write"),
-        LiveError::Socket => out.put(b"socket"),
+        LiveError::Socket(_) => out.put(b"socket"),
         LiveError::Stalled => out.put(b"stalled"),
         LiveError::NoMemory => return Err(CaseError::NoMemory),
     }

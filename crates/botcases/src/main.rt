@@ -11,6 +11,7 @@
 //! | `drive MOMENT MOST AFTER ROOM STREAM` | how driving a bot with a stream ends, what it wrote, and how many reads it made |
 //! | `script LINE..` | the transcript of the script of these lines, with ` ; ` between its lines, or the first faulty line |
 //! | `commands LINE..` | how many leaves a script of these lines has, and its commands as they are read, or the first faulty line |
+//! | `why LINE..` | why the first faulty line of the script of these lines is one, or `none` |
 //! | `live LINE..` | what the live script of these lines prints, with ` ; ` between its lines, or why it ended early |
 //!
 //! The binds of a `script` or a `live` script may call the procs `quiet`, which answers 0, `stop`, which answers 1,

@@ -5,7 +5,7 @@ use botworld::Step;
 use bytetext::{NoMemory, Text, TryCopy};
 use caselines::{CaseError, Sink, line_shown, put_change};
 use replay::transcript;
-use script::{Command, Script, ScriptError, ScriptFault};
+use script::{Command, Script, ScriptError};
 use std::alloc::Global;
 
 /// `script LINE..`: the transcript of a script of these lines, with ` ; ` between its lines, or the first faulty line.
@@ -13,7 +13,7 @@ pub fn script(alloc: Global, words: &[Text], out: &mut Sink) -> Result<(), CaseE
     let script = script_of(alloc, words)?;
     match transcript(alloc, store_of(alloc)?, &script) {
         Ok(text) => put_lines(&text, out),
-        Err(ScriptError::Refused(fault)) => put_fault(fault, out),
+        Err(ScriptError::Refused(fault)) => put_fault(fault.line, out),
         Err(ScriptError::NoMemory) => return Err(CaseError::NoMemory),
     }
     Ok(())
@@ -24,7 +24,18 @@ pub fn commands(alloc: Global, words: &[Text], out: &mut Sink) -> Result<(), Cas
     let script = script_of(alloc, words)?;
     match Script::read(alloc, &script) {
         Ok(script) => put_script(alloc, &script.copy(alloc)?, out),
-        Err(ScriptError::Refused(fault)) => put_fault(fault, out),
+        Err(ScriptError::Refused(fault)) => put_fault(fault.line, out),
+        Err(ScriptError::NoMemory) => return Err(CaseError::NoMemory),
+    }
+    Ok(())
+}
+
+/// `why LINE..`: why the first faulty line of a script of these lines is one, or `none`.
+pub fn why(alloc: Global, words: &[Text], out: &mut Sink) -> Result<(), CaseError> {
+    let script = script_of(alloc, words)?;
+    match Script::read(alloc, &script) {
+        Ok(_) => out.put(b"none"),
+        Err(ScriptError::Refused(fault)) => out.put(fault.reason.sentence().as_bytes()),
         Err(ScriptError::NoMemory) => return Err(CaseError::NoMemory),
     }
     Ok(())
@@ -55,9 +66,9 @@ pub fn put_lines(text: &[u8], out: &mut Sink) {
 }
 
 /// The faulty line, as `line N`.
-pub fn put_fault(fault: ScriptFault, out: &mut Sink) {
+pub fn put_fault(line: u64, out: &mut Sink) {
     out.put(b"line ");
-    out.number(fault.line);
+    out.number(line);
 }
 
 fn put_script(alloc: Global, script: &Script, out: &mut Sink) {

@@ -1,54 +1,53 @@
-//! `eggnet replay` reads a script on standard input, does its commands with a botnet in memory, and prints the transcript.
-//! A script's binds may call the procs `quiet`, `stop`, `adduser`, `tick`, `tell` and
-//! `echo`.
+//! Bots of IRC that share a userfile: each as a process of its own, and nets of them for trying things out.
 //!
-//! `eggnet live` reads a live script on standard input, and does its commands with a server, a hub and leaves that talk
-//! over sockets of this machine. It prints what the script has shown and what its guests have heard.
+//! `eggnet run CONFIG` is the bot of a configuration file, until it is told to end. `eggnet check CONFIG` reads the file
+//! and ends; nothing is opened. `eggnet tell FOLDER WORDS..` gives a command to the bot that runs on this folder, and
+//! prints its answer. `eggnet show FOLDER` prints the version and the records of a bot, whether it runs or not.
 //!
-//! `eggnet serve PORT` keeps a small IRC server running on this machine, for other programs. It prints the port, which the
-//! system chooses where PORT is 0, and then serves until it is ended.
+//! `eggnet replay` reads a script, on standard input or in a file that is named, does its commands with a botnet in
+//! memory, and prints the transcript. `eggnet picture` draws such a script's run, as SVG. `eggnet live` reads a live script on standard input, and does its commands with a
+//! server, a hub and leaves that talk over sockets of this machine. It prints what the script has shown and what its
+//! guests have heard. `eggnet serve PORT` keeps a small IRC server running on this machine, for other programs. It prints
+//! the port, which the system chooses where PORT is 0, and then serves until it is ended.
 //!
-//! It ends with status 0 when all is done; 1 for a script that breaks a rule, with its first faulty line on standard
-//! error; 2 for a command line that is not understood; 3 where reading, writing or a socket fails, and where a live
-//! botnet stalls; 4 where memory runs out.
+//! Binds may call the procs `quiet`, `stop`, `adduser`, `tick`, `tell` and `echo`.
+//!
+//! It ends with status 0 when all is done; 1 for a faulty configuration, another bot's journal, a command that a bot
+//! refuses or does not understand, and a script that breaks a rule; 2 for a command line that is not understood; 3 where
+//! reading, writing, a folder, a disk or a socket fails, where no bot runs, and where a live botnet stalls; 4 where
+//! memory runs out. Standard error says which.
 #![tactic(auto)]
 
 ghost use Rattle.std.specs.Prelude.{◌≡◌, codes, IfOk};
 ghost use Rattle.procstore.specs.declared.reply.Code.TheVariants.{Zero, One};
 ghost use Rattle.eggnet.specs.Procs.{Keeps, plain, reply_of_adduser, reply_of_echo, reply_of_tick, reply_of_tell};
 
+mod configuration;
+mod pictures;
+mod play;
 mod procs;
 mod serve;
+mod statuses;
+mod talk;
+mod words;
 
+use crate::configuration::{check_file, run_file};
+use crate::pictures::picture_script;
+use crate::play::{live_script, replay_file, replay_input};
 use crate::procs::{
     Ours, plain, reply_of_adduser, reply_of_echo, reply_of_tell, reply_of_tick, store_of,
 };
-use crate::serve::{ServeError, serve};
+use crate::serve::serve_port;
+use crate::statuses::out_of_memory;
+use crate::talk::{show_folder, tell_folder};
+use crate::words::{Task, refused, task_of, unread, words_of};
 use bytetext::NoMemory;
-use clap::error::ErrorKind;
-use clap::{Arg, Command, Error, value_parser};
-use liveloop::{LiveError, live};
 use procstore::{Body, Call, Code, ProcStore, Reply, Run};
-use replay::{ReplayError, replay};
-use std::alloc::{AllocError, Global};
+use std::fs::File;
 use std::net::Net;
 use std::process::ExitCode;
-use std::rt::Env;
+use std::rt::{Env, Files};
 use std::time::Clock;
-use std::{env, io};
-use streams::Duplex;
-
-/// The status of a script that breaks a rule.
-const SCRIPT_FAULT: u8 = 1;
-
-/// The status of a command line that is not understood.
-const USAGE: u8 = 2;
-
-/// The status of a read, a write or a socket that failed, and of a botnet that stalled.
-const STREAM_FAULT: u8 = 3;
-
-/// The status where memory runs out.
-const NO_MEMORY: u8 = 4;
 
 fn main(rt: HostRuntime) -> ExitCode {
     let alloc = rt.alloc();
@@ -59,7 +58,7 @@ fn main(rt: HostRuntime) -> ExitCode {
         { Ok(plain(alloc, Code::Zero)) },
     ) {
         Ok(body) => body,
-        Err(_) => return ExitCode::from(NO_MEMORY),
+        Err(_) => return ExitCode::from(out_of_memory(&rt)),
     };
     let stop: Body = match Box::new(
         alloc,
@@ -68,7 +67,7 @@ fn main(rt: HostRuntime) -> ExitCode {
         { Ok(plain(alloc, Code::One)) },
     ) {
         Ok(body) => body,
-        Err(_) => return ExitCode::from(NO_MEMORY),
+        Err(_) => return ExitCode::from(out_of_memory(&rt)),
     };
     let adduser: Body = match Box::new(
         alloc,
@@ -77,7 +76,7 @@ fn main(rt: HostRuntime) -> ExitCode {
         { reply_of_adduser(alloc, call) },
     ) {
         Ok(body) => body,
-        Err(_) => return ExitCode::from(NO_MEMORY),
+        Err(_) => return ExitCode::from(out_of_memory(&rt)),
     };
     let tick: Body = match Box::new(
         alloc,
@@ -86,7 +85,7 @@ fn main(rt: HostRuntime) -> ExitCode {
         { reply_of_tick(alloc) },
     ) {
         Ok(body) => body,
-        Err(_) => return ExitCode::from(NO_MEMORY),
+        Err(_) => return ExitCode::from(out_of_memory(&rt)),
     };
     let tell: Body = match Box::new(
         alloc,
@@ -95,7 +94,7 @@ fn main(rt: HostRuntime) -> ExitCode {
         { reply_of_tell(alloc, call) },
     ) {
         Ok(body) => body,
-        Err(_) => return ExitCode::from(NO_MEMORY),
+        Err(_) => return ExitCode::from(out_of_memory(&rt)),
     };
     let echo: Body = match Box::new(
         alloc,
@@ -104,20 +103,13 @@ fn main(rt: HostRuntime) -> ExitCode {
         { reply_of_echo(alloc, call) },
     ) {
         Ok(body) => body,
-        Err(_) => return ExitCode::from(NO_MEMORY),
+        Err(_) => return ExitCode::from(out_of_memory(&rt)),
     };
     ExitCode::from(status(&rt, quiet, stop, adduser, tick, tell, echo))
 }
 
-// What the program is to do.
-enum Task {
-    Replay,
-    Live,
-    Serve(u16),
-}
-
 // The status that the program ends with.
-fn status<R: Input + Print + Eprint + AllocGlobal + Env + Net + Clock, B: Run>(
+fn status<R: Input + Print + Eprint + AllocGlobal + Env + Net + Clock + Files<File = File>, B: Run>(
     rt: &R,
     quiet: B,
     stop: B,
@@ -139,135 +131,35 @@ fn status<R: Input + Print + Eprint + AllocGlobal + Env + Net + Clock, B: Run>(
     requires echo_runs { B.can_run echo }
     requires echo_keeps { Keeps (codes "echo") (B.answers echo) }
 {
-    let Ok(words) = words_of(rt) else {
-        return told(rt, ReplayError::NoMemory);
+    let words = match words_of(rt) {
+        Ok(words) => words,
+        Err(error) => return unread(rt, &error),
     };
-    let is_live = match task_of(rt.alloc(), words.as_slice()) {
-        Ok(Task::Replay) => false,
-        Ok(Task::Live) => true,
-        Ok(Task::Serve(port)) => return served(rt, port),
+    let task = match task_of(rt.alloc(), words.as_slice()) {
+        Ok(task) => task,
         Err(error) => return refused(rt, &error),
     };
     match store_of(rt.alloc(), quiet, stop, adduser, tick, tell, echo) {
-        Ok(store) => {
-            if is_live {
-                lived(rt, store)
-            } else {
-                replayed(rt, store)
-            }
-        }
-        Err(NoMemory) => told(rt, ReplayError::NoMemory),
+        Ok(store) => done(rt, &task, store),
+        Err(NoMemory) => out_of_memory(rt),
     }
 }
 
-// The words of the command line, the program's own name first.
-fn words_of<R: AllocGlobal + Env>(rt: &R) -> io::Result<Vec<String>> {
-    let mut words = Vec::new(rt.alloc());
-    for word in env::args(rt)? {
-        words.push(word)?;
-    }
-    Ok(words)
-}
-
-// What the words after the program's name ask for.
-fn task_of(alloc: Global, words: &[String]) -> Result<Task, Error> {
-    let matches = command(alloc)?.try_get_matches_from(words)?;
-    match matches.subcommand_matches("serve") {
-        Some(serve) => Ok(Task::Serve(serve.get_one("PORT").unwrap_or(0))),
-        None => match matches.subcommand_matches("live") {
-            Some(_) => Ok(Task::Live),
-            None => Ok(Task::Replay),
-        },
-    }
-}
-
-// The command line.
-fn command<'a>(alloc: Global) -> Result<Command<'a>, AllocError> {
-    let replay = Command::new(alloc, "replay").about(
-        "Do a script from standard input and print the transcript",
-    );
-    let live = Command::new(alloc, "live").about(
-        "Do a live script from standard input, over sockets of this machine",
-    );
-    let port = Arg::new(alloc, "PORT")
-        .help("The port of 127.0.0.1, or 0 for one that the system chooses")
-        .required(true)
-        .value_parser(value_parser!(u16));
-    let serve = Command::new(alloc, "serve")
-        .about("Keep a small IRC server running on this machine, for other programs")
-        .arg(port)?;
-    Command::new(alloc, "eggnet")
-        .about("IRC bots that share a userfile")
-        .subcommand_required(true)
-        .subcommand(replay)?
-        .subcommand(live)?
-        .subcommand(serve)
-}
-
-// Serves until that can't go on.
-fn served<R: Print + Eprint + AllocGlobal + Net + Clock>(rt: &R, port: u16) -> u8 {
-    match serve(rt, port) {
-        Ok(()) => 0,
-        Err(ServeError::Socket) => {
-            let _ = eprintln!(rt; "eggnet: socket fault");
-            STREAM_FAULT
-        }
-        Err(ServeError::NoMemory) => told(rt, ReplayError::NoMemory),
-    }
-}
-
-// Prints what clap says of a command line that it doesn't take, or its help.
-fn refused<R: Print + Eprint>(rt: &R, error: &Error) -> u8 {
-    let _ = error.print(rt);
-    if error.kind() == ErrorKind::OutOfMemory {
-        NO_MEMORY
-    } else if error.use_stderr() {
-        USAGE
-    } else {
-        0
-    }
-}
-
-// Does the script on standard input.
-fn replayed<R: Input + Print + Eprint + AllocGlobal, B: Run>(
+// Does what the command line asks for.
+fn done<R: Input + Print + Eprint + AllocGlobal + Net + Clock + Files<File = File>, B: Run>(
     rt: &R,
+    task: &Task<'_>,
     store: ProcStore<Ours, B>,
 ) -> u8 {
-    let mut stream = Duplex::new(rt.reader(), io::writer(rt));
-    match replay(rt.alloc(), store, &mut stream) {
-        Ok(()) => 0,
-        Err(error) => told(rt, error),
-    }
-}
-
-// Does the live script on standard input.
-fn lived<R: Input + Print + Eprint + AllocGlobal + Net, B: Run>(
-    rt: &R,
-    store: ProcStore<Ours, B>,
-) -> u8 {
-    let mut stream = Duplex::new(rt.reader(), io::writer(rt));
-    match live(rt, store, &mut stream) {
-        Ok(()) => 0,
-        Err(error) => live_told(rt, error),
-    }
-}
-
-// Tells why a live botnet ended early.
-fn live_told<R: Eprint>(rt: &R, error: LiveError) -> u8 {
-    let _ = eprintln!(rt; "eggnet: {error}");
-    match error {
-        LiveError::Script(_) => SCRIPT_FAULT,
-        LiveError::Read | LiveError::Write | LiveError::Socket | LiveError::Stalled => STREAM_FAULT,
-        LiveError::NoMemory => NO_MEMORY,
-    }
-}
-
-// Tells why a replay ended early.
-fn told<R: Eprint>(rt: &R, error: ReplayError) -> u8 {
-    let _ = eprintln!(rt; "eggnet: {error}");
-    match error {
-        ReplayError::Script(_) => SCRIPT_FAULT,
-        ReplayError::Read | ReplayError::Write => STREAM_FAULT,
-        ReplayError::NoMemory => NO_MEMORY,
+    match task {
+        Task::Run(file) => run_file(rt, &store, file),
+        Task::Check(file) => check_file(rt, &store, file),
+        Task::Tell(folder, line) => tell_folder(rt, folder, line.as_slice()),
+        Task::Show(folder) => show_folder(rt, folder),
+        Task::Replay(Some(file)) => replay_file(rt, store, file),
+        Task::Replay(None) => replay_input(rt, store),
+        Task::Picture(file) => picture_script(rt, store, *file),
+        Task::Live => live_script(rt, store),
+        Task::Serve(port) => serve_port(rt, *port),
     }
 }

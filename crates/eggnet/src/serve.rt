@@ -1,26 +1,34 @@
 // The small server on loopback, for other programs.
 
+use crate::statuses::{STREAM_FAULT, not_written, out_of_memory};
 use bytetext::NoMemory;
-use loopback::House;
+use liveloop::LiveError;
+use loopback::{House, SocketFault};
 use std::alloc::Global;
 use std::io;
+use std::io::ErrorKind;
 use std::net::Net;
 use std::time::Clock;
 
 // How long it waits for sockets at most after a turn in which nothing moved, in milliseconds: then it looks at the clock.
 const REST: u64 = 1_000;
 
-/// Why it serves no longer.
-pub enum ServeError {
-    /// The port can't be listened on, or be told.
-    Socket,
-    /// Memory ran out.
+// Why it serves no longer.
+enum ServeError {
+    // The port can't be listened on, or no socket waited for.
+    Socket(SocketFault),
+    // The port can't be told on standard output.
+    Write,
+    // Memory ran out.
     NoMemory,
 }
 
 impl From<io::Error> for ServeError {
-    fn from(_: io::Error) -> ServeError {
-        ServeError::Socket
+    fn from(error: io::Error) -> ServeError {
+        match error.kind() {
+            ErrorKind::OutOfMemory => ServeError::NoMemory,
+            _ => ServeError::Socket(SocketFault::of(&error)),
+        }
     }
 }
 
@@ -30,11 +38,26 @@ impl From<NoMemory> for ServeError {
     }
 }
 
-/// Listens on this port of 127.0.0.1, or where it is 0 on one that the system chooses, prints the port, and serves.
-pub fn serve<R: Net + Clock + Print + AllocGlobal>(rt: &R, port: u16) -> Result<(), ServeError> {
+/// Listens on this port of 127.0.0.1, or where it is 0 on one that the system chooses, prints the port, and serves until
+/// that can't go on.
+pub fn serve_port<R: Print + Eprint + AllocGlobal + Net + Clock>(rt: &R, port: u16) -> u8 {
+    match serve(rt, port) {
+        Ok(()) => 0,
+        Err(ServeError::Socket(fault)) => {
+            let _told = eprintln!(rt; "eggnet: {}", LiveError::Socket(fault));
+            STREAM_FAULT
+        }
+        Err(ServeError::Write) => not_written(rt),
+        Err(ServeError::NoMemory) => out_of_memory(rt),
+    }
+}
+
+fn serve<R: Net + Clock + Print + AllocGlobal>(rt: &R, port: u16) -> Result<(), ServeError> {
     let mut house = House::open(rt, port)?;
     let port = house.port()?;
-    println!(rt; "{port}")?;
+    if println!(rt; "{port}").is_err() {
+        return Err(ServeError::Write);
+    }
     let mut rest = 0;
     for _ in 0..u64::MAX {
         house.wait(rest)?;

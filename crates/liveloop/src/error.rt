@@ -1,8 +1,12 @@
 // Why a live botnet ends early.
+use crate::fault::{LiveFault, LiveScriptError};
+use crate::reason::LiveReason;
 use bytetext::{Failure, NoMemory};
+use loopback::SocketFault;
 use replay::ReplayError;
-use script::{ScriptError, ScriptFault};
+use script::ScriptFault;
 use std::io;
+use std::io::ErrorKind;
 use thiserror::Error;
 
 /// Why [`live`](crate::live) ended early.
@@ -10,7 +14,7 @@ use thiserror::Error;
 pub enum LiveError {
     /// The script breaks a rule. No socket was opened, and nothing was written.
     #[error("{0}")]
-    Script(ScriptFault),
+    Script(LiveFault),
     /// The stream failed as it was asked for bytes. No socket was opened, and nothing was written.
     #[error("read fault")]
     Read,
@@ -18,8 +22,8 @@ pub enum LiveError {
     #[error("write fault")]
     Write,
     /// A socket can't be opened, or its port can't be told.
-    #[error("socket fault")]
-    Socket,
+    #[error("socket fault\n{0}")]
+    Socket(SocketFault),
     /// The turns of an `until` are over, and a bot is still below the version.
     #[error("stalled")]
     Stalled,
@@ -35,13 +39,16 @@ impl From<NoMemory> for LiveError {
 }
 
 impl From<io::Error> for LiveError {
-    fn from(_failed: io::Error) -> LiveError {
-        LiveError::Socket
+    fn from(failed: io::Error) -> LiveError {
+        match failed.kind() {
+            ErrorKind::OutOfMemory => LiveError::NoMemory,
+            _ => LiveError::Socket(SocketFault::of(&failed)),
+        }
     }
 }
 
-impl From<ScriptError> for LiveError {
-    fn from(error: ScriptError) -> LiveError {
+impl From<LiveScriptError> for LiveError {
+    fn from(error: LiveScriptError) -> LiveError {
         match error {
             Failure::Refused(fault) => LiveError::Script(fault),
             Failure::NoMemory => LiveError::NoMemory,
@@ -52,7 +59,10 @@ impl From<ScriptError> for LiveError {
 impl From<ReplayError> for LiveError {
     fn from(error: ReplayError) -> LiveError {
         match error {
-            ReplayError::Script(fault) => LiveError::Script(fault),
+            ReplayError::Script(ScriptFault { line, reason }) => {
+                let reason = LiveReason::Script(reason);
+                LiveError::Script(LiveFault { line, reason })
+            }
             ReplayError::Read => LiveError::Read,
             ReplayError::Write => LiveError::Write,
             ReplayError::NoMemory => LiveError::NoMemory,

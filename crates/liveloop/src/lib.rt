@@ -21,10 +21,12 @@
 mod command;
 mod error;
 mod events;
+mod fault;
 mod moment;
 mod network;
 mod own_words;
 mod reading;
+mod reason;
 mod running;
 mod saying;
 mod seat;
@@ -32,8 +34,10 @@ mod turns;
 
 pub use crate::command::{Command, Commands, Speech};
 pub use crate::error::LiveError;
+pub use crate::fault::{LiveFault, LiveScriptError};
 pub use crate::moment::Moment;
 pub use crate::reading::LiveScript;
+pub use crate::reason::{LiveReason, LiveVerb};
 pub use crate::running::live;
 
 /// The most leaves of a live script.

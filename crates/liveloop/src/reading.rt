@@ -3,10 +3,12 @@ ghost use Rattle.liveloop.specs.Grammar.{IsGoodCommand, IsGoodSaying};
 
 use crate::MAX_LEAVES;
 use crate::command::{Command, Commands};
+use crate::fault::{LiveFault, LiveScriptError};
+use crate::reason::{LiveReason, reason_of};
 use crate::saying::{Saying, saying_of};
 use bottimers::Zone;
 use bytetext::{Failure, NoMemory};
-use script::{MAX_SCRIPT, ScriptError, ScriptFault, pieces_of};
+use script::{MAX_SCRIPT, Reason, pieces_of};
 use std::alloc::Global;
 use std::marker::Model;
 
@@ -43,10 +45,10 @@ impl LiveScript {
     ///
     /// # Errors
     /// `Refused` with line 0 above 1,048,576 bytes, else with the first line that breaks a rule, else with line 0 where
-    /// there is no command; `NoMemory` where room is refused before a broken rule is seen.
-    pub fn read(alloc: Global, bytes: &[u8]) -> Result<LiveScript, ScriptError> {
+    /// there is no command; each with its reason. `NoMemory` where room is refused before a broken rule is told.
+    pub fn read(alloc: Global, bytes: &[u8]) -> Result<LiveScript, LiveScriptError> {
         if bytes.len() > MAX_SCRIPT {
-            return Err(fault_at(0));
+            return Err(whole_fault(Reason::TooLong));
         }
         let lines = pieces_of(alloc, bytes, b'\n')?;
         script_of(alloc, lines.as_slice())
@@ -78,22 +80,33 @@ impl LiveScript {
     }
 }
 
-fn fault_at(line: u64) -> ScriptError {
-    Failure::Refused(ScriptFault { line })
+// A fault of the whole script.
+fn whole_fault(reason: Reason) -> LiveScriptError {
+    let reason = LiveReason::Script(reason);
+    Failure::Refused(LiveFault { line: 0, reason })
 }
 
 // The script that these lines make.
-fn script_of(alloc: Global, lines: &[&[u8]]) -> Result<LiveScript, ScriptError> {
+fn script_of(alloc: Global, lines: &[&[u8]]) -> Result<LiveScript, LiveScriptError> {
     let mut script = None;
     for (place, line) in lines.iter().enumerate() {
         let saying = saying_of(alloc, line)?;
+        let is_begun = script.is_some();
         if !go_on(alloc, &mut script, saying)? {
-            return Err(fault_at(place as u64 + 1));
+            return Err(fault_at(alloc, place as u64 + 1, is_begun, line));
         }
     }
     match script {
         Some(script) => Ok(script),
-        None => Err(fault_at(0)),
+        None => Err(whole_fault(Reason::NoCommand)),
+    }
+}
+
+// A line that breaks a rule.
+fn fault_at(alloc: Global, line: u64, is_begun: bool, bytes: &[u8]) -> LiveScriptError {
+    match reason_of(alloc, is_begun, bytes) {
+        Ok(reason) => Failure::Refused(LiveFault { line, reason }),
+        Err(NoMemory) => Failure::NoMemory,
     }
 }
 

@@ -21,6 +21,7 @@ mod guest;
 mod house;
 mod link;
 mod peer;
+mod socket_fault;
 mod uplink;
 mod waiting;
 
@@ -29,4 +30,5 @@ pub use crate::frames::{FramePeer, frame_of};
 pub use crate::house::House;
 pub use crate::link::LinkHouse;
 pub use crate::peer::Peer;
+pub use crate::socket_fault::SocketFault;
 pub use crate::uplink::Uplink;

@@ -12,6 +12,8 @@ use Rattle.procstore.specs.declared.call.Call.{Call}
 use Rattle.procstore.specs.declared.reply.Code.{Code}
 use Rattle.script.specs.declared.TheConstants.{MAX_SCRIPT}
 use Rattle.script.specs.declared.error.ScriptFault.{ScriptFault}
+use Rattle.script.specs.declared.reading.Script.{Script}
+use Rattle.script.specs.Reasons.{TellsWhy}
 use Rattle.script.specs.Outcomes.{ReadsAs}
 use Rattle.script.specs.Reading.{HasFault, Spells}
 use Rattle.script.proofs.Faults.{HasFault-not_spelled, HasFault-same, Spells-take, HasFault-take}
@@ -27,6 +29,11 @@ pub TellsFault-read : (T : Type 0) (bytes : List ℕ) (line : ℕ) (e : Failure 
     → TellsFault {T = T} line (Err e)
 TellsFault-read T bytes line (Refused told) reads fault = HasFault-same bytes told.line line reads fault
 TellsFault-read T bytes line failed_no_memory reads fault = tt
+
+-- and why there is one
+pub TellsWhy-read : (T : Type 0) (bytes : List ℕ) (e : Failure ScriptFault) → TellsWhy {T = Script} bytes (Err e) → TellsWhy {T = T} bytes (Err e)
+TellsWhy-read T bytes (Refused told) why = why
+TellsWhy-read T bytes failed_no_memory why = tt
 
 -- reading ---------------------------------------------------------------------------------------------------------------
 

@@ -33,9 +33,12 @@ pub fn put_end(out: &mut Vec<u8>, bot: u16, end: End, note: &Option<Note>) -> Re
     }
 }
 
-// A note, with its number, letters or text where it has any; `Done` where there is none.
+/// Adds a note, with its number, letters or text where it has any; `Done` where there is none.
+///
+/// # Errors
+/// `NoMemory` where room is refused.
 #[tactic(auto, using(std::proofs::Common::append_assoc))]
-fn put_note(out: &mut Vec<u8>, note: &Option<Note>) -> Result<(), NoMemory>
+pub fn put_note(out: &mut Vec<u8>, note: &Option<Note>) -> Result<(), NoMemory>
     ensures { OnOk result (out.new.items ≡ out.old.items ++ note_text note.now) }
 {
     match note {

@@ -13,7 +13,7 @@
 //!
 //! Whoever runs scripts in another way takes the same pieces: the bytes of a script by [`script_bytes`], its bots by
 //! [`new_bots`], each with its journal on two [`SteadyDisk`]s, or in a world by [`new_world`], what a `show` prints by
-//! [`put_records`], and the way to the stream by [`write_text`]. A script that says no zone has that of [`zone_or_utc`].
+//! [`put_records`], what came of a step by [`put_note`], what a packet is by [`put_packet`], and the way to the stream by [`write_text`]. A script that says no zone has that of [`zone_or_utc`].
 #![tactic(auto)]
 
 mod ends;
@@ -30,9 +30,11 @@ mod starting;
 mod steady_disk;
 mod transcripts;
 
+pub use crate::ends::put_note;
 pub use crate::error::ReplayError;
 pub use crate::input::script_bytes;
 pub use crate::output::write_text;
+pub use crate::packets::put_packet;
 pub use crate::replaying::replay;
 pub use crate::shows::put_records;
 pub use crate::starting::{new_bots, new_world, zone_or_utc};

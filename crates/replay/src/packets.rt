@@ -23,9 +23,12 @@ pub fn put_sent(out: &mut Vec<u8>, number: u64, sent: &Sent) -> Result<(), NoMem
     put(out, b"\n")
 }
 
-// KIND DETAIL
+/// Adds what a packet is, as `KIND DETAIL`.
+///
+/// # Errors
+/// `NoMemory` where room is refused.
 #[tactic(auto, using(std::proofs::Common::append_assoc))]
-fn put_packet(out: &mut Vec<u8>, packet: &Packet) -> Result<(), NoMemory>
+pub fn put_packet(out: &mut Vec<u8>, packet: &Packet) -> Result<(), NoMemory>
     ensures { OnOk result (out.new.items ≡ out.old.items ++ packet_text packet.now) }
 {
     match packet {

@@ -1,6 +1,8 @@
 // From a script's bytes to its transcript.
 ghost use Rattle.std.specs.Prelude.{◌≡◌, ◌<◌, ◌≤◌, [], ◌∷◌, ◌++◌, ℕ, Err, length, map, IfOk, OnOk};
 ghost use Rattle.script.specs.Reading.{HasFault};
+ghost use Rattle.script.specs.Reasons.{TellsWhy};
+ghost use Rattle.scriptfaults.specs.declared.reason.Reason.TheVariants as why;
 ghost use Rattle.script.specs.declared.TheConstants.{MAX_SCRIPT};
 ghost use Rattle.linkcalls.specs.declared.TheConstants.{MAX_LEAVES};
 ghost use Rattle.botworld.specs.Standing.{Past, Stands};
@@ -34,7 +36,8 @@ pub fn transcript<P: Promise, B: Run>(
     ensures refused { IsRefusedRightly script.now result }
     // A script with a fault is answered with its first faulty line, unless memory runs out before that is seen.
     ensures faulty { (line : ℕ) → HasFault script.now line → TellsFault line result }
-    ensures too_long { MAX_SCRIPT < length script.now → result ≡ Err (Failure.Refused (record { line = 0 })) }
+    ensures reasons { TellsWhy script.now result }
+    ensures too_long { MAX_SCRIPT < length script.now → result ≡ Err (Failure.Refused (record { line = 0; reason = why.TooLong })) }
 {
     match Script::read(alloc, script) {
         Ok(script) => Ok(text_of(alloc, store, script)?),

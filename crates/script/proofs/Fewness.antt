@@ -6,13 +6,14 @@ use Rattle.linkcalls.specs.declared.TheConstants.{MAX_LEAVES}
 use Rattle.script.specs.declared.command.Command.{Command}
 use Rattle.script.specs.declared.saying.Saying.{Saying}
 use Rattle.script.specs.declared.saying.Saying.TheVariants.{Nothing, Leaves, Zone, Told, Wrong}
-use Rattle.script.specs.declared.saying.Verb.{Verb}
-use Rattle.script.specs.declared.saying.Verb.TheVariants.{Leaves as leaves_verb, Ask as ask_verb, Pump as pump_verb, Connect as connect_verb}
-use Rattle.script.specs.declared.saying.Verb.TheVariants.{Compact as compact_verb, Restart as restart_verb}
-use Rattle.script.specs.declared.saying.Verb.TheVariants.{Line as line_verb, Clock as clock_verb, Bind as bind_verb, Unbind as unbind_verb}
-use Rattle.script.specs.declared.saying.Verb.TheVariants.{Deliver as deliver_verb, Show as show_verb, Zone as zone_verb}
-use Rattle.script.specs.Grammar.{few_leaves, counted, zoned, told, two_words, more_words, saying_by_words, saying_of, verb_of, bot_of}
+use Rattle.scriptfaults.specs.declared.verb.Verb.{Verb}
+use Rattle.scriptfaults.specs.declared.verb.Verb.TheVariants.{Leaves as leaves_verb, Ask as ask_verb, Pump as pump_verb, Connect as connect_verb}
+use Rattle.scriptfaults.specs.declared.verb.Verb.TheVariants.{Compact as compact_verb, Restart as restart_verb}
+use Rattle.scriptfaults.specs.declared.verb.Verb.TheVariants.{Line as line_verb, Clock as clock_verb, Bind as bind_verb, Unbind as unbind_verb}
+use Rattle.scriptfaults.specs.declared.verb.Verb.TheVariants.{Deliver as deliver_verb, Show as show_verb, Zone as zone_verb}
+use Rattle.script.specs.Grammar.{few_leaves, counted, zoned, told, two_words, more_words, saying_by_words, saying_of, bot_of}
 use Rattle.bottimers.specs.Zones.{TzText}
+use Rattle.scriptfaults.specs.Vocabulary.{verb_named}
 use Rattle.scriptwords.specs.Words.{words_of}
 use Rattle.script.specs.Reading.{said, onto_said}
 use Rattle.script.specs.Outcomes.{LinesReadAs}
@@ -84,8 +85,8 @@ more_words-few (Some zone_verb) a first words = tt
 saying_by_words-few : (words : List (List ℕ)) → IsFew (saying_by_words words)
 saying_by_words-few [] = tt
 saying_by_words-few (verb ∷ []) = tt
-saying_by_words-few (verb ∷ a ∷ []) = two_words-few (verb_of verb) a
-saying_by_words-few (verb ∷ a ∷ first ∷ words) = more_words-few (verb_of verb) a first words
+saying_by_words-few (verb ∷ a ∷ []) = two_words-few (verb_named verb) a
+saying_by_words-few (verb ∷ a ∷ first ∷ words) = more_words-few (verb_named verb) a first words
 
 saying_of-few : (line : List ℕ) → IsFew (saying_of line)
 saying_of-few [] = tt

@@ -1,3 +1,4 @@
 pub mod Sayings
 pub mod Faults
 pub mod Fewness
+pub mod Whys

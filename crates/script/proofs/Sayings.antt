@@ -9,8 +9,9 @@ use Rattle.script.specs.declared.command.Command.{Command}
 use Rattle.script.specs.declared.saying.Saying.{Saying}
 use Rattle.script.specs.declared.saying.Saying.TheVariants.{Nothing, Leaves, Zone, Told, Wrong}
 use Rattle.script.specs.declared.reading.Script.{Script}
-use Rattle.script.specs.Grammar.{saying_of, saying_by_words, verb_of, more_words}
+use Rattle.script.specs.Grammar.{saying_of, saying_by_words, more_words}
 use Rattle.bottimers.specs.Zones.{TzText}
+use Rattle.scriptfaults.specs.Vocabulary.{verb_named}
 use Rattle.script.specs.Reading.{said, onto_said, are_told, are_told_in_zone, begins_script, zone_said, BreaksAt}
 use Rattle.script.specs.Outcomes.{so_far, GoesOn, HasLineFault}
 
@@ -162,9 +163,9 @@ breaks-more lines i d old new saying false within before e g on =
 
 -- an ask, word by word
 pub more_words-at : (words : List (Bor (List ℕ))) (d : Bor (List ℕ)) (n : ℕ) → 3 ≤ length words → length words ≤ n + 3
-    → more_words (verb_of (get_or words 0 d).now) (get_or words 1 d).now (get_or words 2 d).now (now_of (take n (drop 3 words))) ≡ saying_by_words
+    → more_words (verb_named (get_or words 0 d).now) (get_or words 1 d).now (get_or words 2 d).now (now_of (take n (drop 3 words))) ≡ saying_by_words
     (now_of words)
 more_words-at [] d n most all = absurd (omega arith)
 more_words-at (x ∷ []) d n most all = absurd (omega arith)
 more_words-at (x ∷ y ∷ []) d n most all = absurd (omega arith)
-more_words-at (x ∷ y ∷ z ∷ rest) d n most all = ap (λ ws. more_words (verb_of x.now) y.now z.now (now_of ws)) (take_all n rest (omega arith))
+more_words-at (x ∷ y ∷ z ∷ rest) d n most all = ap (λ ws. more_words (verb_named x.now) y.now z.now (now_of ws)) (take_all n rest (omega arith))

@@ -1,6 +1,5 @@
 -- What a line of a script says by itself.
-use Rattle.std.specs.Prelude.{ℕ, ◌==◌, nat_le, List, [], ◌∷◌, Option, None, Some, option_map, option_and_then, if◌then◌else◌, codes}
-use Rattle.std.specs.Str.{bytes_eq}
+use Rattle.std.specs.Prelude.{ℕ, ◌==◌, nat_le, List, [], ◌∷◌, Option, None, Some, option_map, option_and_then, if◌then◌else◌}
 use Rattle.script.specs.declared.command.Command.{Command}
 use Rattle.script.specs.declared.command.Command.TheVariants.{Steps, Show}
 use Rattle.bindtable.specs.Kinds.{kind_of}
@@ -9,11 +8,12 @@ use Rattle.botcore.specs.declared.event.Event.{Event}
 use Rattle.botcore.specs.declared.event.Event.TheVariants.{Ask, Pump, Compact, Restart, Connect, Bind, Unbind, Clock}
 use Rattle.botworld.specs.declared.step.Step.{Step}
 use Rattle.botworld.specs.declared.step.Step.TheVariants.{At, Deliver}
-use Rattle.script.specs.declared.saying.Verb.{Verb}
-use Rattle.script.specs.declared.saying.Verb.TheVariants.{Leaves as leaves_verb, Ask as ask_verb, Pump as pump_verb, Connect as connect_verb}
-use Rattle.script.specs.declared.saying.Verb.TheVariants.{Compact as compact_verb, Restart as restart_verb}
-use Rattle.script.specs.declared.saying.Verb.TheVariants.{Line as line_verb, Clock as clock_verb, Bind as bind_verb, Unbind as unbind_verb}
-use Rattle.script.specs.declared.saying.Verb.TheVariants.{Deliver as deliver_verb, Show as show_verb, Zone as zone_verb}
+use Rattle.scriptfaults.specs.declared.verb.Verb.{Verb}
+use Rattle.scriptfaults.specs.declared.verb.Verb.TheVariants.{Leaves as leaves_verb, Ask as ask_verb, Pump as pump_verb, Connect as connect_verb}
+use Rattle.scriptfaults.specs.declared.verb.Verb.TheVariants.{Compact as compact_verb, Restart as restart_verb}
+use Rattle.scriptfaults.specs.declared.verb.Verb.TheVariants.{Line as line_verb, Clock as clock_verb, Bind as bind_verb, Unbind as unbind_verb}
+use Rattle.scriptfaults.specs.declared.verb.Verb.TheVariants.{Deliver as deliver_verb, Show as show_verb, Zone as zone_verb}
+use Rattle.scriptfaults.specs.Vocabulary.{verb_named}
 use Rattle.script.specs.declared.saying.Saying.{Saying}
 use Rattle.script.specs.declared.saying.Saying.TheVariants.{Nothing, Leaves, Zone, Told, Wrong}
 use Rattle.bottimers.specs.Zones.{TzText, rule_in}
@@ -67,24 +67,6 @@ event_at bot event = one_step (At bot event)
 -- the bot of a word is told this
 abbrev pub told_to : Option ℕ → Event → Saying
 told_to bot event = told (option_map (λ number. event_at number event) bot)
-
--- the first words
-abbrev pub verb_of : List ℕ → Option Verb
-verb_of word =
-    if bytes_eq word (codes "leaves") then Some leaves_verb
-    else if bytes_eq word (codes "ask") then Some ask_verb
-    else if bytes_eq word (codes "pump") then Some pump_verb
-    else if bytes_eq word (codes "compact") then Some compact_verb
-    else if bytes_eq word (codes "restart") then Some restart_verb
-    else if bytes_eq word (codes "connect") then Some connect_verb
-    else if bytes_eq word (codes "line") then Some line_verb
-    else if bytes_eq word (codes "clock") then Some clock_verb
-    else if bytes_eq word (codes "bind") then Some bind_verb
-    else if bytes_eq word (codes "unbind") then Some unbind_verb
-    else if bytes_eq word (codes "deliver") then Some deliver_verb
-    else if bytes_eq word (codes "show") then Some show_verb
-    else if bytes_eq word (codes "zone") then Some zone_verb
-    else None
 
 -- VERB A
 abbrev pub two_words : Option Verb → List ℕ → Saying
@@ -142,8 +124,8 @@ more_words None a first words = Wrong
 
 -- each command has its count of words
 abbrev pub saying_by_words : List (List ℕ) → Saying
-saying_by_words (verb ∷ a ∷ []) = two_words (verb_of verb) a
-saying_by_words (verb ∷ a ∷ first ∷ words) = more_words (verb_of verb) a first words
+saying_by_words (verb ∷ a ∷ []) = two_words (verb_named verb) a
+saying_by_words (verb ∷ a ∷ first ∷ words) = more_words (verb_named verb) a first words
 saying_by_words (verb ∷ []) = Wrong
 saying_by_words [] = Wrong
 

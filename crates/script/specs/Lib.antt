@@ -5,3 +5,4 @@ pub mod Lines
 pub mod Grammar
 pub mod Reading
 pub mod Outcomes
+pub mod Reasons

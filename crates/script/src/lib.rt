@@ -4,7 +4,7 @@
 //! may be `zone RULE`, the zone of all bots' clocks (a rule of POSIX of 1 to 100 bytes: [`Zone`](bottimers::Zone)); then come
 //! `ask B CHANGE`, `pump B`, `compact B`, `restart B`, `connect B`, `line B TEXT`, `clock B N`, `bind B TYPE FLAGS PROC MASK`,
 //! `unbind B TYPE PROC MASK`, `deliver K` and `show B`, in any order. Empty lines and lines that begin with `#` are no commands. [`Script::read`]
-//! answers the number of leaves and the commands, or the first line that breaks a rule.
+//! answers the number of leaves and the commands, or the first line that breaks a rule, with the [`Reason`].
 //!
 //! A TEXT takes the rest of the line, spaces and all, and a bot reads it as it would from a server: a carriage return in
 //! it ends a line, so a `line` has a step for each line that its text holds. A `clock` has the bot read its clock, which
@@ -37,6 +37,7 @@ pub use crate::command::{Command, Commands, Steps};
 pub use crate::error::{ScriptError, ScriptFault};
 pub use crate::reading::Script;
 pub use crate::saying::{Saying, saying_of};
+pub use scriptfaults::{Reason, Verb, line_reason, spacing_reason};
 pub use scriptwords::{change_of, number, pieces_of, rest_of};
 
 /// The most bytes that a script has.

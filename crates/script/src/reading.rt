@@ -1,6 +1,8 @@
 // A whole script.
-ghost use Rattle.std.specs.Prelude.{IfOk, map};
-ghost use Rattle.script.specs.Outcomes.{GoesOn, LinesReadAs};
+ghost use Rattle.std.specs.Prelude.{◌≡◌, IfOk, map, unwrap_or};
+ghost use Rattle.scriptfaults.specs.Lines.{line_reason};
+ghost use Rattle.script.specs.Outcomes.{GoesOn, LinesReadAs, so_far};
+ghost use Rattle.script.specs.Reasons.{LinesTellWhy, TellsReason, order_reason};
 ghost use Rattle.script.specs.declared.saying.Saying.TheVariants.{Leaves, Told};
 
 use crate::MAX_SCRIPT;
@@ -10,6 +12,7 @@ use crate::saying::{Saying, saying_of};
 use bottimers::Zone;
 use bytetext::{Failure, NoMemory, TryCopy};
 use linkcalls::MAX_LEAVES;
+use scriptfaults::{Reason, line_reason};
 use scriptwords::pieces_of;
 use std::alloc::Global;
 
@@ -26,20 +29,27 @@ pub struct Script {
 
 impl Script {
     ghost use Rattle.std.specs.Prelude.{◌≡◌, ◌<◌, ◌≤◌, length, IfOk};
+    ghost use Rattle.scriptfaults.specs.declared.reason.Reason.TheVariants as why;
     ghost use Rattle.script.specs.Outcomes.{ReadsAs};
+    ghost use Rattle.script.specs.Reasons.{TellsWhy};
 
     /// The script that these bytes spell.
     ///
     /// # Errors
     /// `Refused` with line 0 above 1,048,576 bytes, else with the first line that breaks a rule, else with line 0 where
-    /// there is no command; `NoMemory` where room is refused before a broken rule is seen, which is not for the length.
+    /// there is no command; each with its reason. `NoMemory` where room is refused before a broken rule is told, which is
+    /// not for the length.
     pub fn read(alloc: Global, bytes: &[u8]) -> Result<Script, ScriptError>
         ensures reads { ReadsAs bytes.now result }
+        ensures reasons { TellsWhy bytes.now result }
         ensures few { IfOk result (λ script. script.leaves ≤ MAX_LEAVES) }
-        ensures too_long { MAX_SCRIPT < length bytes.now → result ≡ Err (Failure.Refused (record { line = 0 })) }
+        ensures too_long { MAX_SCRIPT < length bytes.now → result ≡ Err (Failure.Refused (record { line = 0; reason = why.TooLong })) }
     {
         if bytes.len() > MAX_SCRIPT {
-            return Err(Failure::Refused(ScriptFault { line: 0 }));
+            return Err(Failure::Refused(ScriptFault {
+                line: 0,
+                reason: Reason::TooLong,
+            }));
         }
         let lines = pieces_of(alloc, bytes, b'\n')?;
         script_of(alloc, lines.as_slice())
@@ -61,19 +71,49 @@ impl TryCopy for Script {
 
 // The script that these lines make.
 fn script_of(alloc: Global, lines: &[&[u8]]) -> Result<Script, ScriptError>
-    ensures { LinesReadAs (map (λ line. line.now) lines.now) result }
+    ensures reads { LinesReadAs (map (λ line. line.now) lines.now) result }
+    ensures reasons { LinesTellWhy (map (λ line. line.now) lines.now) result }
 {
     let mut script = None;
     for (place, line) in lines.iter().enumerate() {
         let saying = saying_of(alloc, line)?;
+        let order = order_reason(&script, &saying);
         if !go_on(alloc, &mut script, saying)? {
-            let line = place as u64 + 1;
-            return Err(Failure::Refused(ScriptFault { line }));
+            return Err(fault_at(alloc, place as u64 + 1, line, order));
         }
     }
     match script {
         Some(script) => Ok(script),
-        None => Err(Failure::Refused(ScriptFault { line: 0 })),
+        None => Err(Failure::Refused(ScriptFault {
+            line: 0,
+            reason: Reason::NoCommand,
+        })),
+    }
+}
+
+// A line that breaks a rule, by itself or else in this way after others.
+fn fault_at(alloc: Global, line: u64, bytes: &[u8], order: Reason) -> ScriptError
+    ensures { TellsReason line (unwrap_or (line_reason bytes.now) order) result }
+{
+    match line_reason(alloc, bytes) {
+        Ok(found) => {
+            let reason = found.unwrap_or(order);
+            Failure::Refused(ScriptFault { line, reason })
+        }
+        Err(NoMemory) => Failure::NoMemory,
+    }
+}
+
+// How a line of this saying, which is right by itself, breaks a rule after these lines, where it does.
+fn order_reason(script: &Option<Script>, saying: &Saying) -> Reason
+    ensures { result ≡ order_reason (so_far script.now) saying.now }
+{
+    if script.is_none() {
+        return Reason::LeavesFirst;
+    }
+    match saying {
+        Saying::Leaves(_) => Reason::LeavesAgain,
+        Saying::Nothing | Saying::Zone(_) | Saying::Told(_) | Saying::Wrong => Reason::ZoneLate,
     }
 }
 

@@ -1,7 +1,8 @@
 // What one line says.
 ghost use Rattle.std.specs.Prelude.{◌≡◌, ◌∷◌, map, option_and_then, IfOk};
 ghost use Rattle.bottimers.specs.Zones.{rule_in};
-ghost use Rattle.script.specs.Grammar.{counted, zoned, few_leaves, told, verb_of, one_step, event_at, told_to, asked, read, clocked, bound, unbound};
+ghost use Rattle.scriptfaults.specs.Vocabulary.{verb_named};
+ghost use Rattle.script.specs.Grammar.{counted, zoned, few_leaves, told, one_step, event_at, told_to, asked, read, clocked, bound, unbound};
 ghost use Rattle.script.specs.Grammar.{two_words, more_words, saying_by_words, saying_of};
 
 use crate::binding::{new_bind, old_bind};
@@ -13,26 +14,9 @@ use bottimers::Zone;
 use botworld::Step;
 use bytetext::NoMemory;
 use linkcalls::MAX_LEAVES;
+use scriptfaults::Verb;
 use scriptwords::{bot_number, change_named, number, pieces_of, rest_of};
 use std::alloc::Global;
-
-/// The first words of lines.
-#[derive(Clone, Copy)]
-pub enum Verb {
-    Leaves,
-    Ask,
-    Pump,
-    Compact,
-    Restart,
-    Connect,
-    Line,
-    Clock,
-    Bind,
-    Unbind,
-    Deliver,
-    Show,
-    Zone,
-}
 
 /// What a line says by itself, whatever stands before it.
 #[derive(Drop)]
@@ -74,46 +58,11 @@ fn saying_by_words(alloc: Global, words: &[&[u8]]) -> Result<Saying, NoMemory>
     }
 }
 
-// The first word.
-fn verb_of(word: &[u8]) -> Option<Verb>
-    ensures { result ≡ verb_of word.now }
-{
-    if word == b"leaves".as_slice() {
-        Some(Verb::Leaves)
-    } else if word == b"ask".as_slice() {
-        Some(Verb::Ask)
-    } else if word == b"pump".as_slice() {
-        Some(Verb::Pump)
-    } else if word == b"compact".as_slice() {
-        Some(Verb::Compact)
-    } else if word == b"restart".as_slice() {
-        Some(Verb::Restart)
-    } else if word == b"connect".as_slice() {
-        Some(Verb::Connect)
-    } else if word == b"line".as_slice() {
-        Some(Verb::Line)
-    } else if word == b"clock".as_slice() {
-        Some(Verb::Clock)
-    } else if word == b"bind".as_slice() {
-        Some(Verb::Bind)
-    } else if word == b"unbind".as_slice() {
-        Some(Verb::Unbind)
-    } else if word == b"deliver".as_slice() {
-        Some(Verb::Deliver)
-    } else if word == b"show".as_slice() {
-        Some(Verb::Show)
-    } else if word == b"zone".as_slice() {
-        Some(Verb::Zone)
-    } else {
-        None
-    }
-}
-
 // VERB A
 fn two_words(alloc: Global, verb: &[u8], a: &[u8]) -> Result<Saying, NoMemory>
-    ensures { IfOk result (λ saying. saying ≡ two_words (verb_of verb.now) a.now) }
+    ensures { IfOk result (λ saying. saying ≡ two_words (verb_named verb.now) a.now) }
 {
-    match verb_of(verb) {
+    match Verb::named(verb) {
         Some(Verb::Leaves) => Ok(count_leaves(bot_number(a))),
         Some(Verb::Zone) => Ok(read_zone(a)),
         Some(Verb::Pump) => tell(alloc, bot_number(a), Event::Pump),
@@ -194,10 +143,10 @@ fn more_words(
     first: &[u8],
     words: &[&[u8]],
 ) -> Result<Saying, NoMemory>
-    ensures { IfOk result (λ saying. saying ≡ more_words (verb_of verb.now) a.now first.now
+    ensures { IfOk result (λ saying. saying ≡ more_words (verb_named verb.now) a.now first.now
         (map (λ word. word.now) words.now)) }
 {
-    match verb_of(verb) {
+    match Verb::named(verb) {
         Some(Verb::Ask) => ask(alloc, bot_number(a), first, words),
         Some(Verb::Line) => read_lines(alloc, bot_number(a), first, words),
         Some(Verb::Clock) => read_clock(alloc, bot_number(a), first, words),

@@ -2,7 +2,7 @@ use Rattle.std.proofs.Common.{ℕ}
 use Rattle.std.specs.declared.vec.Vec.{Vec}
 use Rattle.std.specs.declared.alloc.Global.{Global}
 use Rattle.script.proofs.Faults.{HasFault-not_spelled}
-use Rattle.replay.proofs.Endings.{TellsFault-read}
+use Rattle.replay.proofs.Endings.{TellsFault-read, TellsWhy-read}
 use Rattle.replay.proofs.transcripts.transcript.Goals as goal
 
 pub returns-in_ok-text_of-in-Ok-clause-whole : goal.returns-in_ok-text_of-in-Ok-clause-whole
@@ -13,3 +13,6 @@ returns-in_ok-text_of-in-Ok-clause-faulty g c = λ line fault. HasFault-not_spel
 
 pub returns-in-Err-clause-faulty : goal.returns-in-Err-clause-faulty
 returns-in-Err-clause-faulty g c = λ line fault. TellsFault-read (Vec ℕ Global) c.args.script.now line c.in-Err.error c.in-Err.ensures.reads fault
+
+pub returns-in-Err-clause-reasons : goal.returns-in-Err-clause-reasons
+returns-in-Err-clause-reasons g c = TellsWhy-read (Vec ℕ Global) c.args.script.now c.in-Err.error c.in-Err.ensures.reasons

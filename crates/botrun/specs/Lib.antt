@@ -1,0 +1,4 @@
+pub mod Ending
+pub mod Outcomes
+pub mod Taking
+pub mod Told

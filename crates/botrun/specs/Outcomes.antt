@@ -1,0 +1,67 @@
+-- What came of a change that was asked for, by what a turn tells.
+use Rattle.std.specs.Prelude.{Bool, true, false, List, [], ◌∷◌, Option, Some, None, if◌then◌else◌}
+use Rattle.linkcalls.specs.declared.note.Note.{Note as LinkNote}
+use Rattle.linkcalls.specs.declared.note.Note.TheVariants as says
+use Rattle.botcore.specs.declared.fault.Refusal.{Refusal}
+use Rattle.botcore.specs.declared.fault.Refusal.TheVariants.{Link as by_link, Bind, Clock}
+use Rattle.botcore.specs.declared.report.End.{End}
+use Rattle.botcore.specs.declared.report.End.TheVariants.{Done, Refused as ends_refused, NoMemory}
+use Rattle.botcore.specs.declared.report.Note.{Note}
+use Rattle.botcore.specs.declared.report.Note.TheVariants.{Link, Bound, Unbound, Bad}
+use Rattle.botcore.specs.declared.report.Report.{Report}
+use Rattle.botrun.specs.declared.outcome.Outcome.{Outcome}
+use Rattle.botrun.specs.declared.outcome.Outcome.TheVariants.{Nothing, Accepted, Refused, Barred}
+
+-- a change is accepted or refused by the userfile; nothing else that the link notes is the end of one
+abbrev pub of_note : LinkNote → Outcome
+of_note says.Queued = Nothing
+of_note says.Idle = Nothing
+of_note (says.Sent request) = Nothing
+of_note (says.Accepted n) = Accepted n
+of_note (says.Refused fault) = Refused fault
+of_note (says.Served count) = Nothing
+of_note says.Old = Nothing
+of_note says.Repeat = Nothing
+of_note says.Gap = Nothing
+of_note says.Early = Nothing
+of_note (says.Applied n) = Nothing
+of_note (says.Kept part) = Nothing
+of_note (says.Installed version) = Nothing
+of_note says.Compacted = Nothing
+of_note says.Relayed = Nothing
+of_note (says.Text from text) = Nothing
+of_note says.Stray = Nothing
+of_note (says.Restarted version) = Nothing
+
+abbrev pub of_end : Option Note → Outcome
+of_end None = Nothing
+of_end (Some (Link note)) = of_note note
+of_end (Some (Bound n)) = Nothing
+of_end (Some (Unbound n)) = Nothing
+of_end (Some (Bad fault)) = Nothing
+
+-- the link refuses it
+abbrev pub of_refusal : Refusal → Outcome
+of_refusal (by_link fault) = Barred fault
+of_refusal (Bind fault) = Nothing
+of_refusal (Clock fault) = Nothing
+
+abbrev pub by_end : End → Option Note → Outcome
+by_end Done told = of_end told
+by_end (ends_refused refusal) told = of_refusal refusal
+by_end NoMemory told = Nothing
+
+-- what a step tells of a change
+abbrev pub told_by : Report → Outcome
+told_by report = by_end report.end report.note
+
+abbrev pub is_told : Outcome → Bool
+is_told Nothing = false
+is_told (Accepted n) = true
+is_told (Refused fault) = true
+is_told (Barred fault) = true
+
+-- the first of them that tells anything
+abbrev pub outcome_of : List Report → Outcome
+outcome_of [] = Nothing
+outcome_of (report ∷ reports) = if is_told (told_by report) then told_by report else outcome_of reports

@@ -1,0 +1,30 @@
+-- What a server is told.
+use Rattle.std.specs.Prelude.{◌≡◌, ℕ, Bool, true, List, [], ◌∷◌, ◌++◌}
+use Rattle.std.specs.List.{AllByRecursion, flat_map}
+use Rattle.streams.specs.State.{Source, Sink}
+use Rattle.upkeep.specs.Lines.{is_line}
+use Rattle.wire.specs.Wires.{Ledger, Holds}
+
+-- a connection: its stream, what was heard of it and is not taken yet, what it is still to take, and whether it is over
+pub record Talk : Type 0 where
+  pub source : Source
+  pub sink : Sink
+  pub heard : List ℕ
+  pub unsent : List ℕ
+  pub over : Bool
+
+-- a line as it goes: with CR and LF
+abbrev pub ended : List ℕ → List ℕ
+ended line = line ++ 13 ∷ 10 ∷ []
+
+-- 1 to 510 bytes, none of them NUL, CR or LF
+abbrev pub IsLine : List ℕ → Type 0
+IsLine line = is_line line ≡ true
+
+-- What a connection's stream has taken since it began, and then what is unsent, are lines, one after another.
+pub record TellsLines (source : Source) (sink : Sink) (heard unsent : List ℕ) : Type 0 where
+  pub ledger : Ledger
+  pub lines : List (List ℕ)
+  pub each : AllByRecursion IsLine lines
+  pub told : ledger.told ≡ flat_map ended lines
+  pub holds : Holds ledger source sink heard unsent

@@ -1,0 +1,65 @@
+// What an operator is answered.
+use crate::checking::NoBind;
+use crate::ending::{KIND, PROC};
+use crate::outcome::Outcome;
+use botcore::{End, Note, Report};
+use bytetext::NoMemory;
+use control::Advice;
+use std::alloc::Global;
+use std::fmt::Display;
+
+// What came of a change, as a line.
+pub(crate) fn of_change(alloc: Global, outcome: Outcome) -> Result<Vec<u8>, NoMemory> {
+    match outcome {
+        Outcome::Nothing => Ok(Vec::from_slice(alloc, b"queued\n")?),
+        Outcome::Accepted(number) => numbered(alloc, "accepted", number),
+        Outcome::Refused(fault) => refused(alloc, fault.code(), &fault),
+        Outcome::Barred(fault) => refused(alloc, fault.code(), &fault),
+    }
+}
+
+// What came of a bind, or of taking one away, as a line.
+pub(crate) fn of_bind(alloc: Global, report: &Report) -> Result<Vec<u8>, NoMemory> {
+    match report.end {
+        End::Done => of_bound(alloc, &report.note),
+        End::Refused(refusal) => refused(alloc, refusal.code(), &refusal),
+        End::NoMemory => Err(NoMemory),
+    }
+}
+
+fn of_bound(alloc: Global, note: &Option<Note>) -> Result<Vec<u8>, NoMemory> {
+    match note {
+        Some(Note::Bound(number)) => numbered(alloc, "bound", *number),
+        Some(Note::Unbound(number)) => numbered(alloc, "unbound", *number),
+        Some(Note::Link(_) | Note::Bad(_)) | None => Ok(Vec::new(alloc)),
+    }
+}
+
+// There is no such bind to ask for.
+pub(crate) fn of_no_bind(alloc: Global, why: NoBind) -> Result<Vec<u8>, NoMemory> {
+    match why {
+        NoBind::Kind => fault(alloc, &KIND),
+        NoBind::Proc => fault(alloc, &PROC),
+        NoBind::NoMemory => Err(NoMemory),
+    }
+}
+
+// A command is not understood.
+pub(crate) fn of_advice(alloc: Global, advice: Advice) -> Result<Vec<u8>, NoMemory> {
+    fault(alloc, &advice)
+}
+
+fn fault<T: Display>(alloc: Global, text: &T) -> Result<Vec<u8>, NoMemory> {
+    let line = format!(in alloc; "fault {}\n", *text)?;
+    Ok(line.into_bytes())
+}
+
+fn numbered(alloc: Global, word: &str, number: u32) -> Result<Vec<u8>, NoMemory> {
+    let line = format!(in alloc; "{word} {number}\n")?;
+    Ok(line.into_bytes())
+}
+
+fn refused<T: Display>(alloc: Global, code: &str, text: &T) -> Result<Vec<u8>, NoMemory> {
+    let line = format!(in alloc; "refused {code} {}\n", *text)?;
+    Ok(line.into_bytes())
+}

@@ -1,0 +1,126 @@
+// What can be said of a configuration before anything is opened.
+ghost use Rattle.std.specs.Prelude.{◌<◌, ◌≡◌, None, length, OnOk};
+
+use crate::ending::RunError;
+use bindtable::{BindKind, BindTable};
+use botcore::{NewBind, OldBind};
+use bytetext::{Failure, NoMemory, TryCopy};
+use control::UnbindWords;
+use procstore::{ProcStore, Promise, Run};
+use settings::{BindLine, BindWords, Settings};
+use std::alloc::Global;
+
+/// Whether a bot of these settings can run with these procs, as far as it can be said before anything is opened.
+///
+/// # Errors
+/// `NoServer`, `Others` and `Account` as they say; then the first bind that is refused, by `BindKind`, `BindProc` or
+/// `Bind`; `NoMemory` where a growth is refused.
+pub fn check<P: Promise, B: Run>(
+    alloc: Global,
+    store: &ProcStore<P, B>,
+    settings: &Settings,
+) -> Result<(), RunError>
+    ensures some { OnOk result (0 < length settings.now.servers) }
+    // It is a hub without leaves, and authenticates as nobody.
+    ensures alone { OnOk result (settings.now.station.leaves ≡ 0) }
+    ensures nobody { OnOk result (settings.now.account ≡ None) }
+{
+    if settings.servers.is_empty() {
+        return Err(RunError::NoServer);
+    }
+    if settings.station.leaves > 0 {
+        return Err(RunError::Others);
+    }
+    if settings.account.is_some() {
+        return Err(RunError::Account);
+    }
+    let mut table = BindTable::new(alloc);
+    for bind in settings.binds.as_slice() {
+        check_bind(alloc, store, &mut table, bind)?;
+    }
+    Ok(())
+}
+
+// Makes a bind in a table.
+fn check_bind<P: Promise, B: Run>(
+    alloc: Global,
+    store: &ProcStore<P, B>,
+    table: &mut BindTable,
+    bind: &BindLine,
+) -> Result<(), RunError> {
+    let asked = match new_bind(alloc, store, &bind.words) {
+        Ok(asked) => asked,
+        Err(why) => return Err(of_line(bind.line, why)),
+    };
+    match table.bind(
+        alloc,
+        asked.kind,
+        asked.flags.as_bytes(),
+        asked.mask.as_bytes(),
+        asked.proc.as_bytes(),
+    ) {
+        Ok(_) => Ok(()),
+        Err(Failure::Refused(fault)) => Err(RunError::Bind {
+            line: bind.line,
+            fault,
+        }),
+        Err(Failure::NoMemory) => Err(RunError::NoMemory),
+    }
+}
+
+// Why there is no such bind to ask for.
+#[derive(Clone, Copy)]
+pub(crate) enum NoBind {
+    // There is no such type.
+    Kind,
+    // The program lacks the proc.
+    Proc,
+    NoMemory,
+}
+
+impl From<NoMemory> for NoBind {
+    fn from(_refused: NoMemory) -> NoBind {
+        NoBind::NoMemory
+    }
+}
+
+// Why the bind of a line is none.
+pub(crate) fn of_line(line: u64, why: NoBind) -> RunError {
+    match why {
+        NoBind::Kind => RunError::BindKind { line },
+        NoBind::Proc => RunError::BindProc { line },
+        NoBind::NoMemory => RunError::NoMemory,
+    }
+}
+
+// The bind of these words.
+pub(crate) fn new_bind<P: Promise, B: Run>(
+    alloc: Global,
+    store: &ProcStore<P, B>,
+    words: &BindWords,
+) -> Result<NewBind, NoBind> {
+    let Some(kind) = BindKind::of_word(words.kind.as_bytes()) else {
+        return Err(NoBind::Kind);
+    };
+    if !store.holds(words.proc.as_bytes()) {
+        return Err(NoBind::Proc);
+    }
+    Ok(NewBind {
+        kind,
+        flags: words.flags.copy(alloc)?,
+        mask: words.mask.copy(alloc)?,
+        proc: words.proc.copy(alloc)?,
+    })
+}
+
+// The bind of these words, to be taken away.
+pub(crate) fn old_bind(words: UnbindWords) -> Result<OldBind, NoBind> {
+    match BindKind::of_word(words.kind.as_bytes()) {
+        Some(kind) => Ok(OldBind {
+            kind,
+            mask: words.mask,
+            proc: words.proc,
+        }),
+        None => Err(NoBind::Kind),
+    }
+}

@@ -1,0 +1,170 @@
+// What a bot does for an operator, and what it answers.
+ghost use Rattle.std.specs.Prelude.{◌<◌};
+ghost use Rattle.bytetext.specs.declared.moment.TheConstants.{MOMENTS_END};
+ghost use Rattle.botcore.specs.Steps.{IsGoodEvent};
+
+use crate::answers::{of_bind, of_change, of_no_bind};
+use crate::checking::{new_bind, old_bind};
+use crate::ending::RunError;
+use crate::entry::Why;
+use crate::outcome::Outcome;
+use crate::process::Process;
+use crate::status::status_of;
+use botcore::Event;
+use bytetext::{NoMemory, Text};
+use control::UnbindWords;
+use procstore::{ProcStore, Promise, Run};
+use replay::put_records;
+use settings::{BindWords, Settings};
+use std::alloc::Global;
+use upkeep::MAX_LINE;
+use userfile::Change;
+
+// For how many seconds who has still to be told something is waited for at the end.
+const LAST_SECONDS: u64 = 2;
+
+impl Process {
+    pub(crate) fn change<R: AllocGlobal + Print, P: Promise, B: Run>(
+        &mut self,
+        rt: &R,
+        store: &ProcStore<P, B>,
+        settings: &Settings,
+        change: Change,
+        now: u64,
+    ) -> Result<Vec<u8>, RunError> {
+        let outcome = self.ask(rt, store, settings, change, now)?;
+        Ok(of_change(rt.alloc(), outcome)?)
+    }
+
+    pub(crate) fn compact_now<R: AllocGlobal + Print, P: Promise, B: Run>(
+        &mut self,
+        rt: &R,
+        store: &ProcStore<P, B>,
+        settings: &Settings,
+        now: u64,
+    ) -> Result<Vec<u8>, RunError> {
+        match self.compact(rt, store, settings, now)? {
+            Outcome::Nothing => Ok(Vec::from_slice(rt.alloc(), b"compacted\n")?),
+            outcome => Ok(of_change(rt.alloc(), outcome)?),
+        }
+    }
+
+    // The version and the records, as a transcript has them.
+    pub(crate) fn show(&self, alloc: Global, settings: &Settings) -> Result<Vec<u8>, RunError> {
+        let mut text = Vec::new(alloc);
+        let version = Some(self.bot.version());
+        put_records(
+            alloc,
+            &mut text,
+            settings.station.number,
+            version,
+            Some(self.bot.userfile()),
+        )?;
+        Ok(text)
+    }
+
+    // How the bot is.
+    pub(crate) fn status(&self, alloc: Global, settings: &Settings) -> Result<Vec<u8>, RunError> {
+        Ok(status_of(alloc, self, settings)?)
+    }
+
+    // Makes a bind, which lasts until the bot ends.
+    pub(crate) fn bind<P: Promise, B: Run>(
+        &mut self,
+        alloc: Global,
+        store: &ProcStore<P, B>,
+        words: &BindWords,
+    ) -> Result<Vec<u8>, RunError> {
+        match new_bind(alloc, store, words) {
+            Ok(asked) => self.step_bind(alloc, store, Event::Bind(asked)),
+            Err(why) => Ok(of_no_bind(alloc, why)?),
+        }
+    }
+
+    // Takes a bind away.
+    pub(crate) fn unbind<P: Promise, B: Run>(
+        &mut self,
+        alloc: Global,
+        store: &ProcStore<P, B>,
+        words: UnbindWords,
+    ) -> Result<Vec<u8>, RunError> {
+        match old_bind(words) {
+            Ok(gone) => self.step_bind(alloc, store, Event::Unbind(gone)),
+            Err(why) => Ok(of_no_bind(alloc, why)?),
+        }
+    }
+
+    fn step_bind<P: Promise, B: Run>(
+        &mut self,
+        alloc: Global,
+        store: &ProcStore<P, B>,
+        event: Event,
+    ) -> Result<Vec<u8>, RunError>
+        requires good { IsGoodEvent event }
+    {
+        let report = self.bot.step(alloc, store, event);
+        Ok(of_bind(alloc, &report)?)
+    }
+
+    // Puts a line after those that wait for the server.
+    pub(crate) fn say(&mut self, alloc: Global, line: Text) -> Result<Vec<u8>, RunError> {
+        if self.uplink.session().is_none() {
+            return Ok(Vec::from_slice(
+                alloc,
+                b"refused no server: wait until the bot is connected\n",
+            )?);
+        }
+        if !self.uplink.own.has_room() {
+            return Ok(Vec::from_slice(alloc, b"refused 64 lines wait: say it later\n")?);
+        }
+        self.uplink.own.put(line)?;
+        Ok(Vec::from_slice(alloc, b"said\n")?)
+    }
+
+    // Leaves this server for the next.
+    pub(crate) fn jump<R: AllocGlobal + Print>(
+        &mut self,
+        rt: &R,
+        settings: &Settings,
+        now: u64,
+    ) -> Result<Vec<u8>, RunError>
+        requires moment { now < MOMENTS_END }
+    {
+        if self.uplink.session().is_none() {
+            return Ok(Vec::from_slice(
+                rt.alloc(),
+                b"refused no server: the next is tried in time\n",
+            )?);
+        }
+        self.uplink
+            .tell(rt, settings, b"QUIT :changing servers", now)?;
+        let _sent = self.uplink.send();
+        self.uplink.lose(rt, Why::Jump, now);
+        Ok(Vec::from_slice(rt.alloc(), b"jumping\n")?)
+    }
+
+    // Is to end, and tells the server so.
+    pub(crate) fn die<R: AllocGlobal + Print>(
+        &mut self,
+        rt: &R,
+        settings: &Settings,
+        text: &Text,
+        now: u64,
+    ) -> Result<Vec<u8>, RunError> {
+        let line = quit_line(rt.alloc(), text.as_bytes())?;
+        self.uplink.own.clear();
+        self.uplink.tell(rt, settings, line.as_slice(), now)?;
+        if self.until.is_none() {
+            self.until = Some(now.saturating_add(LAST_SECONDS));
+        }
+        Ok(Vec::from_slice(rt.alloc(), b"ending\n")?)
+    }
+}
+
+// QUIT and a text, cut to what a line holds.
+fn quit_line(alloc: Global, text: &[u8]) -> Result<Vec<u8>, NoMemory> {
+    let mut line = Vec::from_slice(alloc, b"QUIT :")?;
+    line.extend_from_slice(text)?;
+    line.truncate(MAX_LINE);
+    Ok(line)
+}

@@ -1,0 +1,215 @@
+// Why a bot's process ends, and with which status.
+ghost use Rattle.std.specs.Prelude.{◌≡◌};
+ghost use Rattle.botrun.specs.Ending.{status_of};
+
+use bindtable::BindFault;
+use botcore::{BotError, BotFault};
+use botfolder::{FolderError, FolderFault};
+use bytejournal::JournalFault;
+use bytetext::{Failure, NoMemory};
+use sockets::DoorFault;
+use std::alloc::{AllocError, AllocFailed};
+use std::error::Error;
+use std::fmt;
+use std::fmt::Display;
+
+/// Why a bot's process does not run, or ends before it is told to. Each text goes on from its [`Subject`].
+#[derive(Clone, Copy, Debug, PartialEq, Eq)]
+pub enum RunError {
+    /// The bot is one of several: such a one does not run as a process.
+    Others,
+    /// It has a line `account`.
+    Account,
+    /// It has no server.
+    NoServer,
+    /// The bind of this line is of no type that there is.
+    BindKind {
+        /// The line's number, from 1.
+        line: u64,
+    },
+    /// The bind of this line calls a proc that the program lacks.
+    BindProc {
+        /// The line's number, from 1.
+        line: u64,
+    },
+    /// The table of binds refuses the bind of this line.
+    Bind {
+        /// The line's number, from 1.
+        line: u64,
+        /// Why.
+        fault: BindFault,
+    },
+    /// The configuration breaks a rule of bots.
+    Config,
+    /// The folder can't be the bot's.
+    Folder(FolderFault),
+    /// The folder holds another bot's journal, or none.
+    OtherJournal,
+    /// Nobody can be listened to at the socket for operators.
+    Control(DoorFault),
+    /// A disk failed while the journal was made, opened or written.
+    DiskFailed {
+        /// The change that may count or not: one above the version.
+        change: u64,
+    },
+    /// The system does not wait for sockets, or tells no time.
+    System,
+    /// A growth was refused.
+    NoMemory,
+}
+
+/// What a [`RunError`]'s text goes on from.
+#[derive(Clone, Copy, Debug, PartialEq, Eq)]
+pub enum Subject {
+    /// The name of the configuration file, a colon and a space.
+    File,
+    /// The name of the bot's folder and a space.
+    Folder,
+    /// The name of the socket `control` in the folder and a space.
+    Control,
+    /// Nothing.
+    Nothing,
+}
+
+impl RunError {
+    /// The status with which a program ends: 1 for a configuration or another bot's journal, 3 for what the system, a
+    /// folder, a socket or a disk refuses, 4 for want of memory.
+    pub fn status(self) -> u8
+        ensures { result ≡ status_of self }
+    {
+        match self {
+            RunError::Others
+            | RunError::Account
+            | RunError::NoServer
+            | RunError::BindKind { line: _ }
+            | RunError::BindProc { line: _ }
+            | RunError::Bind { line: _, fault: _ }
+            | RunError::Config
+            | RunError::OtherJournal => 1,
+            RunError::Folder(_)
+            | RunError::Control(_)
+            | RunError::DiskFailed { change: _ }
+            | RunError::System => 3,
+            RunError::NoMemory => 4,
+        }
+    }
+
+    /// What its text goes on from.
+    pub fn subject(self) -> Subject {
+        match self {
+            RunError::Others
+            | RunError::Account
+            | RunError::NoServer
+            | RunError::BindKind { line: _ }
+            | RunError::BindProc { line: _ }
+            | RunError::Bind { line: _, fault: _ }
+            | RunError::Config => Subject::File,
+            RunError::OtherJournal | RunError::Folder(_) | RunError::DiskFailed { change: _ } => {
+                Subject::Folder
+            }
+            RunError::Control(_) => Subject::Control,
+            RunError::System | RunError::NoMemory => Subject::Nothing,
+        }
+    }
+}
+
+impl Display for RunError {
+    fn fmt<W: fmt::Write>(&self, f: &mut fmt::Formatter<W>) -> fmt::Result {
+        match *self {
+            RunError::BindKind { line } => write!(f, "line {line}: {KIND}"),
+            RunError::BindProc { line } => write!(f, "line {line}: {PROC}"),
+            RunError::Bind { line, fault } => {
+                let code = fault.code();
+                write!(f, "line {line}: {code}: {fault}")
+            }
+            RunError::Folder(fault) => write!(f, "{fault}"),
+            RunError::Control(fault) => write!(f, "{fault}"),
+            RunError::DiskFailed { change } => write!(
+                f,
+                "lies on a disk that failed: free space or mend it, then run again; change {change} may count or not"
+            ),
+            RunError::Others
+            | RunError::Account
+            | RunError::NoServer
+            | RunError::Config
+            | RunError::OtherJournal
+            | RunError::System
+            | RunError::NoMemory => write!(f, "{}", sentence(*self)),
+        }
+    }
+}
+
+impl Error for RunError {}
+
+/// What to say instead of a bind of no type.
+pub(crate) const KIND: &str =
+    "say a type of bind: raw, msg, msgm, notc, pub, pubm, join, part, sign, kick, nick, mode, topc, bot, time or cron";
+
+/// What to say instead of a bind of a proc that the program lacks.
+pub(crate) const PROC: &str = "say a proc that this program has";
+
+// The text of an error without parts; empty for the others.
+fn sentence(error: RunError) -> &'static str {
+    match error {
+        RunError::Others =>
+            "take the line bot out, and hub, listen and secret: a bot of several does not run as a process",
+        RunError::Account =>
+            "take the line account out, and say a line as in perform PRIVMSG NickServ :IDENTIFY password",
+        RunError::NoServer => "a bot needs a line: server HOST PORT",
+        RunError::Config => "mend the lines bot, nick and channel: one is out of its range",
+        RunError::OtherJournal =>
+            "holds the journal of another bot, or none that can be read: give the folder of this bot",
+        RunError::System =>
+            "the system waits for no sockets or tells no time: raise its limit of open files, and try again",
+        RunError::NoMemory => "out of memory: free some and try again",
+        RunError::BindKind { line: _ }
+        | RunError::BindProc { line: _ }
+        | RunError::Bind { line: _, fault: _ }
+        | RunError::Folder(_)
+        | RunError::Control(_)
+        | RunError::DiskFailed { change: _ } => "",
+    }
+}
+
+impl From<NoMemory> for RunError {
+    fn from(_refused: NoMemory) -> RunError {
+        RunError::NoMemory
+    }
+}
+
+impl From<AllocError> for RunError {
+    fn from(_refused: AllocError) -> RunError {
+        RunError::NoMemory
+    }
+}
+
+impl<T: Drop> From<AllocFailed<T>> for RunError {
+    fn from(_refused: AllocFailed<T>) -> RunError {
+        RunError::NoMemory
+    }
+}
+
+// Why a folder is not the bot's.
+pub(crate) fn of_folder(error: FolderError) -> RunError {
+    match error {
+        Failure::Refused(fault) => RunError::Folder(fault),
+        Failure::NoMemory => RunError::NoMemory,
+    }
+}
+
+// Why a bot was not made or found.
+pub(crate) fn of_bot(error: BotError) -> RunError {
+    match error {
+        Failure::Refused(BotFault::BadConfig) => RunError::Config,
+        Failure::Refused(BotFault::Journal(fault)) => of_journal(fault),
+        Failure::NoMemory => RunError::NoMemory,
+    }
+}
+
+// What a journal's fault means. What a disk holds that failed while a journal was made or opened is not known.
+fn of_journal(fault: JournalFault) -> RunError {
+    match fault {
+        JournalFault::NotAJournal | JournalFault::GenerationsSpent => RunError::OtherJournal,
+        JournalFault::DiskFault | JournalFault::Spent => RunError::Folder(FolderFault::DiskFails),
+    }
+}

@@ -1,0 +1,51 @@
+//! One bot as a process that runs until it is told to end.
+//!
+//! [`run`] takes the bot's folder, finds or makes its journal, connects to the servers of its configuration in turn,
+//! and listens for operators at the socket `control` in the folder. Then it goes round: it waits for sockets, reads the
+//! clocks, connects what is lost and due, reads, has the bot take the turn, writes, and lets go who is over. What the
+//! bot itself does is [`turns::take_turn`]'s, and a bind of an operator one step of it: nothing is decided here for it.
+//!
+//! What the process says to a server by itself is a registration's PASS, a PING after 90 seconds of silence, another
+//! nick where the server takes none of the bot's, the lines `perform` once after each welcome, a JOIN after a KICK or
+//! where the bot was not let in, and what an operator has it say. Each line to a server has 1 to 510 bytes: a
+//! [`ServerWire`] is told nothing else.
+//!
+//! The log goes to standard output, a line an event: seconds since 1970-01-01 UTC, and what happened. That it can't be
+//! written ends nothing.
+//!
+//! ```text
+//! let settings = Settings::read(alloc, bytes)?;
+//! check(alloc, &store, &settings)?;                  // what can be said before anything is opened
+//! run(&rt, &store, &settings)?;                      // until an operator says die
+//! ```
+#![tactic(auto)]
+
+mod answers;
+mod bot_process;
+mod channels;
+mod checking;
+mod deeds;
+mod ending;
+mod entry;
+mod hearing;
+mod keeping;
+mod log;
+mod obeying;
+mod operators;
+mod outcome;
+mod own_lines;
+mod passing;
+mod process;
+mod server_wire;
+mod session;
+mod shown;
+mod starting;
+mod status;
+mod steps;
+mod uplink;
+
+pub use crate::bot_process::run;
+pub use crate::checking::check;
+pub use crate::ending::{RunError, Subject};
+pub use crate::operators::{MAX_OPERATORS, MAX_UNSENT};
+pub use crate::server_wire::ServerWire;

@@ -1,0 +1,110 @@
+// What operators ask for.
+ghost use Rattle.std.specs.Prelude.{◌<◌, length, IfSome};
+ghost use Rattle.bytetext.specs.declared.moment.TheConstants.{MOMENTS_END};
+
+use crate::answers::of_advice;
+use crate::ending::RunError;
+use crate::entry::Entry;
+use crate::log::log;
+use crate::process::Process;
+use bytetext::Failure;
+use control::Command;
+use procstore::{ProcStore, Promise, Run};
+use settings::Settings;
+
+impl Process {
+    // Does what each operator asks for, a command of each. Whether there was one.
+    pub(crate) fn obey_all<R: AllocGlobal + Print, P: Promise, B: Run>(
+        &mut self,
+        rt: &R,
+        store: &ProcStore<P, B>,
+        settings: &Settings,
+        now: u64,
+    ) -> Result<bool, RunError>
+        requires moment { now < MOMENTS_END }
+    {
+        let mut obeyed = false;
+        for place in 0..self.operators.len() {
+            if let Some(line) = self.operators.take_command(rt.alloc(), place)? {
+                let answer = self.obey_line(rt, store, settings, line.as_slice(), now)?;
+                self.operators.tell(place, answer.as_slice())?;
+                obeyed = true;
+            }
+        }
+        Ok(obeyed)
+    }
+
+    // Does what a line asks for. What is answered.
+    fn obey_line<R: AllocGlobal + Print, P: Promise, B: Run>(
+        &mut self,
+        rt: &R,
+        store: &ProcStore<P, B>,
+        settings: &Settings,
+        line: &[u8],
+        now: u64,
+    ) -> Result<Vec<u8>, RunError>
+        requires moment { now < MOMENTS_END }
+    {
+        match Command::read(rt.alloc(), line) {
+            Ok(command) => {
+                if is_logged(&command) {
+                    log(rt, now, &Entry::Asked(first_word(line)));
+                }
+                self.obey(rt, store, settings, command, now)
+            }
+            Err(Failure::Refused(advice)) => Ok(of_advice(rt.alloc(), advice)?),
+            Err(Failure::NoMemory) => Err(RunError::NoMemory),
+        }
+    }
+
+    fn obey<R: AllocGlobal + Print, P: Promise, B: Run>(
+        &mut self,
+        rt: &R,
+        store: &ProcStore<P, B>,
+        settings: &Settings,
+        command: Command,
+        now: u64,
+    ) -> Result<Vec<u8>, RunError>
+        requires moment { now < MOMENTS_END }
+    {
+        match command {
+            Command::Change(change) => self.change(rt, store, settings, change, now),
+            Command::Show => self.show(rt.alloc(), settings),
+            Command::Status => self.status(rt.alloc(), settings),
+            Command::Bind(words) => self.bind(rt.alloc(), store, &words),
+            Command::Unbind(words) => self.unbind(rt.alloc(), store, words),
+            Command::Say(line) => self.say(rt.alloc(), line),
+            Command::Compact => self.compact_now(rt, store, settings, now),
+            Command::Jump => self.jump(rt, settings, now),
+            Command::Die(text) => self.die(rt, settings, &text, now),
+        }
+    }
+}
+
+// Whether the log tells that a command was given: not where it only asks how the bot is.
+fn is_logged(command: &Command) -> bool {
+    match command {
+        Command::Show | Command::Status => false,
+        Command::Change(_)
+        | Command::Bind(_)
+        | Command::Unbind(_)
+        | Command::Say(_)
+        | Command::Compact
+        | Command::Jump
+        | Command::Die(_) => true,
+    }
+}
+
+// What stands before the first space.
+fn first_word(line: &[u8]) -> &[u8] {
+    match first_space(line) {
+        Some(end) => &line[..end],
+        None => line,
+    }
+}
+
+fn first_space(line: &[u8]) -> Option<usize>
+    ensures within { IfSome result (λ end. end < length line.now) }
+{
+    line.iter().position(|byte| *byte == b' ')
+}

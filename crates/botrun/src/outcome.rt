@@ -1,0 +1,101 @@
+// What came of a change.
+ghost use Rattle.std.specs.Prelude.{◌≡◌};
+ghost use Rattle.botrun.specs.Outcomes.{is_told, of_end, of_note, of_refusal, outcome_of, told_by};
+
+use botcore::{End, Note, Refusal, Report};
+use linkcalls::LinkFault;
+use userfile::ChangeFault;
+
+// What came of a change that was asked for, or of a pump.
+#[derive(Clone, Copy)]
+pub(crate) enum Outcome {
+    // Nothing waits, or it still does.
+    Nothing,
+    // A change was accepted under this number.
+    Accepted(u32),
+    // The userfile refuses the change.
+    Refused(ChangeFault),
+    // The link refuses it.
+    Barred(LinkFault),
+}
+
+// What came of a change, by the reports of a turn: the first of them that tells anything.
+pub(crate) fn outcome_of(reports: &[Report]) -> Outcome
+    ensures { result ≡ outcome_of reports.now }
+{
+    for report in reports {
+        let outcome = told_by(report);
+        if outcome.is_told() {
+            return outcome;
+        }
+    }
+    Outcome::Nothing
+}
+
+impl Outcome {
+    // Whether it tells anything.
+    fn is_told(self) -> bool
+        ensures { result ≡ is_told self }
+    {
+        match self {
+            Outcome::Nothing => false,
+            Outcome::Accepted(_) | Outcome::Refused(_) | Outcome::Barred(_) => true,
+        }
+    }
+}
+
+// What a step tells of a change.
+fn told_by(report: &Report) -> Outcome
+    ensures { result ≡ told_by report.now }
+{
+    match report.end {
+        End::Done => of_end(&report.note),
+        End::Refused(refusal) => of_refusal(refusal),
+        End::NoMemory => Outcome::Nothing,
+    }
+}
+
+// What a step that is refused tells of a change.
+fn of_refusal(refusal: Refusal) -> Outcome
+    ensures { result ≡ of_refusal refusal }
+{
+    match refusal {
+        Refusal::Link(fault) => Outcome::Barred(fault),
+        Refusal::Bind(_) | Refusal::Clock(_) => Outcome::Nothing,
+    }
+}
+
+// What a step that is done tells of a change.
+fn of_end(note: &Option<Note>) -> Outcome
+    ensures { result ≡ of_end note.now }
+{
+    match note {
+        Some(Note::Link(note)) => of_note(note),
+        Some(Note::Bound(_) | Note::Unbound(_) | Note::Bad(_)) | None => Outcome::Nothing,
+    }
+}
+
+fn of_note(note: &linkcalls::Note) -> Outcome
+    ensures { result ≡ of_note note.now }
+{
+    match note {
+        linkcalls::Note::Accepted(number) => Outcome::Accepted(*number),
+        linkcalls::Note::Refused(fault) => Outcome::Refused(*fault),
+        linkcalls::Note::Queued
+        | linkcalls::Note::Idle
+        | linkcalls::Note::Sent(_)
+        | linkcalls::Note::Served(_)
+        | linkcalls::Note::Old
+        | linkcalls::Note::Repeat
+        | linkcalls::Note::Gap
+        | linkcalls::Note::Early
+        | linkcalls::Note::Applied(_)
+        | linkcalls::Note::Kept(_)
+        | linkcalls::Note::Installed(_)
+        | linkcalls::Note::Compacted
+        | linkcalls::Note::Relayed
+        | linkcalls::Note::Text { from: _, text: _ }
+        | linkcalls::Note::Stray
+        | linkcalls::Note::Restarted(_) => Outcome::Nothing,
+    }
+}

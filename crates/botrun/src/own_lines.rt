@@ -1,0 +1,48 @@
+// Lines of the process's own that wait.
+use bytetext::{NoMemory, Text};
+use std::alloc::Global;
+use std::collections::VecDeque;
+
+/// The most lines of operators that wait.
+const MAX_WAITING: usize = 64;
+
+// Lines that the process itself has for the server, the oldest first.
+#[derive(Drop)]
+pub(crate) struct OwnLines {
+    lines: VecDeque<Text>,
+}
+
+impl OwnLines {
+    // None. Takes no memory.
+    pub(crate) fn new(alloc: Global) -> OwnLines {
+        OwnLines {
+            lines: VecDeque::new(alloc),
+        }
+    }
+
+    // How many wait.
+    pub(crate) fn len(&self) -> usize {
+        self.lines.len()
+    }
+
+    // Whether an operator's line finds room.
+    pub(crate) fn has_room(&self) -> bool {
+        self.lines.len() < MAX_WAITING
+    }
+
+    // Puts a line after the others.
+    pub(crate) fn put(&mut self, line: Text) -> Result<(), NoMemory> {
+        self.lines.push_back(line)?;
+        Ok(())
+    }
+
+    // The oldest line, which then no longer waits.
+    pub(crate) fn next(&mut self) -> Option<Text> {
+        self.lines.pop_front()
+    }
+
+    // Forgets all.
+    pub(crate) fn clear(&mut self) {
+        self.lines.clear();
+    }
+}

@@ -1,0 +1,163 @@
+// One turn of a bot's process.
+ghost use Rattle.std.specs.Prelude.{◌<◌};
+ghost use Rattle.bytetext.specs.declared.moment.TheConstants.{MOMENTS_END};
+
+use crate::ending::RunError;
+use crate::operators::Operators;
+use crate::uplink::Uplink;
+use botcore::Bot;
+use bytetext::NoMemory;
+use disks::FileDisk;
+use ircline::LineReader;
+use procstore::{ProcStore, Promise, Run};
+use settings::Settings;
+use sockets::Registry;
+use std::net::Net;
+
+// A bot, its connections, and how far it has come.
+pub(crate) struct Process {
+    pub(crate) bot: Bot<FileDisk>,
+    pub(crate) lines: LineReader,
+    pub(crate) uplink: Uplink,
+    pub(crate) operators: Operators,
+    // The version at which the journal was last written anew; 0 where that is not known.
+    pub(crate) base: u32,
+    // The second until which it waits for who has still to be told something, once it is to end.
+    pub(crate) until: Option<u64>,
+}
+
+// By hand, so that this is proved once, and not in each function in which a process ends.
+impl Drop for Process {
+    fn drop(self) {
+        let Process {
+            bot: _,
+            lines: _,
+            uplink: _,
+            operators: _,
+            base: _,
+            until: _,
+        } = self;
+    }
+}
+
+// How a turn leaves a process.
+#[derive(Clone, Copy, PartialEq, Eq)]
+pub(crate) enum Turned {
+    // A byte moved: there may be more at once.
+    Moved,
+    // Nothing moved.
+    Rests,
+    // It has ended as it was told.
+    Ended,
+}
+
+impl Process {
+    // Makes a turn: connects what is lost and due, lets in who waits, reads, steps, writes, and lets go who is over.
+    pub(crate) fn turn<R: AllocGlobal + Net + Print, P: Promise, B: Run>(
+        &mut self,
+        rt: &R,
+        registry: &Registry,
+        store: &ProcStore<P, B>,
+        settings: &Settings,
+        now: u64,
+    ) -> Result<Turned, RunError>
+        requires moment { now < MOMENTS_END }
+    {
+        let came = self.take_in(rt, registry, store, settings, now)?;
+        let sent = self.give_out(rt, settings, now)?;
+        if self.has_ended(now) {
+            return Ok(Turned::Ended);
+        }
+        if came || sent {
+            Ok(Turned::Moved)
+        } else {
+            Ok(Turned::Rests)
+        }
+    }
+
+    // Connects, lets in, reads and steps. Whether there may be more at once.
+    fn take_in<R: AllocGlobal + Net + Print, P: Promise, B: Run>(
+        &mut self,
+        rt: &R,
+        registry: &Registry,
+        store: &ProcStore<P, B>,
+        settings: &Settings,
+        now: u64,
+    ) -> Result<bool, RunError>
+        requires moment { now < MOMENTS_END }
+    {
+        let began = self.connect(rt, registry, settings, now)?;
+        let came = self.read(now)?;
+        self.hear(rt, store, settings, began, now)?;
+        let obeyed = self.obey_all(rt, store, settings, now)?;
+        Ok(began || came || obeyed)
+    }
+
+    // Looks after the connection to the server, writes, and lets go who is over. Whether a byte went.
+    fn give_out<R: AllocGlobal + Print>(
+        &mut self,
+        rt: &R,
+        settings: &Settings,
+        now: u64,
+    ) -> Result<bool, RunError>
+        requires moment { now < MOMENTS_END }
+    {
+        self.uplink.keep(rt, settings, now)?;
+        let sent = self.send();
+        self.uplink.let_go(rt, now);
+        self.stay_up()?;
+        Ok(sent)
+    }
+
+    // Connects what is lost and due, unless it is to end, and lets in who waits. Whether a server is being connected.
+    fn connect<R: AllocGlobal + Net + Print>(
+        &mut self,
+        rt: &R,
+        registry: &Registry,
+        settings: &Settings,
+        now: u64,
+    ) -> Result<bool, NoMemory>
+        requires moment { now < MOMENTS_END }
+    {
+        self.operators.let_in(rt.alloc(), registry)?;
+        if self.until.is_some() {
+            return Ok(false);
+        }
+        self.uplink.connect(rt, registry, settings, now)
+    }
+
+    // Hears each. Whether a byte came.
+    fn read(&mut self, now: u64) -> Result<bool, NoMemory> {
+        let said = self.uplink.read(now)?;
+        let asked = self.operators.read()?;
+        Ok(said || asked)
+    }
+
+    // Offers each what is unsent. Whether one took a byte.
+    fn send(&mut self) -> bool {
+        let server = self.uplink.send();
+        let operators = self.operators.send();
+        server || operators
+    }
+
+    // A bot whose disk failed does not go on: its journal tells what counts when it is opened again.
+    fn stay_up(&self) -> Result<(), RunError> {
+        if self.bot.is_down() {
+            Err(RunError::DiskFailed {
+                change: u64::from(self.bot.version()) + 1,
+            })
+        } else {
+            Ok(())
+        }
+    }
+
+    // Whether it was told to end, and nobody has still to be told anything, or has had long enough.
+    fn has_ended(&self, now: u64) -> bool {
+        match self.until {
+            Some(until) => {
+                now >= until || (self.uplink.session().is_none() && self.operators.are_answered())
+            }
+            None => false,
+        }
+    }
+}

@@ -1,0 +1,120 @@
+// How a bot is found in its folder, or made there.
+ghost use Rattle.botfolder.specs.Folders.{AreReady};
+
+use crate::checking::{new_bind, of_line};
+use crate::ending::{RunError, of_bot, of_folder};
+use botcore::{Bot, Config, End, Event, Refusal};
+use botfolder::{Begun, BotFolder, FolderFault};
+use bytetext::{NoMemory, TryCopy};
+use disks::{FileDisk, Pair};
+use procstore::{ProcStore, Promise, Run};
+use settings::{BindLine, Settings};
+use std::alloc::Global;
+use std::fs::File;
+use std::rt::Files;
+use std::str;
+
+// Takes the folder of a bot for this program.
+pub(crate) fn folder_of<R: AllocGlobal + Files<File = File>>(
+    rt: &R,
+    settings: &Settings,
+) -> Result<BotFolder, RunError> {
+    let Ok(path) = str::from_utf8(settings.folder.as_bytes()) else {
+        return Err(RunError::Folder(FolderFault::Unusable));
+    };
+    match BotFolder::take(rt, path) {
+        Ok(folder) => Ok(folder),
+        Err(error) => Err(of_folder(error)),
+    }
+}
+
+// The bot whose journal a folder holds, which is made where there is none.
+pub(crate) fn bot_of<R: AllocGlobal + Files<File = File>>(
+    rt: &R,
+    folder: &BotFolder,
+    settings: &Settings,
+) -> Result<Bot<FileDisk>, RunError> {
+    let config = config_of(rt.alloc(), settings)?;
+    match folder.begin(rt) {
+        Ok(Begun::Found(disks)) => found(rt.alloc(), config, disks),
+        Ok(Begun::Empty(disks)) => made(rt, folder, config, disks),
+        Err(error) => Err(of_folder(error)),
+    }
+}
+
+// The bot of a journal that is there.
+fn found(alloc: Global, config: Config, disks: Pair) -> Result<Bot<FileDisk>, RunError>
+    requires ready { AreReady disks }
+{
+    let Pair { first, second } = disks;
+    match Bot::open(alloc, config, first, second) {
+        Ok(bot) => Ok(bot),
+        Err(returned) => Err(of_bot(returned.error)),
+    }
+}
+
+// A new bot, whose journal is found from now on.
+fn made<R: AllocGlobal + Files<File = File>>(
+    rt: &R,
+    folder: &BotFolder,
+    config: Config,
+    disks: Pair,
+) -> Result<Bot<FileDisk>, RunError>
+    requires ready { AreReady disks }
+{
+    let Pair { first, second } = disks;
+    let bot = match Bot::create(rt.alloc(), config, first, second) {
+        Ok(bot) => bot,
+        Err(returned) => return Err(of_bot(returned.error)),
+    };
+    match folder.finish(rt) {
+        Ok(()) => Ok(bot),
+        Err(error) => Err(of_folder(error)),
+    }
+}
+
+// What the bot is told before it is made.
+fn config_of(alloc: Global, settings: &Settings) -> Result<Config, NoMemory> {
+    Ok(Config {
+        number: settings.station.number,
+        leaves: settings.station.leaves,
+        nick: settings.nick.copy(alloc)?,
+        channels: settings.channels.copy(alloc)?,
+        exclusive: settings.exclusive,
+        zone: settings.zone.copy(alloc)?,
+    })
+}
+
+// Makes the binds of a configuration.
+pub(crate) fn bind_all<P: Promise, B: Run>(
+    alloc: Global,
+    bot: &mut Bot<FileDisk>,
+    store: &ProcStore<P, B>,
+    settings: &Settings,
+) -> Result<(), RunError> {
+    for bind in settings.binds.as_slice() {
+        bind_one(alloc, bot, store, bind)?;
+    }
+    Ok(())
+}
+
+fn bind_one<P: Promise, B: Run>(
+    alloc: Global,
+    bot: &mut Bot<FileDisk>,
+    store: &ProcStore<P, B>,
+    bind: &BindLine,
+) -> Result<(), RunError> {
+    let asked = match new_bind(alloc, store, &bind.words) {
+        Ok(asked) => asked,
+        Err(why) => return Err(of_line(bind.line, why)),
+    };
+    let report = bot.step(alloc, store, Event::Bind(asked));
+    match report.end {
+        End::Refused(Refusal::Bind(fault)) => Err(RunError::Bind {
+            line: bind.line,
+            fault,
+        }),
+        End::NoMemory => Err(RunError::NoMemory),
+        End::Done | End::Refused(Refusal::Link(_) | Refusal::Clock(_)) => Ok(()),
+    }
+}

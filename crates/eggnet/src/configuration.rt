@@ -1,0 +1,91 @@
+// The bot of a configuration file.
+use crate::procs::Ours;
+use crate::statuses::{FAULT, STREAM_FAULT, out_of_memory};
+use botrun::{RunError, Subject, check, run};
+use bytetext::Failure;
+use procstore::{ProcStore, Run};
+use settings::{MAX_FILE, Settings};
+use std::fs::File;
+use std::net::Net;
+use std::rt::Files;
+use std::str;
+use std::time::Clock;
+use streams::{Duplex, ReadError, read_up_to};
+
+/// Runs the bot of a configuration file, until it is told to end.
+pub fn run_file<R: Print + Eprint + AllocGlobal + Net + Clock + Files<File = File>, B: Run>(
+    rt: &R,
+    store: &ProcStore<Ours, B>,
+    file: &str,
+) -> u8 {
+    let settings = match settings_of(rt, file) {
+        Ok(settings) => settings,
+        Err(status) => return status,
+    };
+    match run(rt, store, &settings) {
+        Ok(()) => 0,
+        Err(error) => told(rt, file, &settings, error),
+    }
+}
+
+/// Says whether a bot can run by a configuration file. Nothing else is opened.
+pub fn check_file<R: Eprint + AllocGlobal + Files<File = File>, B: Run>(
+    rt: &R,
+    store: &ProcStore<Ours, B>,
+    file: &str,
+) -> u8 {
+    let settings = match settings_of(rt, file) {
+        Ok(settings) => settings,
+        Err(status) => return status,
+    };
+    match check(rt.alloc(), store, &settings) {
+        Ok(()) => 0,
+        Err(error) => told(rt, file, &settings, error),
+    }
+}
+
+// What a configuration file says, or the status after what is wrong with it was told.
+fn settings_of<R: Eprint + AllocGlobal + Files<File = File>>(
+    rt: &R,
+    file: &str,
+) -> Result<Settings, u8> {
+    let bytes = match bytes_of(rt, file) {
+        Ok(bytes) => bytes,
+        Err(ReadError::NoMemory) => return Err(out_of_memory(rt)),
+        Err(ReadError::Fault) => {
+            let _told = eprintln!(rt;
+                "eggnet: {file} can't be read: give a file that this user may read"
+            );
+            return Err(STREAM_FAULT);
+        }
+    };
+    match Settings::read(rt.alloc(), bytes.as_slice()) {
+        Ok(settings) => Ok(settings),
+        Err(Failure::Refused(fault)) => {
+            let _told = eprintln!(rt; "eggnet: {file}: {fault}");
+            Err(FAULT)
+        }
+        Err(Failure::NoMemory) => Err(out_of_memory(rt)),
+    }
+}
+
+// The bytes of a file, and one more than a configuration may have at most.
+fn bytes_of<R: AllocGlobal + Files<File = File>>(rt: &R, file: &str) -> Result<Vec<u8>, ReadError> {
+    let Ok(opened) = File::open(rt, file) else {
+        return Err(ReadError::Fault);
+    };
+    let mut stream = Duplex::new(opened, Vec::new(rt.alloc()));
+    read_up_to(rt.alloc(), &mut stream, MAX_FILE + 1)
+}
+
+// Tells why a bot does not run, or runs no longer.
+fn told<R: Eprint>(rt: &R, file: &str, settings: &Settings, error: RunError) -> u8 {
+    let folder = str::from_utf8(settings.folder.as_bytes()).unwrap_or("the folder");
+    let _told = match error.subject() {
+        Subject::File => eprintln!(rt; "eggnet: {file}: {error}"),
+        Subject::Folder => eprintln!(rt; "eggnet: {folder} {error}"),
+        Subject::Control => eprintln!(rt; "eggnet: {folder}/control {error}"),
+        Subject::Nothing => eprintln!(rt; "eggnet: {error}"),
+    };
+    error.status()
+}

@@ -1,0 +1,198 @@
+// What the command line asks for.
+use crate::statuses::{STREAM_FAULT, USAGE, out_of_memory};
+use clap::error::ErrorKind;
+use clap::{Arg, ArgMatches, Command, Error, value_parser};
+use std::alloc::{AllocError, Global};
+use std::io::ErrorKind as StreamErrorKind;
+use std::rt::Env;
+use std::{env, io};
+
+/// What `--version` prints after the program's name.
+const VERSION: &str = "0.1.0";
+
+/// What the program is to do.
+#[derive(Drop)]
+pub enum Task<'a> {
+    /// The script in this file, or else on standard input, is to be replayed.
+    Replay(Option<&'a str>),
+    /// The run of the script in this file, or else on standard input, is to be drawn.
+    Picture(Option<&'a str>),
+    /// The live script on standard input is to be played.
+    Live,
+    /// The small server is to listen on this port.
+    Serve(u16),
+    /// The bot of this configuration file is to run.
+    Run(&'a str),
+    /// This configuration file is to be read.
+    Check(&'a str),
+    /// The bot of this folder is to be told this line.
+    Tell(&'a str, Vec<u8>),
+    /// The records of this folder's bot are to be printed.
+    Show(&'a str),
+}
+
+/// The words of the command line, the program's own name first.
+///
+/// # Errors
+/// Where one is no UTF-8, and where memory is refused.
+pub fn words_of<R: AllocGlobal + Env>(rt: &R) -> io::Result<Vec<String>> {
+    let mut words = Vec::new(rt.alloc());
+    for word in env::args(rt)? {
+        words.push(word)?;
+    }
+    Ok(words)
+}
+
+/// Tells why the words of the command line can't be had.
+pub fn unread<R: Eprint>(rt: &R, error: &io::Error) -> u8 {
+    match error.kind() {
+        StreamErrorKind::OutOfMemory => out_of_memory(rt),
+        StreamErrorKind::InvalidData | StreamErrorKind::InvalidInput => {
+            let _told = eprintln!(rt; "eggnet: say each word in UTF-8");
+            USAGE
+        }
+        _ => {
+            let _told = eprintln!(rt; "eggnet: the command line can't be read");
+            STREAM_FAULT
+        }
+    }
+}
+
+/// Prints what clap says of a command line that it doesn't take, or its help, or the version.
+pub fn refused<R: Print + Eprint>(rt: &R, error: &Error) -> u8 {
+    if error.kind() == ErrorKind::OutOfMemory {
+        return out_of_memory(rt);
+    }
+    let _told = error.print(rt);
+    if error.use_stderr() { USAGE } else { 0 }
+}
+
+/// What the words after the program's name ask for.
+///
+/// # Errors
+/// Clap's, and where memory is refused.
+pub fn task_of<'a>(alloc: Global, words: &'a [String]) -> Result<Task<'a>, Error> {
+    let matches = command(alloc)?.try_get_matches_from(words)?;
+    match matches.subcommand() {
+        Some(("run", said)) => Ok(Task::Run(said.get_str("CONFIG").unwrap_or(""))),
+        Some(("check", said)) => Ok(Task::Check(said.get_str("CONFIG").unwrap_or(""))),
+        Some(("show", said)) => Ok(Task::Show(said.get_str("FOLDER").unwrap_or(""))),
+        Some(("tell", said)) => tell_of(alloc, said),
+        Some(("serve", said)) => Ok(Task::Serve(said.get_one("PORT").unwrap_or(0))),
+        Some(("replay", said)) => Ok(Task::Replay(said.get_str("FILE"))),
+        Some(("picture", said)) => Ok(Task::Picture(said.get_str("FILE"))),
+        _ => Ok(Task::Live),
+    }
+}
+
+// What `tell` asks for.
+fn tell_of<'a>(alloc: Global, said: &ArgMatches<'a>) -> Result<Task<'a>, Error> {
+    let line = match said.get_strs("WORDS") {
+        Some(words) => joined(alloc, words)?,
+        None => Vec::new(alloc),
+    };
+    Ok(Task::Tell(said.get_str("FOLDER").unwrap_or(""), line))
+}
+
+// The words with one space between.
+fn joined(alloc: Global, words: &[&str]) -> Result<Vec<u8>, AllocError> {
+    let mut line = Vec::new(alloc);
+    for (place, word) in words.iter().enumerate() {
+        if place > 0 {
+            line.push(b' ')?;
+        }
+        line.extend_from_slice(word.as_bytes())?;
+    }
+    Ok(line)
+}
+
+// The command line.
+fn command<'a>(alloc: Global) -> Result<Command<'a>, AllocError> {
+    Command::new(alloc, "eggnet")
+        .about("IRC bots that share a userfile")
+        .version(VERSION)
+        .subcommand_required(true)
+        .subcommand(run_command(alloc)?)?
+        .subcommand(check_command(alloc)?)?
+        .subcommand(tell_command(alloc)?)?
+        .subcommand(show_command(alloc)?)?
+        .subcommand(replay_command(alloc)?)?
+        .subcommand(picture_command(alloc)?)?
+        .subcommand(live_command(alloc))?
+        .subcommand(serve_command(alloc)?)
+}
+
+fn run_command<'a>(alloc: Global) -> Result<Command<'a>, AllocError> {
+    Command::new(alloc, "run")
+        .about("Run the bot of a configuration file, until it is told to end")
+        .arg(config_word(alloc))
+}
+
+fn check_command<'a>(alloc: Global) -> Result<Command<'a>, AllocError> {
+    Command::new(alloc, "check")
+        .about("Read a configuration file and say what is wrong with it; nothing is opened")
+        .arg(config_word(alloc))
+}
+
+fn config_word<'a>(alloc: Global) -> Arg<'a> {
+    Arg::new(alloc, "CONFIG")
+        .help("The configuration file")
+        .required(true)
+}
+
+fn tell_command<'a>(alloc: Global) -> Result<Command<'a>, AllocError> {
+    let words = Arg::new(alloc, "WORDS")
+        .help("A command: show, status, adduser HANDLE, die TEXT, or another")
+        .required(true)
+        .num_args(1..)
+        .trailing_var_arg(true)
+        .allow_hyphen_values(true);
+    Command::new(alloc, "tell")
+        .about("Give a command to the bot that runs on a folder, and print its answer")
+        .arg(folder_word(alloc))?
+        .arg(words)
+}
+
+fn show_command<'a>(alloc: Global) -> Result<Command<'a>, AllocError> {
+    Command::new(alloc, "show")
+        .about("Print the version and the records of a folder's bot, whether it runs or not")
+        .arg(folder_word(alloc))
+}
+
+fn folder_word<'a>(alloc: Global) -> Arg<'a> {
+    Arg::new(alloc, "FOLDER")
+        .help("The bot's folder, as its configuration's line data names it")
+        .required(true)
+}
+
+fn replay_command<'a>(alloc: Global) -> Result<Command<'a>, AllocError> {
+    Command::new(alloc, "replay")
+        .about("Do a script with a botnet in memory and print the transcript")
+        .arg(script_word(alloc))
+}
+
+fn picture_command<'a>(alloc: Global) -> Result<Command<'a>, AllocError> {
+    Command::new(alloc, "picture")
+        .about("Draw what a script's run was, as SVG that a browser shows")
+        .arg(script_word(alloc))
+}
+
+fn script_word<'a>(alloc: Global) -> Arg<'a> {
+    Arg::new(alloc, "FILE").help("The script; standard input where none is named")
+}
+
+fn live_command<'a>(alloc: Global) -> Command<'a> {
+    Command::new(alloc, "live").about(
+        "Do a live script from standard input, over sockets of this machine",
+    )
+}
+
+fn serve_command<'a>(alloc: Global) -> Result<Command<'a>, AllocError> {
+    let port = Arg::new(alloc, "PORT")
+        .help("The port of 127.0.0.1, or 0 for one that the system chooses")
+        .required(true)
+        .value_parser(value_parser!(u16));
+    Command::new(alloc, "serve")
+        .about("Keep a small IRC server running on this machine, for other programs")
+        .arg(port)
+}

@@ -1,0 +1,173 @@
+// Why a line of a live script breaks a rule.
+use crate::MAX_LEAVES;
+use crate::saying::{Saying, saying_of};
+use bytetext::NoMemory;
+use script::{Reason, Verb, line_reason, pieces_of, spacing_reason};
+use std::alloc::Global;
+use std::fmt;
+use std::fmt::Display;
+
+/// Why a line of a live script breaks a rule. Words of a line are counted from 1.
+#[derive(Clone, Copy, Debug, PartialEq, Eq)]
+pub enum LiveReason {
+    /// It would in a replay's script.
+    Script(Reason),
+    /// The first word is none that there is.
+    Unknown,
+    /// There are more than 8 leaves.
+    Leaves,
+    /// A bot hears what its server sends, and no line of a script.
+    NoLine,
+    /// Packets come by themselves.
+    NoDeliver,
+    /// The line has too few or too many words for this verb, or an empty one.
+    Form(LiveVerb),
+    /// The second word is no version.
+    Version,
+    /// The second word is no number of turns, or one above 100,000.
+    Turns,
+    /// The second word is no moment.
+    Moment,
+}
+
+/// The first words that only lines of a live script have, and `clock`, which takes other words there.
+#[derive(Clone, Copy, Debug, PartialEq, Eq)]
+pub enum LiveVerb {
+    /// Turns until each bot is at a version.
+    Until,
+    /// So many turns.
+    Turns,
+    /// A client in memory.
+    Guest,
+    /// A guest says something.
+    Say,
+    /// What a guest got.
+    Heard,
+    /// What all clocks show.
+    Clock,
+}
+
+impl LiveReason {
+    /// What is wrong, and what to say instead.
+    pub fn sentence(self) -> &'static str {
+        match self {
+            LiveReason::Script(reason) => reason.sentence(),
+            LiveReason::Unknown =>
+                "word 1 is no command: say leaves, zone, ask, pump, compact, restart, connect, bind, unbind, show, until, \
+                 turns, guest, say, heard or clock",
+            LiveReason::Leaves => "word 2 is no number of leaves: say 0 to 8 in a live script",
+            LiveReason::NoLine =>
+                "a live script has no line: say guest NICK CHANNEL, and then say NICK TARGET TEXT",
+            LiveReason::NoDeliver =>
+                "a live script has no deliver: say until V or turns N, and packets come",
+            LiveReason::Form(verb) => form_of(verb),
+            LiveReason::Version => "word 2 is no version: say 0 to 4294967295",
+            LiveReason::Turns => "word 2 is no number of turns: say 0 to 100000",
+            LiveReason::Moment =>
+                "word 2 is no moment: say the seconds since 1970-01-01 UTC, before the year 3000, as in 1767225600",
+        }
+    }
+}
+
+impl Display for LiveReason {
+    fn fmt<W: fmt::Write>(&self, f: &mut fmt::Formatter<W>) -> fmt::Result {
+        write!(f, "{}", self.sentence())
+    }
+}
+
+// How a line of this verb is formed.
+fn form_of(verb: LiveVerb) -> &'static str {
+    match verb {
+        LiveVerb::Until => "say until V, as in until 2",
+        LiveVerb::Turns => "say turns N, as in turns 100",
+        LiveVerb::Guest => "say guest NICK CHANNEL, as in guest alice #egg",
+        LiveVerb::Say => "say say NICK TARGET TEXT, as in say alice #egg hello",
+        LiveVerb::Heard => "say heard NICK, as in heard alice",
+        LiveVerb::Clock => "say clock N in a live script, as in clock 1767225600",
+    }
+}
+
+// The verb that is spelled so.
+fn verb_named(spelling: &[u8]) -> Option<LiveVerb> {
+    if spelling == b"until".as_slice() {
+        Some(LiveVerb::Until)
+    } else if spelling == b"turns".as_slice() {
+        Some(LiveVerb::Turns)
+    } else if spelling == b"guest".as_slice() {
+        Some(LiveVerb::Guest)
+    } else if spelling == b"say".as_slice() {
+        Some(LiveVerb::Say)
+    } else if spelling == b"heard".as_slice() {
+        Some(LiveVerb::Heard)
+    } else if spelling == b"clock".as_slice() {
+        Some(LiveVerb::Clock)
+    } else {
+        None
+    }
+}
+
+/// Why a line breaks a rule that does; `is_begun` is whether a line before it says the number of leaves.
+///
+/// # Errors
+/// `NoMemory` where room is refused.
+pub fn reason_of(alloc: Global, is_begun: bool, line: &[u8]) -> Result<LiveReason, NoMemory> {
+    match saying_of(alloc, line)? {
+        Saying::Wrong => wrong_reason(alloc, line),
+        Saying::Leaves(leaves) => {
+            if leaves > MAX_LEAVES {
+                Ok(LiveReason::Leaves)
+            } else {
+                Ok(LiveReason::Script(Reason::LeavesAgain))
+            }
+        }
+        Saying::Nothing | Saying::Zone(_) | Saying::Told(_) => {
+            if is_begun {
+                Ok(LiveReason::Script(Reason::ZoneLate))
+            } else {
+                Ok(LiveReason::Script(Reason::LeavesFirst))
+            }
+        }
+    }
+}
+
+// Why a line breaks a rule by itself.
+fn wrong_reason(alloc: Global, line: &[u8]) -> Result<LiveReason, NoMemory> {
+    let words = pieces_of(alloc, line, b' ')?;
+    if let Some(reason) = own_reason(words.as_slice()) {
+        return match spacing_reason(line, words.as_slice()) {
+            Some(spacing) => Ok(LiveReason::Script(spacing)),
+            None => Ok(reason),
+        };
+    }
+    match line_reason(alloc, line)? {
+        Some(Reason::Unknown) | None => Ok(LiveReason::Unknown),
+        Some(Reason::Leaves) => Ok(LiveReason::Leaves),
+        Some(reason) => Ok(LiveReason::Script(reason)),
+    }
+}
+
+// Why a line of these words breaks a rule that isn't a replay's; none where it is one.
+fn own_reason(words: &[&[u8]]) -> Option<LiveReason> {
+    match words {
+        [] => None,
+        [spelling, words @ ..] => match (verb_named(spelling), Verb::named(spelling)) {
+            (Some(verb), _) => Some(verb_reason(verb, words.len())),
+            (None, Some(Verb::Line)) => Some(LiveReason::NoLine),
+            (None, Some(Verb::Deliver)) => Some(LiveReason::NoDeliver),
+            (None, _) => None,
+        },
+    }
+}
+
+// Why a line of this verb and so many words after it breaks a rule.
+fn verb_reason(verb: LiveVerb, count: usize) -> LiveReason {
+    if count != 1 {
+        return LiveReason::Form(verb);
+    }
+    match verb {
+        LiveVerb::Until => LiveReason::Version,
+        LiveVerb::Turns => LiveReason::Turns,
+        LiveVerb::Clock => LiveReason::Moment,
+        LiveVerb::Guest | LiveVerb::Say | LiveVerb::Heard => LiveReason::Form(verb),
+    }
+}

@@ -1,0 +1,16 @@
+-- What is shown of a bot that does not run.
+use Rattle.std.specs.Prelude.{◌≡◌, ℕ, List, Some}
+use Rattle.botjournal.specs.Contents.{Contents, meaning}
+use Rattle.linkcalls.specs.declared.TheConstants.{MAX_LEAVES}
+use Rattle.linknet.specs.Ends.{End, end_version, end_records}
+use Rattle.botlink.specs.Opening.{end_meaning}
+use Rattle.replay.specs.Text.{shown_text}
+
+-- the text has the version and the records of the bot whose journal these bytes of two disks are
+pub record IsShown (first second text : List ℕ) : Type 0 where
+  pub number : ℕ
+  pub contents : Contents
+  pub bot : End
+  pub found : meaning first second ≡ Some contents
+  pub means : end_meaning number MAX_LEAVES contents ≡ Some bot
+  pub shown : text ≡ shown_text number (Some (end_version bot)) (Some (end_records bot))

@@ -1,0 +1,174 @@
+// A command to a running bot.
+use crate::fault::{AskError, AskFault, command_error, machine_error, socket_error};
+use botfolder::{FolderFault, MAX_PATH, control_of};
+use bytetext::{Failure, NoMemory};
+use control::{Command, body_of};
+use sockets::{UnixSocket, Watch};
+use std::alloc::Global;
+use std::net::Net;
+use std::time::Clock;
+use streams::{Given, Taken};
+use wire::{Bounds, Wire};
+
+/// For so many seconds a bot may say nothing before it is given up.
+pub const PATIENCE: u64 = 60;
+
+/// The most bytes of an answer: as many as a bot leaves unsent for one who asks.
+pub const MAX_ANSWER: usize = 16_777_216;
+
+// How long one wait for the socket is, in milliseconds.
+const REST: u64 = 1_000;
+
+// The connection's room: a command, and a few pieces of an answer.
+const BOUNDS: Bounds = Bounds {
+    heard: 65_536,
+    unsent: 1_024,
+};
+
+// The token of the only connection.
+const TOKEN: usize = 0;
+
+// A connection to a bot, and what it has answered so far.
+#[derive(Drop)]
+struct Talk {
+    watch: Watch,
+    wire: Wire<UnixSocket>,
+    answer: Vec<u8>,
+}
+
+/// The lines that the bot which runs on a folder answers to a command, without the full stop after them. After `die`
+/// it answers only once the bot has let go, so that whoever waits for this call waits for the bot's end.
+///
+/// # Errors
+/// `Command` where it is none; `Folder` for a name that is too long; `Nobody`, `Barred`, `Busy`, `LetGo`, `Silent`,
+/// `TooLong` and `Machine` as they say; `NoMemory` where memory is refused. From `LetGo` on the bot may have done it.
+pub fn ask<R: AllocGlobal + Net + Clock>(
+    rt: &R,
+    folder: &str,
+    line: &[u8],
+) -> Result<Vec<u8>, AskError> {
+    let is_last = match Command::read(rt.alloc(), line) {
+        Ok(command) => is_die(&command),
+        Err(error) => return Err(command_error(error)),
+    };
+    let mut talk = begin(rt, folder)?;
+    let _fits = talk.wire.tell(line)?;
+    let _ends = talk.wire.tell(b"\n")?;
+    hear(rt, &mut talk, is_last)?;
+    match body_of(talk.answer.as_slice()) {
+        Some(body) => copy_of(rt.alloc(), body),
+        None => Err(Failure::Refused(AskFault::LetGo)),
+    }
+}
+
+fn is_die(command: &Command) -> bool {
+    match command {
+        Command::Die(_) => true,
+        Command::Change(_)
+        | Command::Show
+        | Command::Status
+        | Command::Bind(_)
+        | Command::Unbind(_)
+        | Command::Say(_)
+        | Command::Compact
+        | Command::Jump => false,
+    }
+}
+
+fn copy_of(alloc: Global, bytes: &[u8]) -> Result<Vec<u8>, AskError> {
+    let mut copy = Vec::new(alloc);
+    copy.extend_from_slice(bytes)?;
+    Ok(copy)
+}
+
+// The connection to the bot that runs on a folder.
+fn begin<R: AllocGlobal + Net>(rt: &R, folder: &str) -> Result<Talk, AskError> {
+    if folder.len() > MAX_PATH {
+        return Err(Failure::Refused(AskFault::Folder(FolderFault::LongName)));
+    }
+    let path = control_of(rt.alloc(), folder)?;
+    let watch = match Watch::new(rt, 4) {
+        Ok(watch) => watch,
+        Err(error) => return Err(machine_error(&error)),
+    };
+    match UnixSocket::connect_path(rt, watch.registry(), TOKEN, path.as_str()) {
+        Ok(socket) => Ok(Talk {
+            watch,
+            wire: Wire::new(rt.alloc(), socket, BOUNDS),
+            answer: Vec::new(rt.alloc()),
+        }),
+        Err(error) => Err(socket_error(&error)),
+    }
+}
+
+// Hears until the answer is whole, and where it is the last until the bot has let go too.
+fn hear<R: AllocGlobal + Net + Clock>(
+    rt: &R,
+    talk: &mut Talk,
+    is_last: bool,
+) -> Result<(), AskError> {
+    let mut moved_at = second(rt)?;
+    for _ in 0..u64::MAX {
+        let moved = turn(rt.alloc(), talk)?;
+        if talk.wire.is_over || (!is_last && body_of(talk.answer.as_slice()).is_some()) {
+            return Ok(());
+        }
+        if talk.answer.len() > MAX_ANSWER {
+            return Err(Failure::Refused(AskFault::TooLong));
+        }
+        if moved {
+            moved_at = second(rt)?;
+        } else if second(rt)?.saturating_sub(moved_at) >= PATIENCE {
+            return Err(Failure::Refused(AskFault::Silent));
+        } else {
+            wait(&mut talk.watch)?;
+        }
+    }
+    Err(Failure::Refused(AskFault::Silent))
+}
+
+// A second of a clock that no one sets.
+fn second<R: Clock>(rt: &R) -> Result<u64, AskError> {
+    match rt.monotonic() {
+        Ok(passed) => Ok(passed.as_secs()),
+        Err(error) => Err(machine_error(&error)),
+    }
+}
+
+fn wait(watch: &mut Watch) -> Result<(), AskError> {
+    match watch.wait(REST) {
+        Ok(()) => Ok(()),
+        Err(error) => Err(machine_error(&error)),
+    }
+}
+
+// Offers what is unsent and asks for a piece. Whether anything moved.
+fn turn(alloc: Global, talk: &mut Talk) -> Result<bool, NoMemory> {
+    let sent = send(&mut talk.wire);
+    let heard = read(&mut talk.wire)?;
+    let piece = talk.wire.take_heard(alloc);
+    talk.answer.extend_from_slice(piece.as_slice())?;
+    Ok(sent || heard)
+}
+
+// Whether anything was sent.
+fn send(wire: &mut Wire<UnixSocket>) -> bool {
+    if wire.unsent.is_empty() {
+        return false;
+    }
+    match wire.send() {
+        Taken::Bytes(_) => true,
+        Taken::Nothing | Taken::Fault => false,
+    }
+}
+
+// Whether anything was heard.
+fn read(wire: &mut Wire<UnixSocket>) -> Result<bool, NoMemory> {
+    if wire.is_full() {
+        return Ok(false);
+    }
+    match wire.read()? {
+        Given::Bytes(_) => Ok(true),
+        Given::Stall | Given::End | Given::Fault => Ok(false),
+    }
+}

@@ -1,0 +1,108 @@
+// A bot's version and records.
+ghost use Rattle.std.specs.Prelude.{◌≡◌, ◌≤◌, IfOk, Some};
+ghost use Rattle.disks.specs.Memory.{state_of};
+ghost use Rattle.linknet.specs.Ends.{end_version, end_records};
+ghost use Rattle.linkcalls.specs.declared.TheConstants.{MAX_LEAVES};
+ghost use Rattle.botfolder.specs.Folders.{AreCopies};
+ghost use Rattle.replay.specs.Text.{shown_text};
+ghost use Rattle.operator.specs.Showing.{IsShown};
+
+use crate::asking::ask;
+use crate::fault::{AskError, AskFault, folder_error, journal_error};
+use botfolder::{FolderFault, Stopped, read_stopped};
+use botjournal::Journal;
+use botlink::BotLink;
+use bytetext::Failure;
+use disks::MemDisk;
+use linkcalls::MAX_LEAVES;
+use replay::put_records;
+use std::alloc::Global;
+use std::fs::File;
+use std::net::Net;
+use std::rt::Files;
+use std::time::Clock;
+
+/// The version and the records of the bot of a folder, as a transcript has them: the bot is asked where it runs, and
+/// else its journal is read. No file is made or written. A bot that starts just while its journal is read is refused.
+///
+/// # Errors
+/// `Folder` where the folder or its journal can't be read, or no bot was made there; `Unread` where what is read is no
+/// journal; `Begins` where a bot starts just now; those of [`ask`] where one runs; `NoMemory` where memory is refused.
+pub fn show<R: AllocGlobal + Net + Clock + Files<File = File>>(
+    rt: &R,
+    folder: &str,
+) -> Result<Vec<u8>, AskError> {
+    match read_stopped(rt, folder) {
+        Ok(copies) => records_of(rt.alloc(), copies),
+        Err(Failure::Refused(FolderFault::InUse)) => asked(rt, folder),
+        Err(error) => Err(folder_error(error)),
+    }
+}
+
+// What the running bot says.
+fn asked<R: AllocGlobal + Net + Clock>(rt: &R, folder: &str) -> Result<Vec<u8>, AskError> {
+    match ask(rt, folder, b"show") {
+        Err(Failure::Refused(AskFault::Nobody)) => Err(Failure::Refused(AskFault::Begins)),
+        answer => answer,
+    }
+}
+
+/// The version and the records of the bot whose journal these are copies of.
+///
+/// # Errors
+/// `Unread` where they hold no journal of a bot; `NoMemory` where memory is refused.
+pub fn records_of(alloc: Global, copies: Stopped) -> Result<Vec<u8>, AskError>
+    requires copies { AreCopies copies }
+    ensures shown { IfOk result (λ text. IsShown copies.first.content copies.second.content text.items) }
+{
+    let named = name(alloc, copies)?;
+    let Stopped { first, second } = named.copies;
+    match BotLink::open(alloc, first, second, named.number, MAX_LEAVES) {
+        Ok(bot) => text_of(alloc, named.number, &bot),
+        Err(returned) => Err(journal_error(returned.error)),
+    }
+}
+
+// Copies of a journal, and the number of the bot that wrote it.
+#[derive(Drop)]
+struct Named {
+    number: u16,
+    copies: Stopped,
+}
+
+// Whose journal it is. The copies stay as they were.
+fn name(alloc: Global, copies: Stopped) -> Result<Named, AskError>
+    requires copies { AreCopies copies }
+    ensures copies { IfOk result (λ found. AreCopies found.copies) }
+    ensures few { IfOk result (λ found. found.number ≤ MAX_LEAVES) }
+    ensures first { IfOk result (λ found. found.copies.first.content ≡ copies.first.content) }
+    ensures second { IfOk result (λ found. found.copies.second.content ≡ copies.second.content) }
+{
+    let opened = match Journal::open(alloc, copies.first, copies.second) {
+        Ok(opened) => opened,
+        Err(returned) => return Err(journal_error(returned.error)),
+    };
+    let number = opened.base.bot;
+    if number > MAX_LEAVES {
+        return Err(Failure::Refused(AskFault::Unread));
+    }
+    let disks = opened.journal.into_disks();
+    Ok(Named {
+        number,
+        copies: Stopped {
+            first: disks.first,
+            second: disks.second,
+        },
+    })
+}
+
+// The lines of a bot.
+fn text_of(alloc: Global, number: u16, bot: &BotLink<MemDisk>) -> Result<Vec<u8>, AskError>
+    ensures { IfOk result (λ text. text.items
+        ≡ shown_text number (Some (end_version bot.now.end)) (Some (end_records bot.now.end))) }
+{
+    let mut text = Vec::new(alloc);
+    let version = Some(bot.version());
+    put_records(alloc, &mut text, number, version, Some(bot.userfile()))?;
+    Ok(text)
+}

@@ -1,0 +1,309 @@
+// One row of a picture: a command of the script, and what came of its steps.
+use crate::canvas::{
+    Anchor, Point, begin_text, end_text, put, put_box, put_circle, put_number, put_text,
+};
+use crate::flights::{Flight, put_arrow};
+use crate::notes::notes_of;
+use crate::places::{GAP, LABEL, LINE, NOTE, place_of};
+use botcore::{End, Note};
+use botworld::{Outcome, Report, Step, World};
+use bytetext::{NoMemory, Text, Texts};
+use linkcalls::Note as LinkNote;
+use procstore::{Promise, Run};
+use replay::put_packet;
+use std::alloc::Global;
+use std::slice;
+use storage::Disk;
+
+// What is drawn of a note, of a mark's number, and of a row's label.
+const NOTE_STYLE: &[u8] = b"class=\"note\"";
+
+const REFUSAL_STYLE: &[u8] = b"class=\"note refusal\"";
+
+const VERSION_STYLE: &[u8] = b"class=\"version\"";
+
+const LABEL_STYLE: &[u8] = b"class=\"label\"";
+
+const COUNT_STYLE: &[u8] = b"class=\"count\"";
+
+/// What is drawn so far, but for the bots' own lines.
+#[derive(Drop)]
+pub struct Sheet {
+    /// The arrows, which lie under the rest.
+    pub arrows: Vec<u8>,
+    /// Marks and texts.
+    pub marks: Vec<u8>,
+    /// The packets, by their numbers from 1.
+    pub flights: Vec<Flight>,
+    /// Where the next row is.
+    pub y: u32,
+    /// How many rows there are.
+    pub rows: u32,
+}
+
+impl Sheet {
+    /// Nothing is drawn. Takes no memory.
+    pub fn new(alloc: Global, y: u32) -> Sheet {
+        Sheet {
+            arrows: Vec::new(alloc),
+            marks: Vec::new(alloc),
+            flights: Vec::new(alloc),
+            y,
+            rows: 0,
+        }
+    }
+}
+
+/// Makes the steps of a command, and draws its row.
+pub fn put_row<P: Promise, D: Disk, B: Run>(
+    alloc: Global,
+    sheet: &mut Sheet,
+    world: &mut World<P, D, B>,
+    line: &[u8],
+    steps: &[Step],
+) -> Result<(), NoMemory> {
+    sheet.rows = sheet.rows.saturating_add(1);
+    put_label(alloc, sheet, world, line, steps)?;
+    let mut y = sheet.y;
+    for step in steps {
+        y = put_step(alloc, sheet, world, step, y)?;
+    }
+    sheet.y = y.max(sheet.y.saturating_add(LINE)).saturating_add(GAP);
+    Ok(())
+}
+
+// The number of a row and its line of the script, and of a packet that comes what it is.
+fn put_label<P: Promise, D: Disk, B: Run>(
+    alloc: Global,
+    sheet: &mut Sheet,
+    world: &World<P, D, B>,
+    line: &[u8],
+    steps: &[Step],
+) -> Result<(), NoMemory> {
+    let (y, row) = (sheet.y, sheet.rows);
+    let out = &mut sheet.marks;
+    begin_text(out, Point { x: 36, y }, Anchor::End, COUNT_STYLE)?;
+    put_number(out, u64::from(row))?;
+    end_text(out)?;
+    begin_text(out, Point { x: 46, y }, Anchor::Start, LABEL_STYLE)?;
+    put_text(out, line, LABEL)?;
+    if let [Step::Deliver { packet }] = steps {
+        put_kind(alloc, out, world, *packet)?;
+    }
+    end_text(out)
+}
+
+// What a packet is; nothing where there is none of this number.
+fn put_kind<P: Promise, D: Disk, B: Run>(
+    alloc: Global,
+    out: &mut Vec<u8>,
+    world: &World<P, D, B>,
+    packet: u64,
+) -> Result<(), NoMemory> {
+    let Some(sent) = world.packet(packet) else {
+        return Ok(());
+    };
+    let mut kind = Vec::new(alloc);
+    put_packet(&mut kind, &sent.packet)?;
+    put(out, b" (")?;
+    put_text(out, kind.as_slice(), 16)?;
+    put(out, b")")
+}
+
+// Makes a step and draws what came of it at this height. Where the next step of the row is.
+fn put_step<P: Promise, D: Disk, B: Run>(
+    alloc: Global,
+    sheet: &mut Sheet,
+    world: &mut World<P, D, B>,
+    step: &Step,
+    y: u32,
+) -> Result<u32, NoMemory> {
+    let before = version_of(world, step);
+    let transcript = world.run(alloc, slice::from_ref(step));
+    let [outcome] = transcript.outcomes.as_slice() else {
+        return Err(NoMemory);
+    };
+    match outcome {
+        Outcome::Report(report) => {
+            land(sheet, step, y)?;
+            send(sheet, world, report, y)?;
+            let is_changed = world.version(report.bot) != before;
+            put_report(alloc, sheet, world, report, is_changed, y)
+        }
+        Outcome::NoSuchBot => put_none(sheet, b"there is no such bot", y),
+        Outcome::NoSuchPacket => put_none(sheet, b"there is no such packet", y),
+    }
+}
+
+// The version of the bot that takes part in a step.
+fn version_of<P: Promise, D: Disk, B: Run>(world: &World<P, D, B>, step: &Step) -> Option<u32> {
+    match step {
+        Step::At { bot, .. } => world.version(*bot),
+        Step::Deliver { packet } => world.version(world.packet(*packet)?.to),
+    }
+}
+
+// What is said of a step in which no bot takes part.
+fn put_none(sheet: &mut Sheet, text: &[u8], y: u32) -> Result<u32, NoMemory> {
+    let at = Point {
+        x: place_of(0).saturating_sub(15),
+        y,
+    };
+    begin_text(&mut sheet.marks, at, Anchor::End, REFUSAL_STYLE)?;
+    put(&mut sheet.marks, text)?;
+    end_text(&mut sheet.marks)?;
+    Ok(y.saturating_add(LINE))
+}
+
+// Draws the arrow of a packet that comes.
+fn land(sheet: &mut Sheet, step: &Step, y: u32) -> Result<(), NoMemory> {
+    let Step::Deliver { packet } = step else {
+        return Ok(());
+    };
+    let place = packet.saturating_sub(1) as usize;
+    let Some(flight) = sheet.flights.get_mut(place) else {
+        return Ok(());
+    };
+    put_arrow(&mut sheet.arrows, flight, y)?;
+    flight.has_come = true;
+    Ok(())
+}
+
+// Keeps the packets that a step has sent.
+fn send<P: Promise, D: Disk, B: Run>(
+    sheet: &mut Sheet,
+    world: &World<P, D, B>,
+    report: &Report,
+    y: u32,
+) -> Result<(), NoMemory> {
+    let Some(after) = report.first.checked_add(report.count as u64) else {
+        return Err(NoMemory);
+    };
+    let mut place: u32 = 0;
+    for number in report.first..after {
+        if let Some(sent) = world.packet(number) {
+            sheet.flights.push(Flight {
+                from: sent.from,
+                to: sent.to,
+                y,
+                place,
+                has_come: false,
+            })?;
+        }
+        place = place.saturating_add(1);
+    }
+    Ok(())
+}
+
+// Draws a bot's mark and its notes. Where the next are.
+fn put_report<P: Promise, D: Disk, B: Run>(
+    alloc: Global,
+    sheet: &mut Sheet,
+    world: &World<P, D, B>,
+    report: &Report,
+    is_changed: bool,
+    y: u32,
+) -> Result<u32, NoMemory> {
+    let version = world.version(report.bot).unwrap_or(0);
+    put_mark(&mut sheet.marks, report, is_changed, version, y)?;
+    let notes = notes_of(alloc, report)?;
+    put_notes(&mut sheet.marks, report, &notes, y)
+}
+
+// A step's mark, with the version in it where that has changed or was found.
+fn put_mark(
+    out: &mut Vec<u8>,
+    report: &Report,
+    is_changed: bool,
+    version: u32,
+    y: u32,
+) -> Result<(), NoMemory> {
+    let at = Point {
+        x: place_of(report.bot),
+        y,
+    };
+    if is_restart(&report.note) {
+        put_box(
+            out,
+            at,
+            Point { x: 19, y: 19 },
+            b"rx=\"2\" fill=\"#c46a14\"",
+        )?;
+        put_version(out, at, version)
+    } else if is_changed {
+        let fill: &[u8] = if report.bot == 0 {
+            b"fill=\"#2b7d3b\""
+        } else {
+            b"fill=\"#2c5d9b\""
+        };
+        put_circle(out, at, 10, fill)?;
+        put_version(out, at, version)
+    } else if is_refusal(report) {
+        put_circle(out, at, 6, b"fill=\"#c0392b\"")
+    } else {
+        put_circle(out, at, 4, b"fill=\"#555555\"")
+    }
+}
+
+fn put_version(out: &mut Vec<u8>, at: Point, version: u32) -> Result<(), NoMemory> {
+    begin_text(out, at, Anchor::Middle, VERSION_STYLE)?;
+    put_number(out, u64::from(version))?;
+    end_text(out)
+}
+
+fn is_restart(note: &Option<Note>) -> bool {
+    match note {
+        Some(Note::Link(LinkNote::Restarted(_))) => true,
+        Some(_) | None => false,
+    }
+}
+
+// Whether a step was refused, or a change was.
+fn is_refusal(report: &Report) -> bool {
+    match (report.end, &report.note) {
+        (End::Refused(_), _) | (End::Done, Some(Note::Link(LinkNote::Refused(_)))) => true,
+        (End::Done, Some(_) | None) | (End::NoMemory, _) => false,
+    }
+}
+
+// The notes of a step, one under the other. Where the next are.
+fn put_notes(out: &mut Vec<u8>, report: &Report, notes: &Texts, y: u32) -> Result<u32, NoMemory> {
+    let mut y = y;
+    let is_refusal = is_refusal(report);
+    for (place, note) in notes.as_slice().iter().enumerate() {
+        let style = if is_refusal && place == 0 {
+            REFUSAL_STYLE
+        } else {
+            NOTE_STYLE
+        };
+        put_note_at(out, report.bot, note, style, y)?;
+        y = y.saturating_add(LINE);
+    }
+    Ok(y)
+}
+
+// A note of a bot: at the left of the hub's line, and at the right of a leaf's.
+fn put_note_at(
+    out: &mut Vec<u8>,
+    bot: u16,
+    note: &Text,
+    style: &[u8],
+    y: u32,
+) -> Result<(), NoMemory> {
+    let x = place_of(bot);
+    if bot == 0 {
+        let at = Point {
+            x: x.saturating_sub(15),
+            y,
+        };
+        begin_text(out, at, Anchor::End, style)?;
+    } else {
+        let at = Point {
+            x: x.saturating_add(15),
+            y,
+        };
+        begin_text(out, at, Anchor::Start, style)?;
+    }
+    put_text(out, note.as_bytes(), NOTE)?;
+    end_text(out)
+}

@@ -1,0 +1,190 @@
+// Which word of a change is wrong, or that there are too few or too many.
+ghost use Rattle.std.specs.Prelude.{◌≡◌, map};
+ghost use Rattle.scriptfaults.specs.Changes.{ask_doubt, ban_doubt, change_doubt, comment_doubt, expiry_doubt, first_of, flags_doubt};
+ghost use Rattle.scriptfaults.specs.Changes.{four_doubt, gap_doubt, one_doubt, text_doubt, three_doubt, two_doubt};
+
+use crate::change_word::ChangeWord;
+use crate::reason::Reason;
+use crate::spacing::{gap_before, misread};
+use flagexpr::Flags;
+use scriptwords::number;
+
+/// What is wrong with the name of a change and its words.
+pub fn ask_doubt(name: &[u8], words: &[&[u8]]) -> Option<Reason>
+    ensures { result ≡ ask_doubt name.now (map (λ word. word.now) words.now) }
+{
+    match ChangeWord::named(name) {
+        Some(word) => change_doubt(word, words),
+        None => Some(misread(gap_before(words), Reason::Change, name)),
+    }
+}
+
+// What is wrong with the words of a change.
+fn change_doubt(word: ChangeWord, words: &[&[u8]]) -> Option<Reason>
+    ensures { result ≡ change_doubt word (map (λ word. word.now) words.now) }
+{
+    match words {
+        [] => Some(Reason::ChangeForm(word)),
+        [a] => one_doubt(word, a),
+        [a, b] => two_doubt(word, a, b),
+        [a, b, c] => three_doubt(word, a, b, c),
+        [a, b, c, d, comment @ ..] => four_doubt(word, a, b, c, d, comment),
+    }
+}
+
+// adduser H, deluser H
+fn one_doubt(word: ChangeWord, h: &[u8]) -> Option<Reason>
+    ensures { result ≡ one_doubt word h.now }
+{
+    match word {
+        ChangeWord::AddUser | ChangeWord::DelUser => gap_doubt(Reason::SpaceAfter, h),
+        ChangeWord::AddHost
+        | ChangeWord::DelHost
+        | ChangeWord::DelBan
+        | ChangeWord::Global
+        | ChangeWord::Bot
+        | ChangeWord::Chan
+        | ChangeWord::AddBan => Some(Reason::ChangeForm(word)),
+    }
+}
+
+// addhost H M, delhost H M, delban C M, global H F, bot H F
+fn two_doubt(word: ChangeWord, a: &[u8], b: &[u8]) -> Option<Reason>
+    ensures { result ≡ two_doubt word a.now b.now }
+{
+    match word {
+        ChangeWord::AddHost | ChangeWord::DelHost | ChangeWord::DelBan => first_of(
+            gap_doubt(Reason::TwoSpaces, a),
+            gap_doubt(Reason::SpaceAfter, b),
+        ),
+        ChangeWord::Global | ChangeWord::Bot => first_of(
+            gap_doubt(Reason::TwoSpaces, a),
+            flags_doubt(Reason::Flags, b),
+        ),
+        ChangeWord::AddUser | ChangeWord::DelUser | ChangeWord::Chan | ChangeWord::AddBan => Some(
+            Reason::ChangeForm(word),
+        ),
+    }
+}
+
+// chan H C F
+fn three_doubt(word: ChangeWord, h: &[u8], c: &[u8], f: &[u8]) -> Option<Reason>
+    ensures { result ≡ three_doubt word h.now c.now f.now }
+{
+    match word {
+        ChangeWord::Chan => first_of(
+            first_of(
+                gap_doubt(Reason::TwoSpaces, h),
+                gap_doubt(Reason::TwoSpaces, c),
+            ),
+            flags_doubt(Reason::ChannelFlags, f),
+        ),
+        ChangeWord::AddUser
+        | ChangeWord::DelUser
+        | ChangeWord::AddHost
+        | ChangeWord::DelHost
+        | ChangeWord::DelBan
+        | ChangeWord::Global
+        | ChangeWord::Bot
+        | ChangeWord::AddBan => Some(Reason::ChangeForm(word)),
+    }
+}
+
+// addban C M H E, and the comment
+fn four_doubt(
+    word: ChangeWord,
+    c: &[u8],
+    m: &[u8],
+    h: &[u8],
+    e: &[u8],
+    comment: &[&[u8]],
+) -> Option<Reason>
+    ensures { result ≡ four_doubt word c.now m.now h.now e.now (map (λ word. word.now) comment.now) }
+{
+    match word {
+        ChangeWord::AddBan => first_of(
+            ban_doubt(c, m, h),
+            first_of(expiry_doubt(gap_before(comment), e), comment_doubt(comment)),
+        ),
+        ChangeWord::AddUser
+        | ChangeWord::DelUser
+        | ChangeWord::AddHost
+        | ChangeWord::DelHost
+        | ChangeWord::DelBan
+        | ChangeWord::Global
+        | ChangeWord::Bot
+        | ChangeWord::Chan => Some(Reason::ChangeForm(word)),
+    }
+}
+
+fn ban_doubt(c: &[u8], m: &[u8], h: &[u8]) -> Option<Reason>
+    ensures { result ≡ ban_doubt c.now m.now h.now }
+{
+    first_of(
+        gap_doubt(Reason::TwoSpaces, c),
+        first_of(
+            gap_doubt(Reason::TwoSpaces, m),
+            gap_doubt(Reason::TwoSpaces, h),
+        ),
+    )
+}
+
+fn expiry_doubt(gap: Reason, e: &[u8]) -> Option<Reason>
+    ensures { result ≡ expiry_doubt gap e.now }
+{
+    match number(e) {
+        Some(_) => None,
+        None => Some(misread(gap, Reason::Expiry, e)),
+    }
+}
+
+// A comment is the rest of the line, and not empty where there is one.
+fn comment_doubt(comment: &[&[u8]]) -> Option<Reason>
+    ensures { result ≡ comment_doubt (map (λ word. word.now) comment.now) }
+{
+    match comment {
+        [] => None,
+        [first, rest @ ..] => text_doubt(Reason::ChangeForm(ChangeWord::AddBan), first, rest),
+    }
+}
+
+// The last word of a change.
+fn flags_doubt(reason: Reason, word: &[u8]) -> Option<Reason>
+    ensures { result ≡ flags_doubt reason word.now }
+{
+    if word.is_empty() {
+        return Some(Reason::SpaceAfter);
+    }
+    match Flags::parse(word) {
+        Ok(_) => None,
+        Err(_) => Some(misread(Reason::SpaceAfter, reason, word)),
+    }
+}
+
+/// What is wrong with a word that may be any but empty.
+pub fn gap_doubt(gap: Reason, word: &[u8]) -> Option<Reason>
+    ensures { result ≡ gap_doubt gap word.now }
+{
+    if word.is_empty() { Some(gap) } else { None }
+}
+
+/// What is wrong with a last word that takes the rest of the line.
+pub fn text_doubt(reason: Reason, first: &[u8], rest: &[&[u8]]) -> Option<Reason>
+    ensures { result ≡ text_doubt reason first.now (map (λ word. word.now) rest.now) }
+{
+    if first.is_empty() && rest.is_empty() {
+        Some(reason)
+    } else {
+        None
+    }
+}
+
+/// The first of two that there is.
+pub fn first_of(one: Option<Reason>, other: Option<Reason>) -> Option<Reason>
+    ensures { result ≡ first_of one other }
+{
+    match one {
+        Some(reason) => Some(reason),
+        None => other,
+    }
+}

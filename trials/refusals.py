@@ -1,0 +1,332 @@
+"""What `eggnet` says where a bot can't go on: each error text, disks without room, memory that is refused, and
+clients of the socket `control`."""
+import os
+import re
+import shutil
+import socket
+import subprocess
+import time
+from importlib.machinery import SourceFileLoader
+from importlib.util import module_from_spec, spec_from_loader
+from pathlib import Path
+
+import preload
+from bots import Bot, Ours, comes, end_all, free_port, ran
+
+TRIALS = Path(__file__).resolve().parent
+
+
+def says(tally, what, words, status, text):
+    """A run that ends with this status, and with a line on standard error that begins so."""
+    seen = ran(words)
+    tally.note(what, seen[0] == status and seen[2].startswith(text), f"{seen[2]}status {seen[0]}")
+    return seen
+
+
+def configurations(tally, program, room):
+    """Files that say what no bot can do."""
+    right = [f"data {room}/none", "nick egg", "server 127.0.0.1 6667"]
+    link = ["hub 127.0.0.1 7100", f"secret {room}/secret"]
+    rows = [
+        (["# a leaf", *right[:1], "bot 1 off 40"], "line 3: say bot NUMBER of LEAVES, as in bot 1 of 40"),
+        (right[1:], "a bot needs a line: data FOLDER"),
+        ([right[0], right[2]], "a bot needs a line: nick NICK"),
+        (right[:2], "a bot needs a line: server HOST PORT"),
+        ([*right, "bot 1 of 2", link[1]], "a leaf needs a line: hub HOST PORT"),
+        ([*right, "bot 1 of 2", link[0]], "a bot with others needs a line: secret FILE"),
+        ([*right, "bot 0 of 2", link[1]], "a hub with leaves needs a line: listen HOST PORT"),
+        ([*right, "bot 1 of 2", *link, "listen ::1 7100"], "a leaf has no line listen: take it out"),
+        ([*right, link[0]], "a hub has no line hub: take it out"),
+        ([*right, "bot 1 of 2", *link], ""),
+        ([*right, "account egg /etc/egg"], ""),
+        ([*right, "bind pub - echo"], "line 4: say bind TYPE FLAGS PROC MASK"),
+        ([*right, "bind pub zz:z+ echo !echo"], "line 4: B"),
+        ([*right, "bind pubb - echo !echo"], "line 4: "),
+        ([*right, "bind pub - ecko !echo"], "line 4: "),
+        ([*right, "nick egg"], "line 4: say nick once: a line above has it"),
+        ([*right, "chanel #egg"], "line 4: begin with "),
+        (right[:2] + ["server 127.0.0.1 0"], "line 3: say a port of 1 to 65535"),
+        ([f"{right[0]}\r", *right[1:]], "line 1: end lines with a line feed alone"),
+        (["\ufeff" + right[0], *right[1:]], "line 1: save the file without a byte order mark"),
+    ]
+    for number, (lines, text) in enumerate(rows):
+        config = f"{room}/c{number}.conf"
+        Path(config).write_text("\n".join(lines) + "\n", encoding="utf-8", newline="")
+        for word in ("check", "run"):
+            says(tally, f"{word}: {lines[-1]!r}", [program, word, config], 1, f"eggnet: {config}: {text}")
+    tally.note("no folder was made", not os.path.exists(f"{room}/none"))
+    sizes(tally, program, room, "\n".join(right) + "\n")
+
+
+def sizes(tally, program, room, text):
+    """Files of 65,536 and 65,537 bytes."""
+    config = f"{room}/size.conf"
+    for size, status, said in ((65_536, 0, ""), (65_537, 1, f"eggnet: {config}: write at most 65536 bytes")):
+        rest = size - len(text)
+        Path(config).write_text(text + ("#" * 1_023 + "\n") * (rest // 1_024) + "#" * (rest % 1_024), encoding="utf-8")
+        assert os.path.getsize(config) == size
+        says(tally, f"check: a file of {size} bytes", [program, "check", config], status, said)
+
+
+def command_lines(tally, program, room):
+    """Words that the program does not understand, and folders in which nobody runs."""
+    config = f"{room}/missing.conf"
+    says(tally, "run: no file", [program, "run", config], 3, f"eggnet: {config} can't be read")
+    says(tally, "no word", [program], 2, "error: ")
+    says(tally, "a word that is none", [program, "bogus"], 2, "error: ")
+    says(tally, "run without a file", [program, "run"], 2, "error: ")
+    says(tally, "tell without words", [program, "tell", room], 2, "error: ")
+    says(tally, "a word that is no UTF-8", [program, "tell", room, b"\xff\xfe"], 2, "eggnet: ")
+    none = f"{room}/none"
+    says(tally, "tell: a folder that is none", [program, "tell", none, "status"], 3, f"eggnet: no bot runs on {none}\n")
+    says(tally, "tell: a word that is none", [program, "tell", room, "bogus"], 1, "eggnet: begin with addban, ")
+    says(tally, "tell: a line feed", [program, "tell", room, "say a\nb"], 1, "eggnet: say it in one line")
+    says(tally, "tell: 601 bytes", [program, "tell", room, "say " + "x" * 597], 1, "eggnet: say at most 600 bytes")
+    says(tally, "show: a folder that is none", [program, "show", none], 3, f"eggnet: {none} holds no bot")
+    long = "/tmp/" + "x" * 100
+    is_long = f"eggnet: {long} has a name of more than 99 bytes"
+    says(tally, "tell: a name of 105 bytes", [program, "tell", long, "status"], 3, is_long)
+
+
+def memory(tally, program, room):
+    """Memory that is refused, to `check` at each allocation and to a bot that runs at many."""
+    if not shutil.which("cc"):
+        tally.say("no cc: memory is not refused")
+        return
+    server = Ours(room, program)
+    bot = Bot(program, room, "memory", [server], ["channel #egg", "bind pub - echo !echo"])
+    seen = ran([f"{TRIALS}/refuse_memory", "--most", "300", program, "check", bot.config])
+    tally.note("check: memory refused at each allocation", seen[0] == 0 and " 0 bad" in seen[1], seen[1] + seen[2])
+    loader = SourceFileLoader("refuse_memory", f"{TRIALS}/refuse_memory")
+    shim = module_from_spec(spec_from_loader("refuse_memory", loader))
+    loader.exec_module(shim)
+    library = preload.made(room, "refuse", shim.SHIM)
+    ends, wrong = {0: 0, 4: 0}, []
+    try:
+        server.start()
+        for place in [*range(1, 60, 3), *range(60, 1_200, 19)]:
+            status, text, told, shown = starved(program, room, server, place, library)
+            held = int(shown[1].split()[2]) if shown[0] == 0 else 0
+            is_said = (status == 4) == ("eggnet: out of memory" in text)
+            if status not in ends or not is_said or not told <= held <= told + 1:
+                wrong.append((place, status, text, told, held))
+            else:
+                ends[status] += 1
+    finally:
+        end_all(server)
+    tally.note("run: memory refused at many allocations", not wrong,
+               f"{ends[4]} ended with 4, {ends[0]} went on; {wrong[:3]}")
+
+
+def starved(program, room, server, place, library):
+    """A bot that is refused an allocation: its status, standard error, how many changes it acknowledged, its `show`."""
+    bot = Bot(program, room, f"starved{place}", [server], ["channel #egg", "bind pub - echo !echo"], nick=f"egg{place}")
+    told = 0
+    environment = {**os.environ, "LD_PRELOAD": library, "REFUSED": str(place)}
+    with subprocess.Popen([program, "run", bot.config], stdin=subprocess.DEVNULL, stdout=subprocess.DEVNULL,
+                          stderr=subprocess.PIPE, env=environment) as bot.process:
+        end = time.monotonic() + 5
+        while bot.process.poll() is None and told < 4 and time.monotonic() < end:
+            if bot.answers("adduser me" if told == 0 else f"addhost me *!*a{told}@h") == f"accepted {told + 1}\n":
+                told += 1
+        for line in ("show", "status", "bind pub - echo !e", "compact", "die"):
+            bot.answers(line)
+        try:
+            text = bot.process.communicate(timeout=10)[1].decode(errors="replace")
+        except subprocess.TimeoutExpired:
+            bot.kill()
+            text = "not ended"
+    return bot.process.returncode, text, told, bot.show()
+
+
+def folders(tally, program, room):
+    """Folders that are no bot's."""
+    server = Ours(room, program)
+    bot = Bot(program, room, "busy", [server])
+    other = Bot(program, room, "busy2", [server])
+    try:
+        bot.start()
+        mode = os.stat(bot.folder).st_mode & 0o777
+        tally.note("a folder that it makes is its owner's alone", mode == 0o700, oct(mode))
+        in_use = f"eggnet: {bot.folder} is in use: end the bot that runs on it\n"
+        says(tally, "a folder in use", [program, "run", bot.config], 3, in_use)
+        tally.note("the bot goes on", bot.tell("status")[0] == 0)
+        bot.end()
+        tally.note("it starts again on it", bot.start())
+        bot.kill()
+        left = os.path.exists(f"{bot.folder}/control")
+        tally.note("and after a kill, whose socket is still there", left and bot.start())
+        bot.end()
+    finally:
+        end_all(bot)
+    os.chmod(bot.folder, 0o755)
+    open_to_all = f"eggnet: {bot.folder} lets others in: "
+    says(tally, "a folder that others may enter", [program, "run", bot.config], 3, open_to_all)
+    os.chmod(bot.folder, 0o700)
+    for name, text in (("first", "rubbish"), ("second", "")):
+        os.makedirs(f"{other.folder}/journal", mode=0o700, exist_ok=True)
+        os.chmod(other.folder, 0o700)
+        Path(f"{other.folder}/journal/{name}").write_text(text, encoding="utf-8")
+    says(tally, "a journal that is none", [program, "run", other.config], 1, f"eggnet: {other.folder}")
+    says(tally, "show of it", [program, "show", other.folder], 1, f"eggnet: {other.folder}")
+    os.remove(f"{other.folder}/journal/first")
+    lacks = f"eggnet: {other.folder} holds a journal that lacks a file"
+    says(tally, "a journal that lacks a file", [program, "run", other.config], 3, lacks)
+    other.move_to(f"{room}/deep/below")
+    says(tally, "a folder below none", [program, "run", other.config], 3, f"eggnet: {room}/deep/below can't be made")
+
+
+def growing():
+    """Changes by which the records grow, each of which is accepted."""
+    for user in range(1, 400):
+        yield f"adduser u{user}"
+        for host in range(15):
+            yield f"addhost u{user} *!*user{host}@{'x' * 60}.host{user}.example"
+
+
+def failed_disk(tally, program, room, name, folder, limit):
+    """A bot whose disk has no room: it ends, tells which change is open, and what it acknowledged is there later."""
+    server = Ours(room, program)
+    bot = Bot(program, room, name, [server])
+    if folder:
+        bot.move_to(folder)
+    try:
+        tally.note(f"{name}: it starts", bot.start(limit), bot.logged()[-200:])
+        told = 0
+        for line in growing():
+            if bot.answers(line) != f"accepted {told + 1}\n":
+                break
+            told += 1
+        ended = comes(lambda: bot.process.poll() is not None)
+        text = bot.logged()
+        status = bot.process.returncode
+        tally.note(f"{name}: it ends with 3", ended and status == 3, f"status {status} after {told} changes")
+        said = re.search(r"change (\d+) may count or not", text)
+        tally.note(f"{name}: it says which change is open", bool(said) and int(said.group(1)) == told + 1,
+                   next((line for line in text.splitlines() if line.startswith("eggnet: ")), text[-200:]))
+        if folder:
+            if os.path.exists(f"{folder}/control"):
+                os.remove(f"{folder}/control")
+            shutil.move(folder, f"{room}/{name}-moved")
+            bot.move_to(f"{room}/{name}-moved")
+        tally.note(f"{name}: with room it starts again", bot.start(), bot.logged()[-200:])
+        version = int(((bot.answers("show") or "0 version -1 ").split())[2])
+        tally.note(f"{name}: what was acknowledged is there", told <= version <= told + 1,
+                   f"{told} told, version {version}")
+    finally:
+        end_all(bot)
+
+
+def disks(tally, program, room):
+    """Files that may not grow, and where this user may mount one a small disk that is full."""
+    failed_disk(tally, program, room, "limited", None, 24_576)
+    small = f"{room}/small"
+    os.mkdir(small)
+    if os.getuid() or ran(["mount", "-t", "tmpfs", "-o", "size=96k,mode=0700", "tmpfs", small])[0]:
+        tally.say("this user mounts no tmpfs: a disk that is full is left out")
+        return
+    try:
+        Path(f"{small}/filler").write_bytes(b"x" * 32_768)
+        failed_disk(tally, program, room, "full", f"{small}/egg", None)
+    finally:
+        ran(["umount", "-l", small])
+
+
+def connected(folder):
+    """A control client."""
+    it = socket.socket(socket.AF_UNIX)
+    it.settimeout(5)
+    it.connect(f"{folder}/control")
+    return it
+
+
+def heard(client):
+    """What a client hears until the bot lets it go, or says nothing for 5 seconds."""
+    told = b""
+    try:
+        while came := client.recv(65536):
+            told += came
+    except OSError:
+        pass
+    return told
+
+
+def clients(tally, program, room):
+    """Control clients that say rubbish, too much, or never read."""
+    bot = Bot(program, room, "talked", [Ours(room, program)])
+    try:
+        bot.start()
+        bot.answers("adduser me")
+        with connected(bot.folder) as it:
+            it.sendall(b"\x00\xff rubbish\nbogus\n")
+            it.settimeout(1)
+            told = heard(it)
+        tally.note("rubbish is a fault", told.count(b"fault ") == 2 and told.count(b"\n.\n") == 2, told)
+        with connected(bot.folder) as it:
+            it.sendall(b"x" * 5_000)
+            began = time.monotonic()
+            told = heard(it)
+            took = time.monotonic() - began
+        tally.note("5,000 bytes without a line feed: let go", took < 4, f"{told[:80]} after {took:.1f} s")
+        tally.note("the bot answers others", bot.tell("status")[0] == 0)
+        many = [connected(bot.folder) for _ in range(30)]
+        status, out, err = bot.tell("status")
+        tally.note("30 clients that say nothing", status in (0, 3), f"status {status} {err}")
+        for it in many:
+            it.close()
+        tally.note("after them it answers", bool(comes(lambda: bot.tell("status")[0] == 0)))
+        never_reads(tally, bot)
+    finally:
+        end_all(bot)
+
+
+def never_reads(tally, bot):
+    """A client that asks and asks, and reads nothing."""
+    for number in range(400):
+        bot.answers(f"addhost me *!*user{number % 16}@{'x' * 40}.host{number}.example")
+    with connected(bot.folder) as it:
+        it.settimeout(0.2)
+        before, asked, worst = bot.memory(), 0, 0.0
+        end = time.monotonic() + 20
+        while time.monotonic() < end:
+            try:
+                it.sendall(b"show\n" * 100)
+                asked += 100
+            except OSError as error:
+                if not isinstance(error, TimeoutError):
+                    break
+            began = time.monotonic()
+            if bot.answers("status") is None:
+                worst = 99.0
+            worst = max(worst, time.monotonic() - began)
+        after = bot.memory()
+    tally.note("one that never reads", bot.tell("status")[0] == 0 and worst < 2 and after < 40_000,
+               f"{asked} asked, another waits {worst:.2f} s at most, {before} kB before and {after} kB after")
+
+
+def logs(tally, program, room):
+    """A log that nobody reads any more."""
+    bot = Bot(program, room, "logged", [Ours(room, program)], ["log lines"])
+    try:
+        bot.process = subprocess.Popen([program, "run", bot.config], stdin=subprocess.DEVNULL, stdout=subprocess.PIPE,
+                                       stderr=subprocess.DEVNULL)
+        bot.process.stdout.close()
+        lives = comes(lambda: bot.answers("status"))
+        bot.tell("adduser", "me")
+        time.sleep(6)
+        tally.note("a log that nobody reads", bool(lives) and bot.process.poll() is None and bot.tell("show")[0] == 0,
+                   f"status {bot.process.poll()}")
+        bot.end()
+    finally:
+        end_all(bot)
+
+
+def refusals(tally, program, room):
+    """All of these."""
+    configurations(tally, program, room)
+    command_lines(tally, program, room)
+    memory(tally, program, room)
+    folders(tally, program, room)
+    disks(tally, program, room)
+    clients(tally, program, room)
+    logs(tally, program, room)
