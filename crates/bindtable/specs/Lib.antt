@@ -1,6 +1,7 @@
 pub mod Kinds
 pub mod Tables
 pub mod Calls
+pub mod Hearing
 pub mod Words
 pub mod Masks
 pub mod Index

@@ -41,6 +41,7 @@ mod bind_kind;
 mod called;
 mod event;
 mod fault;
+mod hearing;
 mod held;
 mod index;
 mod keep;

@@ -5,6 +5,7 @@ use crate::bind_kind::BindKind;
 use crate::called::{Called, held_of};
 use crate::event::Event;
 use crate::fault::{BindError, BindFault};
+use crate::hearing::{hear_messages, hear_minutes};
 use crate::held::{Held, binds_of};
 use crate::index::KindIndex;
 use crate::keep::{copy_of, count_left, has_such, no_indexes, place_of_such, take_such};
@@ -61,6 +62,7 @@ impl BindTable {
     ghost use Rattle.bindtable.specs.Wishes.{IsWish, asked_of};
     ghost use Rattle.bindtable.specs.Calls.{Calls, called, is_called, numbers_of, seen};
     ghost use Rattle.bindtable.specs.Behind.{bind_of};
+    ghost use Rattle.bindtable.specs.Hearing.{hear_messages, hear_minutes};
     ghost use Rattle.std.specs.Option.{option_copied};
 
     /// The table without binds. Takes no memory.
@@ -162,6 +164,21 @@ impl BindTable {
         let index = &self.indexes[place_of(event.kind)];
         let entries = index.candidates(event.kind, event.subject);
         Called::of(&self.held, entries, event)
+    }
+
+    /// Whether a bind of some kind waits for messages of the server; the others wait for texts of bots and for minutes.
+    /// Takes no memory.
+    pub fn hears_messages(&self) -> bool
+        ensures { result ≡ hear_messages self.now.binds }
+    {
+        hear_messages(&self.held)
+    }
+
+    /// Whether a `time` or `cron` bind waits for minutes. Takes no memory.
+    pub fn hears_minutes(&self) -> bool
+        ensures { result ≡ hear_minutes self.now.binds }
+    {
+        hear_minutes(&self.held)
     }
 
     /// The numbers of the binds that an event calls, oldest first.

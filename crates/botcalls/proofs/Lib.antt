@@ -1,3 +1,4 @@
 pub mod HeardLemmas
 pub mod MakingLemmas
 pub mod NextLemmas
+pub mod UnheardLemmas

@@ -1,11 +1,16 @@
 -- What is reported of what calls procs, by the calls that were made.
-use Rattle.std.proofs.Common.{◌≡◌, ◌∙◌, ℕ, List, [], ◌++◌, Option, None, refl, ap, sym, subst}
+use Rattle.std.proofs.Common.{◌≡◌, ◌≢◌, ◌∙◌, ℕ, List, [], ◌++◌, Option, None, Result, Ok, Err, OnOk, OnErr, refl, ap, sym, subst}
+use Rattle.std.specs.Prelude.{IsOk, IfOk}
 use Rattle.std.proofs.lemmas.List.{append-nil}
 use Rattle.std.proofs.lemmas.List.Elements.{filter_map-append}
 use Rattle.procstore.specs.declared.action.Action.{Action}
 use Rattle.procstore.specs.declared.call.Call.{Call}
 use Rattle.procstore.specs.declared.reply.Code.{Code}
 use Rattle.botcalls.specs.declared.made_call.MadeCall.{MadeCall}
+use Rattle.bytetext.specs.declared.memory.NoMemory.{NoMemory}
+use Rattle.outqueue.specs.Sending.{sent, after as after_sending}
+use Rattle.botcore.specs.declared.report.End.{End}
+use Rattle.botcore.specs.declared.report.End.TheVariants.{Done, NoMemory as ends_no_memory}
 use Rattle.botcore.specs.declared.report.Note.{Note}
 use Rattle.botcore.specs.declared.report.Report.{Report}
 use Rattle.bottimers.specs.Seconds.{seconds_run}
@@ -62,3 +67,48 @@ module _ (code_of : List ℕ → Call → Code) (may : List ℕ → Call → Lis
   -- all is the first of it
   pub front_all : (made : Made) (told : List Telling) → IsMade code_of may made told → IsFrontMade code_of may made told
   front_all made told is = (told, [], sym (append-nil told), is)
+
+  -- the seconds of a reading that bring nothing: the lines that may go are sent, or memory runs out for them
+  pub quiet_takes : (names : List (List ℕ)) (old new : Bot) (now : ℕ) (lines : Result (List (List ℕ)) NoMemory) (report : Report)
+      → seconds_of old.config.zone old.timers (seconds_run old.clock now) ≡ []
+      → IfOk lines (λ ls. report ≡ told_as None [] [] ls []) → OnErr lines (report ≡ cut_short [])
+      → IfOk lines (λ ls. ls ≡ sent old.queues now)
+      → OnOk lines (new ≡ record (run_to old now) { queues = after_sending old.queues now }) → OnErr lines (new ≡ old)
+      → TakesSeconds code_of may names old now report new
+  quiet_takes names old new now (Ok ls) report none said lacks goes ok err =
+      subst (λ (r : Report). TakesSeconds code_of may names old now r new) (sym said) (
+        [],
+        subst (λ hs. AreOccasions hs []) (sym none) tt,
+        record {
+          calls = refl;
+          kept = tt;
+          note = refl;
+          packets = refl;
+          lines = goes;
+          faults = refl;
+          logged = refl;
+          after = ok;
+        },
+      )
+  quiet_takes names old new now (Err e) report none said lacks goes ok err =
+      subst (λ (r : Report). TakesSeconds code_of may names old now r new) (sym lacks) (
+        [],
+        tt,
+        record {
+          rest = [];
+          calls = refl;
+          kept = tt;
+          note = refl;
+          packets = refl;
+          lines = refl;
+          faults = refl;
+          logged = refl;
+          after = err;
+        },
+      )
+
+-- such a reading ends where no line goes
+pub quiet_ends : (lines : Result (List (List ℕ)) NoMemory) (report : Report) → IsOk lines
+    → IfOk lines (λ ls. report ≡ told_as None [] [] ls []) → report.end ≢ ends_no_memory
+quiet_ends (Ok ls) report is_ok said = λ e. let other : Done ≡ ends_no_memory = sym (ap (λ (r : Report). r.end) said) ∙ e in cc
+quiet_ends (Err e) report is_ok said = λ same. cc

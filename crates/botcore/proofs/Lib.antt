@@ -10,3 +10,4 @@ pub mod PutLemmas
 pub mod ReachLemmas
 pub mod RunningLemmas
 pub mod SilentLemmas
+pub mod StillLemmas

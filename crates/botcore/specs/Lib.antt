@@ -10,6 +10,7 @@ pub mod Making
 pub mod Presence
 pub mod Progress
 pub mod Putting
+pub mod Quiet
 pub mod Reports
 pub mod Rising
 pub mod Shown

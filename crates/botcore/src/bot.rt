@@ -71,7 +71,7 @@ impl<D: Disk> Bot<D> {
     ghost use Rattle.std.specs.Prelude.{◌≡◌};
     ghost use Rattle.linknet.specs.Ends.{end_is_down};
     ghost use Rattle.botlink.specs.Opening.{MayLeave};
-    ghost use Rattle.botcore.specs.Links.{link_records, link_version};
+    ghost use Rattle.botcore.specs.Links.{ask_count, link_records, link_version};
 
     /// What it was told before it was made.
     pub fn config(&self) -> &Config
@@ -100,6 +100,27 @@ impl<D: Disk> Bot<D> {
         ensures { result ≡ end_is_down self.now.link.end }
     {
         self.link.is_down()
+    }
+
+    /// How many asks wait for a pump.
+    pub fn ask_count(&self) -> usize
+        ensures { result ≡ ask_count self.now.link }
+    {
+        self.link.ask_count()
+    }
+
+    /// Whether a 001 of the server was taken in since the bot last connected.
+    pub fn is_welcomed(&self) -> bool
+        ensures { result ≡ self.now.welcomed }
+    {
+        self.welcomed
+    }
+
+    /// The nick that the server knows it by: before a 001 that of its configuration.
+    pub fn own_nick(&self) -> &[u8]
+        ensures { result.now ≡ self.now.channels.nick }
+    {
+        self.channels.current().own_nick()
     }
 
     /// The two disks, in the order in which they were given. Whatever a crash leaves on them is the bot's journal; one that

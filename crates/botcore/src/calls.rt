@@ -1,5 +1,5 @@
 // What calls and their actions make of a bot.
-ghost use Rattle.std.specs.Prelude.{◌≡◌, [], map, IfOk, IsFalse};
+ghost use Rattle.std.specs.Prelude.{◌≡◌, [], map, IfOk, IsFalse, IsOk};
 ghost use Rattle.botcore.specs.declared.fault.Fault.TheVariants.{Unbound as unbound_fault};
 ghost use Rattle.botcore.specs.Acting.{actions_of};
 
@@ -40,7 +40,7 @@ pub(crate) struct Told {
 }
 
 impl<D: Disk> Bot<D> {
-    ghost use Rattle.std.specs.Prelude.{◌≡◌, ◌≤◌, ◌++◌, length, unwrap_or, IfOk, IfSome, OnOk};
+    ghost use Rattle.std.specs.Prelude.{◌≡◌, ◌≤◌, ◌++◌, [], length, unwrap_or, IfOk, IfSome, IsOk, OnOk};
     ghost use Rattle.botcore.specs.Rising.{IsReached};
     ghost use Rattle.linkcalls.specs.declared.TheConstants.{MAX_TEXTS};
     ghost use Rattle.botcore.specs.Acting.{action_faults, actions_of, faults_of};
@@ -85,6 +85,7 @@ impl<D: Disk> Bot<D> {
           queues = (acting_after self.old calls.now).queues;
         }) }
         ensures kept { HasMore self.old self.new }
+        ensures needs_none { calls.now ≡ [] → unbound.items ≡ [] → IsOk result }
     {
         let faults = left_out(alloc, unbound)?;
         if !asks_any(calls) {
@@ -142,15 +143,20 @@ impl<D: Disk> Bot<D> {
 
 // The binds that were left out, as faults.
 fn left_out(alloc: Global, unbound: Vec<Unbound>) -> Result<Faults, NoMemory>
-    ensures { IfOk result (λ faults. faults ≡ map (λ u. unbound_fault u) unbound.items) }
+    ensures faults { IfOk result (λ faults. faults ≡ map (λ u. unbound_fault u) unbound.items) }
+    ensures needs_none { unbound.items ≡ [] → IsOk result }
 {
+    if unbound.is_empty() {
+        return Ok(Seq::empty(alloc));
+    }
     let faults = unbound.into_iter().map(Fault::Unbound).collect(alloc)?;
     Ok(Seq::new(faults))
 }
 
 // Whether some call asks for something.
 fn asks_any(calls: &[MadeCall]) -> bool
-    ensures { IsFalse result → actions_of calls.now ≡ [] }
+    ensures silent { IsFalse result → actions_of calls.now ≡ [] }
+    ensures none { calls.now ≡ [] → IsFalse result }
 {
     for call in calls {
         if !call.reply.actions.is_empty() {

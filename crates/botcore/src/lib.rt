@@ -37,6 +37,7 @@ mod making;
 mod marks;
 mod presence;
 mod putting;
+mod quiet;
 mod reading;
 mod report;
 mod running;

@@ -8,7 +8,7 @@ use crate::automatic::is_welcome;
 use crate::bot::Bot;
 use crate::calls::{Left, Told};
 use crate::putting::put_all;
-use crate::report::{Faults, Note, Report};
+use crate::report::{End, Faults, Note, Report};
 use botcalls::{Dispatch, MadeCall, Occasion, Unbound, has_raw_one, starts_with_word};
 use bytetext::{NoMemory, Seq, Text, TryCopy};
 use chanstate::{ChanState, events};
@@ -18,8 +18,11 @@ use std::alloc::Global;
 use storage::Disk;
 
 impl<D: Disk> Bot<D> {
-    ghost use Rattle.std.specs.Prelude.{◌≡◌, ◌≤◌, ◌++◌, [], length, map, IfOk, OnOk, OnErr};
+    ghost use Rattle.std.specs.Prelude.{◌≡◌, ◌≢◌, ◌≤◌, ◌++◌, [], false, length, map, IfOk, IsOk, IsOkAnd, OnOk, OnErr};
+    ghost use Rattle.bindtable.specs.Hearing.{hear_messages};
     ghost use Rattle.chanstate.specs.Events.{events_of};
+    ghost use Rattle.chanstate.specs.Memory.{takes_memory};
+    ghost use Rattle.chanstate.specs.Views.{connected};
     ghost use Rattle.linkcalls.specs.declared.TheConstants.{MAX_TEXTS};
     ghost use Rattle.botcalls.specs.declared.occasion.Occasion.TheVariants.{Heard as heard_event};
     ghost use Rattle.botcore.specs.Acting.{faults_of};
@@ -29,6 +32,8 @@ impl<D: Disk> Bot<D> {
     ghost use Rattle.botcore.specs.Lines.{channels_after, own_lines, welcomed_after};
     ghost use Rattle.botcore.specs.Progress.{HasMore};
     ghost use Rattle.botcore.specs.Putting.{put_all, put_faults};
+    ghost use Rattle.botcore.specs.Automatic.{watched_in};
+    ghost use Rattle.botcore.specs.Quiet.{BringsNothing};
     ghost use Rattle.botcore.specs.Steps.{TakesMessage, TakesText, said_occasions as occasions_of_text};
 
     // A message of the server: its procs are called, and then all that they ask for is done, or nothing is.
@@ -40,6 +45,7 @@ impl<D: Disk> Bot<D> {
     ) -> Report
         ensures takes { TakesMessage P.code_of P.may store.now self.old message.now result self.new }
         ensures few { length result.packets ≤ MAX_TEXTS }
+        ensures needs_none { BringsNothing self.old message.now → result.end ≢ End.NoMemory }
     {
         let made = match self.call_for_message(alloc, store, message) {
             Ok(made) => made,
@@ -52,16 +58,22 @@ impl<D: Disk> Bot<D> {
         }
     }
 
-    // Calls the procs that a message calls: all of them, or the first ones before memory ran out.
+    // Calls the procs that a message calls: all of them, or the first ones before memory ran out. Where no bind waits for
+    // messages, its events are not made.
     fn call_for_message<P: Promise, B: Run>(
         &self,
         alloc: Global,
         store: &ProcStore<P, B>,
         message: &Message,
     ) -> Result<Dispatch, Dispatch>
-        ensures { IsDispatched (bot_setting P.code_of store.now self.now) P.may
+        ensures dispatched { IsDispatched (bot_setting P.code_of store.now self.now) P.may
             (map (λ e. heard_event e) (events_of message.now self.now.channels)) result }
+        ensures needs_none { hear_messages self.now.binds.binds ≡ false
+            → IsOkAnd result (λ made. (made.calls ≡ []) × (made.unbound ≡ [])) }
     {
+        if !self.binds.hears_messages() {
+            return Ok(Dispatch::new(alloc));
+        }
         match heard_of(alloc, message, self.channels.current()) {
             Ok(occasions) => self.call_procs(alloc, store, occasions.as_slice()),
             Err(NoMemory) => Err(Dispatch::new(alloc)),
@@ -83,6 +95,7 @@ impl<D: Disk> Bot<D> {
         ensures few { IfOk result (λ told. length told.packets ≤ MAX_TEXTS) }
         ensures ok { OnOk result (self.new ≡ after_line self.old message.now calls.now) }
         ensures err { OnErr result (self.new ≡ self.old) }
+        ensures needs_none { calls.now ≡ [] → unbound.items ≡ [] → BringsNothing self.old message.now → IsOk result }
     {
         let marks = self.marks();
         match self.act_on_message(alloc, calls, unbound, message) {
@@ -109,6 +122,7 @@ impl<D: Disk> Bot<D> {
         ensures few { IfOk result (λ told. length told.packets ≤ MAX_TEXTS) }
         ensures ok { OnOk result (self.new ≡ after_line self.old message.now calls.now) }
         ensures err { OnErr result (HasMore self.old self.new) }
+        ensures needs_none { calls.now ≡ [] → unbound.items ≡ [] → BringsNothing self.old message.now → IsOk result }
     {
         let wishes = self.own_lines(alloc, calls, message)?;
         let Left {
@@ -134,7 +148,9 @@ impl<D: Disk> Bot<D> {
         calls: &[MadeCall],
         message: &Message,
     ) -> Result<Vec<PutWish>, NoMemory>
-        ensures { IfOk result (λ wishes. wishes.items ≡ own_lines self.now message.now calls.now) }
+        ensures lines { IfOk result (λ wishes. wishes.items ≡ own_lines self.now message.now calls.now) }
+        ensures needs_none { own_lines self.now message.now calls.now ≡ [] → watched_in message.now self.now.channels ≡ []
+            → IsOk result }
     {
         if has_raw_one(calls) {
             return Ok(Vec::new(alloc));
@@ -147,8 +163,13 @@ impl<D: Disk> Bot<D> {
         ensures queues { OnOk result (self.new ≡ record self.old { queues = put_all self.old.queues wishes.items }) }
         ensures faults { OnOk result (faults.new ≡ faults.old ++ put_faults self.old.queues wishes.items) }
         ensures kept { HasMore self.old self.new }
+        ensures needs_none { wishes.items ≡ [] → IsOk result }
     {
-        put_all(&mut self.queues, faults, wishes)
+        if wishes.is_empty() {
+            Ok(())
+        } else {
+            put_all(&mut self.queues, faults, wishes)
+        }
     }
 
     // Takes a message of these calls into the channel state, unless a raw proc has answered 1.
@@ -163,6 +184,8 @@ impl<D: Disk> Bot<D> {
           welcomed = welcomed_after self.old.welcomed calls.now message.now;
         }) }
         ensures err { OnErr result (self.new ≡ self.old) }
+        ensures needs_none { takes_memory message.now self.old.channels ≡ false
+            → self.old.channels ≢ connected self.old.config.nick → IsOk result }
     {
         if has_raw_one(calls) {
             return Ok(());

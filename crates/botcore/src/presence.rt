@@ -28,7 +28,8 @@ impl Model for Presence {
 }
 
 impl Presence {
-    ghost use Rattle.std.specs.Prelude.{◌≡◌, IfOk, OnOk, OnErr};
+    ghost use Rattle.std.specs.Prelude.{◌≡◌, ◌≢◌, false, IfOk, IsOk, OnOk, OnErr};
+    ghost use Rattle.chanstate.specs.Memory.{takes_memory};
     ghost use Rattle.chanstate.specs.Steps.{after};
     ghost use Rattle.botcore.specs.Presence.{absent};
 
@@ -57,10 +58,12 @@ impl Presence {
         self.since = None;
     }
 
-    // Takes a message in.
+    // Takes a message in. One that brings nothing to be kept takes no memory, once there are channels of their own.
     pub(crate) fn apply(&mut self, alloc: Global, message: &Message) -> Result<(), NoMemory>
         ensures ok { OnOk result (self.new ≡ record self.old { current = after message.now self.old.current }) }
         ensures err { OnErr result (self.new ≡ self.old) }
+        ensures needs_none { takes_memory message.now self.old.current ≡ false → self.old.current ≢ self.old.first
+            → IsOk result }
     {
         match &mut self.since {
             Some(since) => since.apply(alloc, message),

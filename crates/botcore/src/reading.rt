@@ -1,11 +1,12 @@
 // What a reading of the clock makes of a bot.
-ghost use Rattle.std.specs.Prelude.{◌≡◌};
+ghost use Rattle.std.specs.Prelude.{◌≡◌, [], None, IfOk, OnErr};
+ghost use Rattle.botcore.specs.Reports.{told, cut_short};
 ghost use Rattle.botcore.specs.Steps.{is_stale};
 
 use crate::bot::Bot;
 use crate::calls::{Left, Told};
 use crate::fault::Refusal;
-use crate::report::Report;
+use crate::report::{End, Report};
 use crate::running::run_seconds;
 use botcalls::{MadeCall, Occasion, Unbound};
 use bottimers::{Clock, ClockFault, Timers};
@@ -24,7 +25,7 @@ struct Ran {
 }
 
 impl<D: Disk> Bot<D> {
-    ghost use Rattle.std.specs.Prelude.{◌≡◌, ◌≤◌, ◌<◌, [], false, Some, length, IfOk, IsOk, OnOk, OnErr};
+    ghost use Rattle.std.specs.Prelude.{◌≡◌, ◌≢◌, ◌≤◌, ◌<◌, [], false, Some, length, IfOk, IsOk, OnOk, OnErr};
     ghost use Rattle.bytetext.specs.declared.moment.TheConstants.{MOMENTS_END as end_of_moments};
     ghost use Rattle.botcore.specs.Rising.{IsReached};
     ghost use Rattle.bottimers.specs.Seconds.{reading_fault, seconds_run};
@@ -33,6 +34,7 @@ impl<D: Disk> Bot<D> {
     ghost use Rattle.botcore.specs.Happenings.{seconds_of};
     ghost use Rattle.botcore.specs.Lines.{acting_of, acting_after, finish_reading};
     ghost use Rattle.botcore.specs.Progress.{HasMore};
+    ghost use Rattle.botcore.specs.Quiet.{PassesQuietly};
     ghost use Rattle.outqueue.specs.Sending.{sent, after as after_sending};
     ghost use Rattle.botcore.specs.Shown.{AreOccasions};
     ghost use Rattle.botcore.specs.Steps.{TakesReading, TakesSeconds, is_stale, run_to};
@@ -46,6 +48,7 @@ impl<D: Disk> Bot<D> {
     ) -> Report
         ensures takes { TakesReading (reading_fault now) P.code_of P.may store.now self.old now result self.new }
         ensures few { length result.packets ≤ MAX_TEXTS }
+        ensures needs_none { PassesQuietly self.old now → result.end ≢ End.NoMemory }
     {
         if now >= MOMENTS_END {
             return Report::refused(alloc, Refusal::Clock(ClockFault::BadMoment));
@@ -67,7 +70,11 @@ impl<D: Disk> Bot<D> {
         requires above { is_stale self.old.clock now ≡ false }
         ensures takes { TakesSeconds P.code_of P.may store.now self.old now result self.new }
         ensures few { length result.packets ≤ MAX_TEXTS }
+        ensures needs_none { PassesQuietly self.old now → result.end ≢ End.NoMemory }
     {
+        if self.is_still_until(now) {
+            return quiet_report(alloc, self.pass_to(alloc, now));
+        }
         let ran = match self.run(alloc, now) {
             Ok(ran) => ran,
             Err(NoMemory) => return Report::cut_short(alloc, Seq::empty(alloc)),
@@ -197,7 +204,7 @@ impl<D: Disk> Bot<D> {
     }
 
     // Sends what may go. Where no line goes it takes no memory.
-    fn send(&mut self, alloc: Global, now: u64) -> Result<Texts, NoMemory>
+    pub(crate) fn send(&mut self, alloc: Global, now: u64) -> Result<Texts, NoMemory>
         requires { now < end_of_moments }
         ensures lines { IfOk result (λ lines. lines ≡ sent self.old.queues now) }
         ensures ok { OnOk result (self.new ≡ record self.old { queues = after_sending self.old.queues now }) }
@@ -218,6 +225,23 @@ impl<D: Disk> Bot<D> {
         let old_clock = mem::replace(&mut self.clock, clock);
         let old_timers = mem::replace(&mut self.timers, timers);
         (old_clock, old_timers)
+    }
+}
+
+// What a reading reports that calls nothing. Takes no memory.
+fn quiet_report(alloc: Global, lines: Result<Texts, NoMemory>) -> Report
+    ensures done { IfOk lines (λ lines. result ≡ told None [] [] lines []) }
+    ensures lacks { OnErr lines (result ≡ cut_short []) }
+{
+    match lines {
+        Ok(lines) => Report::told(
+            None,
+            Seq::empty(alloc),
+            Seq::empty(alloc),
+            lines,
+            Seq::empty(alloc),
+        ),
+        Err(NoMemory) => Report::cut_short(alloc, Seq::empty(alloc)),
     }
 }
 

@@ -3,7 +3,7 @@ use crate::automatic::greeting;
 use crate::bot::Bot;
 use crate::event::{Event, NewBind, OldBind};
 use crate::putting::put_all;
-use crate::report::{Faults, Note, Report};
+use crate::report::{End, Faults, Note, Report};
 use bottimers::{Clock, Timers};
 use bytetext::{NoMemory, Seq};
 use ircline::Line;
@@ -15,7 +15,7 @@ use storage::Disk;
 use userfile::Change;
 
 impl<D: Disk> Bot<D> {
-    ghost use Rattle.std.specs.Prelude.{◌≡◌, ◌≤◌, ◌+◌, [], Some, None, Ok, length, IfOk, OnOk, OnErr};
+    ghost use Rattle.std.specs.Prelude.{◌≡◌, ◌≢◌, ◌≤◌, ◌+◌, [], Some, None, Ok, length, IfOk, OnOk, OnErr};
     ghost use Rattle.botcore.specs.Happenings.{Saying, saying_in};
     ghost use Rattle.botcore.specs.Reports.{answer_report};
     ghost use Rattle.linkcalls.specs.declared.TheConstants.{MAX_LEAVES, MAX_TEXTS};
@@ -24,6 +24,7 @@ impl<D: Disk> Bot<D> {
     ghost use Rattle.protocol.specs.Network.Event.{Pump as pumps, Compact as compacts};
     ghost use Rattle.botlink.specs.Links.{did};
     ghost use Rattle.botcore.specs.Bots.{restarted};
+    ghost use Rattle.botcore.specs.Quiet.{NeedsNone};
     ghost use Rattle.botcore.specs.Steps.{TakesStep, TakesText, IsGoodEvent};
     ghost use Rattle.botcore.specs.Steps.{Gives, GivesAsk, GivesRow, GivesRestart, GivesBind, GivesUnbind, connect_due, asked_of};
 
@@ -45,8 +46,11 @@ impl<D: Disk> Bot<D> {
     ///
     /// The report ends `NoMemory` where a growth was refused: then the bot is as it was, but for a restart, and the calls
     /// that were made are the first of those that would be made. A line that is no message, a reading that is refused or not
-    /// above the last, a bind that is taken away, and each call of the link that takes no memory never end so. At most 1,001
-    /// packets are to be sent.
+    /// above the last, a bind that is taken away, and each call of the link that takes no memory never end so. Nor does a
+    /// message, once one was taken in since the bot connected, where no bind waits for messages, nobody has joined a
+    /// channel on which the bot is op, the bot puts no line, and the channels get no new text or member; nor a reading of
+    /// seconds at which no timer is due and none of which begins a minute, where no line may go. At most 1,001 packets are
+    /// to be sent.
     pub fn step<P: Promise, B: Run>(
         &mut self,
         alloc: Global,
@@ -57,6 +61,8 @@ impl<D: Disk> Bot<D> {
         ensures takes { TakesStep P.code_of P.may store.now self.old event result self.new }
         ensures few { length result.packets ≤ MAX_LEAVES + 1 }
         ensures good_records { AreGood result.packets }
+        // An event that calls nothing and brings nothing to be kept takes no memory.
+        ensures needs_none { NeedsNone self.old event → result.end ≢ End.NoMemory }
     {
         match event {
             Event::Connect => self.connect(alloc),
@@ -113,6 +119,7 @@ impl<D: Disk> Bot<D> {
         ensures takes { TakesStep P.code_of P.may store.now self.old (Event.Line line.now) result self.new }
         ensures few { length result.packets ≤ MAX_TEXTS }
         ensures good_records { AreGood result.packets }
+        ensures needs_none { NeedsNone self.old (Event.Line line.now) → result.end ≢ End.NoMemory }
     {
         match line {
             Line::Message(message) => self.hear(alloc, store, message),

@@ -2,32 +2,32 @@
 use Rattle.std.proofs.Common.{◌≡◌, ◌⊎◌, ◌<◌, inl, inr, ℕ, zero, suc, List, Some, option_map, ap, arith}
 use Rattle.protocol.specs.Network.{Restart}
 use Rattle.protocol.specs.Bots.{Works, Counts}
-use Rattle.hublink.specs.Opening.{AreOf as HubAreOf}
-use Rattle.hublink.specs.Kept.{MeansEither as HubMeans}
+use Rattle.protocol.specs.HubRules.{hub_folded}
+use Rattle.protocol.specs.LeafRules.{leaf_folded}
+use Rattle.protocol.specs.Journals.{hub_meaning, leaf_meaning}
+use Rattle.linkstate.specs.Kept.{MeansEither, AreOf as KeptAreOf}
 use Rattle.hublink.specs.Link.{HubEnd}
-use Rattle.leaflink.specs.Opening.{AreOf as LeafAreOf}
-use Rattle.leaflink.specs.Kept.{MeansEither as LeafMeans}
 use Rattle.leaflink.specs.Link.{LeafEnd}
 use Rattle.botlink.specs.Links.{did}
 use Rattle.botlink.specs.Ends.{hub_end, leaf_end}
 use Rattle.botlink.specs.Opening.{hub_at_rest, leaf_at_rest, end_meaning, AreOf}
 
-pub hub_left : (hub : HubEnd) (x y : List ℕ) → HubAreOf hub.leaves hub.bot.kept hub.bot.doubt x y → AreOf (hub_end hub) x y
+pub hub_left : (hub : HubEnd) (x y : List ℕ) → KeptAreOf (hub_meaning hub.leaves) hub_folded hub.bot.kept hub.bot.doubt x y → AreOf (hub_end hub) x y
 hub_left hub x y is = record { contents = is.contents; found = is.found; means = by is.means }
   where
-    by : HubMeans hub.leaves hub.bot.kept hub.bot.doubt is.contents
+    by : MeansEither (hub_meaning hub.leaves) hub_folded hub.bot.kept hub.bot.doubt is.contents
         → (end_meaning 0 hub.leaves is.contents ≡ Some (did (hub_end hub) Restart Works).after)
         ⊎ (end_meaning 0 hub.leaves is.contents ≡ Some (did (hub_end hub) Restart Counts).after)
-    by (inl m) = inl (ap (option_map hub_at_rest) m.means)
-    by (inr m) = inr (ap (option_map hub_at_rest) m.means)
+    by (inl m) = inl (ap (option_map hub_at_rest) m)
+    by (inr m) = inr (ap (option_map hub_at_rest) m)
 
-pub leaf_left : (leaf : LeafEnd) (x y : List ℕ) → 0 < leaf.number → LeafAreOf leaf.number leaf.bot.kept leaf.bot.doubt x y
+pub leaf_left : (leaf : LeafEnd) (x y : List ℕ) → 0 < leaf.number → KeptAreOf (leaf_meaning leaf.number) leaf_folded leaf.bot.kept leaf.bot.doubt x y
     → AreOf (leaf_end leaf) x y
 leaf_left leaf x y numbered is = record { contents = is.contents; found = is.found; means = by leaf.number numbered is.means }
   where
-    by : (number : ℕ) → 0 < number → LeafMeans number leaf.bot.kept leaf.bot.doubt is.contents
+    by : (number : ℕ) → 0 < number → MeansEither (leaf_meaning number) leaf_folded leaf.bot.kept leaf.bot.doubt is.contents
         → (end_meaning number leaf.leaves is.contents ≡ Some (did (leaf_end leaf) Restart Works).after)
         ⊎ (end_meaning number leaf.leaves is.contents ≡ Some (did (leaf_end leaf) Restart Counts).after)
     by zero numbered m = absurd (omega (arith, numbered))
-    by (suc place) numbered (inl m) = inl (ap (option_map leaf_at_rest) m.means)
-    by (suc place) numbered (inr m) = inr (ap (option_map leaf_at_rest) m.means)
+    by (suc place) numbered (inl m) = inl (ap (option_map leaf_at_rest) m)
+    by (suc place) numbered (inr m) = inr (ap (option_map leaf_at_rest) m)

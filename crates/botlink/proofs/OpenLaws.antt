@@ -6,13 +6,15 @@ use Rattle.storage.specs.State.{State}
 use Rattle.bytejournal.specs.declared.fault.JournalFault.{JournalFault}
 use Rattle.bytejournal.specs.declared.fault.JournalFault.TheVariants.{DiskFault, NotAJournal, Spent, GenerationsSpent}
 use Rattle.bytejournal.specs.declared.opening.Returned.{Returned}
-use Rattle.leaflink.specs.Opening.{FindsNone as LeafFindsNone}
-use Rattle.leaflink.specs.Link.{FindsLink}
+use Rattle.protocol.specs.LeafRules.{LeafRecord, no_loose}
+use Rattle.protocol.specs.Journals.{leaf_meaning}
+use Rattle.linkstate.specs.Opening.{FindsNone as KeptFindsNone}
+use Rattle.linkstate.specs.Ends.{Opens as EndOpens}
 use Rattle.botlink.specs.Opening.{leaf_at_rest, FindsNone, Opens}
 
 module _ {D : Type 0} (state : D → State) (leaves : ℕ) (first second : D) where
   finds_none : (place : ℕ) (error : Failure JournalFault) (first' second' : D)
-      → LeafFindsNone state (suc place) first second error first' second' → FindsNone state (suc place) leaves first second error first' second'
+      → KeptFindsNone state first second (leaf_meaning (suc place)) error first' second' → FindsNone state (suc place) leaves first second error first' second'
   finds_none place (Refused DiskFault) first' second' is = is
   finds_none place (Refused NotAJournal) first' second' (inl is) = inl is
   finds_none place (Refused NotAJournal) first' second' (inr is) =
@@ -21,7 +23,8 @@ module _ {D : Type 0} (state : D → State) (leaves : ℕ) (first second : D) wh
   finds_none place (Refused GenerationsSpent) first' second' is = is
   finds_none place NoMemory first' second' is = is
 
-  pub leaf_not_found : (number : ℕ) (returned : Returned D) → 0 < number → FindsLink state number leaves first second (Err returned)
+  pub leaf_not_found : (number : ℕ) (returned : Returned D) → 0 < number
+      → EndOpens {R = LeafRecord} state first second number leaves no_loose (leaf_meaning number) (Err returned)
       → Opens state number leaves first second (Err returned)
   leaf_not_found zero returned numbered is = absurd (omega (arith, numbered))
   leaf_not_found (suc place) returned numbered is =

@@ -41,6 +41,14 @@ impl Clock {
         Clock { last: None }
     }
 
+    /// A clock that has seen this second last. Takes no memory.
+    pub fn at(second: u64) -> Clock
+        requires { second < MOMENTS_END }
+        ensures { result ≡ Some second }
+    {
+        Clock { last: Some(second) }
+    }
+
     /// The last second seen.
     pub fn last(&self) -> Option<u64>
         ensures { result ≡ self.now }

@@ -2,7 +2,7 @@
 ghost use Rattle.std.specs.Prelude.{◌≡◌, ◌<◌, ◌≤◌, ◌==◌, not, ◌||◌, nat_lt, IsOk, IfOk, OnOk, [], ◌++◌};
 ghost use Rattle.std.specs.Prelude.{ℕ, length, map, filter, All, vec_capacity, vec_len};
 ghost use Rattle.std.specs.List.{list_any};
-ghost use Rattle.bottimers.specs.Occurrences.{is_kept};
+ghost use Rattle.bottimers.specs.Occurrences.{is_due, is_kept};
 ghost use Rattle.bottimers.specs.Countdown.{IsRunning, counted, due_calls};
 ghost use Rattle.bottimers.specs.Held.{status_of};
 
@@ -42,6 +42,19 @@ pub(crate) fn due_of(
     push_due(alloc, &mut calls, entries, TimerKind::Seconds, from, to)?;
     push_due(alloc, &mut calls, entries, TimerKind::Minutes, from, to)?;
     Ok(calls)
+}
+
+// Whether one has an occurrence at the second `to`.
+pub(crate) fn is_any_due(entries: &[Entry], from: u64, to: u64) -> bool
+    requires { All (λ e. IsRunning from e × (from < to)) entries.now }
+    ensures { result ≡ list_any (λ e. is_due to e.timer) entries.now }
+{
+    for entry in entries {
+        if entry.is_due(from, to) {
+            return true;
+        }
+    }
+    false
 }
 
 // Puts the ids and procs of those of one kind with an occurrence at the second `to` after the calls so far.

@@ -45,7 +45,7 @@ impl Entry {
     }
 
     // Whether an occurrence is at the second `to`.
-    fn is_due(&self, from: u64, to: u64) -> bool
+    pub(crate) fn is_due(&self, from: u64, to: u64) -> bool
         requires { IsRunning from self.now × (from < to) }
         ensures { result ≡ is_due to self.now.timer }
     {

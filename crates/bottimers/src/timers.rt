@@ -1,10 +1,11 @@
 // The timers of one bot.
 ghost use Rattle.std.specs.Prelude.{◌≡◌, ◌≢◌, ◌↔◌, ◌+◌, ◌<◌, ◌≤◌, IsTrue, Some, None, unwrap_or, IfOk, IfErr, IfNone, OnOk, OnErr, IsOk, Err, []};
+ghost use Rattle.std.specs.List.{list_any};
 ghost use Rattle.bottimers.specs.Faults.{RefusedFor, RefusedBy};
 ghost use Rattle.bottimers.specs.Occurrences.{is_due, FallsDue};
 ghost use Rattle.bottimers.specs.declared.timer.Timer.{Timer};
 
-use crate::entries::{count_kept, due_of, has_id, pass, remove_id, statuses_of};
+use crate::entries::{count_kept, due_of, has_id, is_any_due, pass, remove_id, statuses_of};
 use crate::entry::Entry;
 use crate::fault::{ClockError, ClockFault};
 use crate::limits::{MAX_ID, MAX_INTERVAL, MAX_TIMERS};
@@ -236,6 +237,24 @@ impl Timers {
         statuses_of(alloc, self.entries.as_slice(), self.last.unwrap_or(0))
     }
 
+    /// Whether some timer is due at this second. Takes no memory.
+    pub fn is_due(&self, second: u64) -> bool
+        requires { IsAbove self.now.last second }
+        ensures { result ≡ list_any (is_due second) self.now.timers }
+    {
+        is_any_due(self.entries.as_slice(), self.last.unwrap_or(0), second)
+    }
+
+    /// Lets this second pass without its calls: what is due then and what was due at seconds that were skipped is used up;
+    /// a timer with no occurrence to come is gone. Takes no memory.
+    pub fn pass(&mut self, second: u64)
+        requires { IsAbove self.old.last second }
+        ensures { self.new ≡ passed second self.old }
+    {
+        pass(&mut self.entries, self.last.unwrap_or(0), second);
+        self.last = Some(second);
+    }
+
     /// The ids and procs of the timers that are due at this second: the utimers in the order of making, and then, at the
     /// first second of a minute, the timers in the order of making. What is due then and what was due at seconds that
     /// were skipped is used up; a timer with no occurrence to come is gone.
@@ -253,8 +272,7 @@ impl Timers {
     {
         let since = self.last.unwrap_or(0);
         let calls = due_of(alloc, self.entries.as_slice(), since, second)?;
-        pass(&mut self.entries, since, second);
-        self.last = Some(second);
+        self.pass(second);
         Ok(calls)
     }
 }

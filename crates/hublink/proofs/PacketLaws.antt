@@ -15,8 +15,8 @@ use Rattle.protocol.specs.HubRules.{Hub, version_of, last_request, is_no_leaf, h
 use Rattle.linkcalls.specs.declared.answer.Answer.{Answer}
 use Rattle.linkcalls.specs.declared.error.LinkFault.{LinkFault}
 use Rattle.linkcalls.specs.Calls.{note_of, outgoings_of}
-use Rattle.hublink.specs.Kept.{KeptHub}
-use Rattle.hublink.specs.Link.{HubEnd, end_of, Meets, Accepts, left_by, told_before, hello_sends}
+use Rattle.linkstate.specs.Ends.{Calls}
+use Rattle.hublink.specs.Link.{HubEnd, KeptHub, hub_end, Accepts, left_by, told_before, hello_sends}
 use Rattle.hublink.proofs.Sending.{outgoings-length}
 use Rattle.hublink.proofs.LinkLaws.{meets-answer, place-next}
 
@@ -41,10 +41,10 @@ module _ (old : HubEnd) (leaf version : ℕ) where
   row-served found = rw found (served-is (nat_lt version old.bot.kept.floor))
 
   pub hello-served : (answer : Answer) → is_stray ≡ false → note_of answer.note ≡ Served (length answer.packets) → outgoings_of answer.packets ≡ sends
-      → Meets old hello_row (Ok answer) old
+      → Calls old hello_row (Ok answer) old
   hello-served answer found notes sent =
       meets-answer old old hello_row (Served (length sends)) sends answer (row-served found)
-      (notes ∙ ap (λ n. Served n) (sym (outgoings-length answer.packets) ∙ ap (λ (l : List Sent). length l) sent)) sent refl
+      (notes ∙ ap (λ n. Served n) (sym (outgoings-length answer.packets) ∙ ap (λ (l : List Sent). length l) sent)) sent refl refl
 
 -- ---- requests
 
@@ -55,11 +55,11 @@ module _ (old : HubEnd) (leaf request : ℕ) (change : Change) (last : Option Re
   -- the next request, which the records refuse or don't
   pub placed-next : (new : HubEnd) (result : Result Answer (Failure LinkFault)) (found : Option ChangeFault) → request ≡ last_request last + 1
       → refusal old.bot.kept.records change ≡ found
-      → Meets old (λ how. next_request old.leaves how old.bot leaf request change found) result new → Meets old placed_row result new
+      → Calls old (λ how. next_request old.leaves how old.bot leaf request change found) result new → Calls old placed_row result new
   placed-next new result found next is meets =
-      subst (λ (p : Place). Meets old (λ how. request_placed old.leaves how old.bot leaf request change last p) result new)
+      subst (λ (p : Place). Calls old (λ how. request_placed old.leaves how old.bot leaf request change last p) result new)
       (sym (place-next request (last_request last) next))
-      (subst (λ (o : Option ChangeFault). Meets old (λ how. next_request old.leaves how old.bot leaf request change o) result new) (sym is) meets)
+      (subst (λ (o : Option ChangeFault). Calls old (λ how. next_request old.leaves how old.bot leaf request change o) result new) (sym is) meets)
 
 -- ---- accepting
 
@@ -74,16 +74,16 @@ told-replied zero request number held last found = absurd (cc)
 told-replied (suc place) request number held last found = refl
 
 pub placed-accepts : (old new : KeptHub) (asks : List Change) (leaf request : ℕ) (change : Change) (last : Option Reply)
-    (result : Result Answer (Failure LinkFault)) → item_at old.kept.replies leaf ≡ Some last → request ≡ last_request last + 1
-    → refusal old.kept.records change ≡ None → Accepts old (record { origin = leaf; request = request; change = change }) result new
-    → Meets (end_of old asks) (λ how. request_placed old.leaves how (end_of old asks).bot leaf request change last
-    (place_of request (last_request last))) result (end_of new asks)
+    (result : Result Answer (Failure LinkFault)) → item_at old.state.replies leaf ≡ Some last → request ≡ last_request last + 1
+    → refusal old.state.records change ≡ None → Accepts old (record { origin = leaf; request = request; change = change }) result new
+    → Calls (hub_end old asks) (λ how. request_placed old.who how (hub_end old asks).bot leaf request change last
+    (place_of request (last_request last))) result (hub_end new asks)
 placed-accepts old new asks leaf request change last result found next taken accepted =
-    placed-next (end_of old asks) leaf request change last (end_of new asks) result None next taken
-    (subst (λ (l : List Sent). Meets (end_of old asks) (λ how. accepts old.leaves how (end_of old asks).bot entry l asks) result (end_of new asks))
-    (told-replied leaf request (version_of old.kept + 1) old.kept.replies last found)
-    (subst (λ (l : List Change). Meets (end_of old asks) (λ how. accepts old.leaves how (end_of old asks).bot entry
-    (told_before leaf request (version_of old.kept + 1)) asks) result (end_of new l)) (left-same result asks) (accepted asks asks)))
+    placed-next (hub_end old asks) leaf request change last (hub_end new asks) result None next taken
+    (subst (λ (l : List Sent). Calls (hub_end old asks) (λ how. accepts old.who how (hub_end old asks).bot entry l asks) result (hub_end new asks))
+    (told-replied leaf request (version_of old.state + 1) old.state.replies last found)
+    (subst (λ (l : List Change). Calls (hub_end old asks) (λ how. accepts old.who how (hub_end old asks).bot entry
+    (told_before leaf request (version_of old.state + 1)) asks) result (hub_end new l)) (left-same result asks) (accepted asks asks)))
   where
     entry : AcceptedChange
     entry = record { origin = leaf; request = request; change = change }
@@ -95,22 +95,22 @@ first-of [] x some is = absurd (omega (arith, some))
 first-of (y ∷ ys) x some is = ap (λ z. z ∷ ys) (sym is)
 
 module _ (old new : KeptHub) (asks : List Change) (change : Change) (oldest : asks ≡ change ∷ drop 1 asks)
-    (taken : refusal old.kept.records change ≡ None) where
+    (taken : refusal old.state.records change ≡ None) where
   abbrev pumped_row : How → Row Hub
-  pumped_row how = hub_pumped_up old.leaves how (end_of old asks).bot asks
+  pumped_row how = hub_pumped_up old.who how (hub_end old asks).bot asks
 
   pumped-as : (result : Result Answer (Failure LinkFault)) (left : List Change)
-      → Meets (end_of old asks) (λ how. accepts old.leaves how (end_of old asks).bot (own change) [] (drop 1 asks)) result (end_of new left)
-      → Meets (end_of old asks) pumped_row result (end_of new left)
+      → Calls (hub_end old asks) (λ how. accepts old.who how (hub_end old asks).bot (own change) [] (drop 1 asks)) result (hub_end new left)
+      → Calls (hub_end old asks) pumped_row result (hub_end new left)
   pumped-as result left meets =
-      subst (λ (l : List Change). Meets (end_of old asks) (λ how. hub_pumped_up old.leaves how (end_of old asks).bot l) result (end_of new left)) (sym oldest)
-      (subst (λ (o : Option ChangeFault). Meets (end_of old asks) (λ how. ask_served old.leaves how (end_of old asks).bot change (drop 1 asks) o)
-      result (end_of new left)) (sym taken) meets)
+      subst (λ (l : List Change). Calls (hub_end old asks) (λ how. hub_pumped_up old.who how (hub_end old asks).bot l) result (hub_end new left)) (sym oldest)
+      (subst (λ (o : Option ChangeFault). Calls (hub_end old asks) (λ how. ask_served old.who how (hub_end old asks).bot change (drop 1 asks) o)
+      result (hub_end new left)) (sym taken) meets)
 
   pub pumped-kept : (answer : Answer) → Accepts old (record { origin = 0; request = 0; change = change }) (Ok answer) new
-      → Meets (end_of old asks) pumped_row (Ok answer) (end_of new (drop 1 asks))
+      → Calls (hub_end old asks) pumped_row (Ok answer) (hub_end new (drop 1 asks))
   pumped-kept answer accepted = pumped-as (Ok answer) (drop 1 asks) (accepted asks (drop 1 asks))
 
   pub pumped-unkept : (error : Failure LinkFault) → Accepts old (record { origin = 0; request = 0; change = change }) (Err error) new
-      → Meets (end_of old asks) pumped_row (Err error) (end_of new asks)
+      → Calls (hub_end old asks) pumped_row (Err error) (hub_end new asks)
   pumped-unkept error accepted = pumped-as (Err error) asks (accepted asks (drop 1 asks))

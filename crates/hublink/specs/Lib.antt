@@ -1,4 +1,1 @@
-pub mod Kept
-pub mod Doubts
-pub mod Opening
 pub mod Link

@@ -6,11 +6,10 @@ ghost use Rattle.linkcalls.specs.declared.TheConstants.{MAX_LEAVES};
 ghost use Rattle.linkcalls.specs.Shapes.{GoOut};
 ghost use Rattle.hublink.specs.Link.{Accepts};
 
-use crate::kept::KeptHub;
 use crate::packets::accepted_packets;
 use bytetext::{Failure, Seq, TryCopy};
 use linkcalls::{Answer, LinkError, LinkFault, Note};
-use linkstate::AcceptedChange;
+use linkstate::{AcceptedChange, HubRecord, HubState, Kept};
 use std::alloc::Global;
 use storage::Disk;
 use userfile::Change;
@@ -22,24 +21,24 @@ use userfile::Change;
 /// `NumbersSpent` at the last version; `NoMemory`; `JournalFault` where a disk failed.
 pub(crate) fn accept<D: Disk>(
     alloc: Global,
-    kept: &mut KeptHub<D>,
+    kept: &mut Kept<HubState, D>,
     origin: u16,
     request: u32,
     change: &Change,
 ) -> Result<Answer, LinkError>
     requires up { kept.old.down ≡ false }
-    requires taken { refusal kept.old.kept.records change.now ≡ None }
-    requires next { is_next kept.old.kept.replies origin request ≡ true }
+    requires taken { refusal kept.old.state.records change.now ≡ None }
+    requires next { is_next kept.old.state.replies origin request ≡ true }
     ensures accepts { Accepts kept.old (record { origin = origin; request = request; change = change.now }) result kept.new }
     ensures packets { GoOut (MAX_LEAVES + 1) result }
 {
-    if !kept.has_version() {
+    if kept.state().version() == u32::MAX {
         return Err(Failure::Refused(LinkFault::NumbersSpent));
     }
     let number = kept.state().version() + 1;
     let entry = AcceptedChange::new(origin, request, change.copy(alloc)?);
-    let packets = accepted_packets(alloc, kept.leaves(), number, &entry)?;
-    match kept.accept(alloc, entry) {
+    let packets = accepted_packets(alloc, kept.who(), number, &entry)?;
+    match kept.journal(alloc, HubRecord::accept(entry)) {
         Ok(()) => Ok(Answer {
             note: Note::Accepted(number),
             packets: Seq::new(packets),

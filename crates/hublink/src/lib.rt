@@ -19,8 +19,6 @@
 #![tactic(auto)]
 
 mod accepting;
-mod doubt;
-mod kept;
 mod link;
 mod packets;
 mod receiving;

@@ -1,9 +1,9 @@
 // The hub's end of the link.
 use crate::accepting::accept;
-use crate::kept::KeptHub;
 use bytejournal::{Disks, Returned};
 use bytetext::{Failure, TryCopy, refuse};
 use linkcalls::{Answer, LinkError, LinkFault, MAX_ASKS, Note, Outgoing, text_by, text_fault};
+use linkstate::{HubRecord, HubState, Kept};
 use std::alloc::Global;
 use std::collections::VecDeque;
 use std::marker::Model;
@@ -12,7 +12,7 @@ use userfile::{Change, Userfile, shape};
 
 /// The hub's end: what its journal keeps, and the asks that wait.
 pub struct HubLink<D: Disk> {
-    pub(crate) kept: KeptHub<D>,
+    pub(crate) kept: Kept<HubState, D>,
     waiting: VecDeque<Change>,
 }
 
@@ -31,21 +31,24 @@ impl<D: Disk> Model for HubLink<D> {
 
     ghost Value = { HubEnd };
 
-    ghost use Rattle.hublink.specs.Link.{end_of};
+    ghost use Rattle.hublink.specs.Link.{hub_end};
 
-    ghost view = { λ h. end_of h.kept h.waiting.items };
+    ghost view = { λ h. hub_end h.kept h.waiting.items };
 }
 
 impl<D: Disk> HubLink<D> {
-    ghost use Rattle.std.specs.Prelude.{◌≡◌, ◌≤◌, ◌+◌, false, length, OnErr};
+    ghost use Rattle.std.specs.Prelude.{◌≡◌, ◌≤◌, ◌+◌, [], false, length, OnErr};
     ghost use Rattle.storage.specs.State.{IsSettled};
     ghost use Rattle.protocol.specs.Bots.{unless_down};
-    ghost use Rattle.protocol.specs.HubRules.{version_of, hub_asked, text_told, hub_pumped, hub_pumped_up, hub_compacted, hub_restarted};
+    ghost use Rattle.protocol.specs.HubRules.{version_of, hub_asked, text_told, hub_pumped, hub_pumped_up, hub_compacted, hub_restarted, hub_folded};
+    ghost use Rattle.protocol.specs.Network.{new_hub};
+    ghost use Rattle.protocol.specs.Journals.{hub_meaning};
     ghost use Rattle.linkcalls.specs.declared.TheConstants.{MAX_LEAVES};
     ghost use Rattle.linkcalls.specs.Texts.{Sends};
     ghost use Rattle.linkcalls.specs.Shapes.{GoOut};
-    ghost use Rattle.hublink.specs.Opening.{MayLeave};
-    ghost use Rattle.hublink.specs.Link.{Meets, Restarts, Creates, Opens, with_oldest, kept_in};
+    ghost use Rattle.linkstate.specs.Kept.{MayLeave};
+    ghost use Rattle.linkstate.specs.Ends.{Calls, CallsRestart, Creates, Opens};
+    ghost use Rattle.hublink.specs.Link.{with_oldest};
 
     /// Makes a hub without records, for this many leaves, on two disks. What the disks held is lost.
     ///
@@ -61,9 +64,9 @@ impl<D: Disk> HubLink<D> {
         requires first_settled { IsSettled (D.state first) }
         requires second_settled { IsSettled (D.state second) }
         requires few { leaves ≤ MAX_LEAVES }
-        ensures row { Creates D.state leaves first second result }
+        ensures row { Creates D.state first second 0 leaves [] (new_hub leaves).kept result }
     {
-        match KeptHub::create(alloc, first, second, leaves) {
+        match Kept::create(alloc, first, second, leaves) {
             Ok(kept) => Ok(HubLink {
                 kept,
                 waiting: VecDeque::new(alloc),
@@ -82,9 +85,9 @@ impl<D: Disk> HubLink<D> {
         requires first_settled { IsSettled (D.state first) }
         requires second_settled { IsSettled (D.state second) }
         requires few { leaves ≤ MAX_LEAVES }
-        ensures row { Opens D.state leaves first second result }
+        ensures row { Opens D.state first second 0 leaves [] (hub_meaning leaves) result }
     {
-        match KeptHub::open(alloc, first, second, leaves) {
+        match Kept::open(alloc, first, second, leaves) {
             Ok(kept) => Ok(HubLink {
                 kept,
                 waiting: VecDeque::new(alloc),
@@ -137,7 +140,7 @@ impl<D: Disk> HubLink<D> {
     /// `Down`, then `BadChange` for a bad shape, then `AsksFull` where 64 asks wait, then `NoMemory`; each leaves the hub
     /// as it was, and only `Queued` takes memory.
     pub fn ask(&mut self, alloc: Global, change: Change) -> Result<Answer, LinkError>
-        ensures row { Meets self.old (λ how. hub_asked self.old.bot change) result self.new }
+        ensures row { Calls self.old (λ how. hub_asked self.old.bot change) result self.new }
         ensures quiet { self.new.failures ≡ self.old.failures }
         ensures stays { OnErr result (self.new ≡ self.old) }
         ensures packets { GoOut 0 result }
@@ -163,7 +166,7 @@ impl<D: Disk> HubLink<D> {
     /// `JournalFault` where a disk failed: the hub is down, shows what it showed, and sends nothing, and the ask waits
     /// until a restart. `Idle` and `Refused` take no memory.
     pub fn pump(&mut self, alloc: Global) -> Result<Answer, LinkError>
-        ensures row { Meets self.old (λ how. hub_pumped self.old.leaves how self.old.bot) result self.new }
+        ensures row { Calls self.old (λ how. hub_pumped self.old.leaves how self.old.bot) result self.new }
         ensures packets { GoOut (MAX_LEAVES + 1) result }
     {
         if self.kept.is_down() {
@@ -174,7 +177,7 @@ impl<D: Disk> HubLink<D> {
 
     fn pump_oldest(&mut self, alloc: Global) -> Result<Answer, LinkError>
         requires up { self.old.bot.down ≡ false }
-        ensures row { Meets self.old (λ how. hub_pumped_up self.old.leaves how self.old.bot self.old.bot.loose) result self.new }
+        ensures row { Calls self.old (λ how. hub_pumped_up self.old.leaves how self.old.bot self.old.bot.loose) result self.new }
         ensures packets { GoOut (MAX_LEAVES + 1) result }
     {
         let Some(change) = self.waiting.front() else {
@@ -210,7 +213,7 @@ impl<D: Disk> HubLink<D> {
         if self.kept.is_down() {
             return Err(Failure::Refused(LinkFault::Down));
         }
-        refuse(text_fault(self.kept.leaves(), 0, to, text, sent))?;
+        refuse(text_fault(self.kept.who(), 0, to, text, sent))?;
         Ok(text_by(alloc, to, 0, to, text)?)
     }
 
@@ -221,16 +224,16 @@ impl<D: Disk> HubLink<D> {
     /// `Down`; `NumbersSpent` in the journal's last generation; `NoMemory`, which leaves the hub as it was;
     /// `JournalFault` where a disk failed: the hub is down, and shows what it showed.
     pub fn compact(&mut self, alloc: Global) -> Result<Answer, LinkError>
-        ensures row { Meets self.old (λ how. hub_compacted self.old.leaves how self.old.bot) result self.new }
+        ensures row { Calls self.old (λ how. hub_compacted self.old.leaves how self.old.bot) result self.new }
         ensures packets { GoOut 0 result }
     {
         if self.kept.is_down() {
             return Err(Failure::Refused(LinkFault::Down));
         }
-        if !self.kept.has_generation() {
+        if self.kept.state().generation() == u32::MAX {
             return Err(Failure::Refused(LinkFault::NumbersSpent));
         }
-        match self.kept.compact(alloc) {
+        match self.kept.journal(alloc, HubRecord::rebase()) {
             Ok(()) => Ok(Answer::only(alloc, Note::Compacted)),
             Err(error) => Err(error),
         }
@@ -242,7 +245,7 @@ impl<D: Disk> HubLink<D> {
     /// # Errors
     /// `DiskFault` where a read failed, or `NoMemory`: the hub is down, and all else stays.
     pub fn restart(&mut self, alloc: Global) -> Result<Answer, LinkError>
-        ensures row { Restarts self.old (λ how. hub_restarted self.old.leaves how self.old.bot) result self.new }
+        ensures row { CallsRestart self.old (λ how. hub_restarted self.old.leaves how self.old.bot) result self.new }
         ensures packets { GoOut 0 result }
     {
         match self.kept.restart(alloc) {
@@ -257,7 +260,7 @@ impl<D: Disk> HubLink<D> {
     /// The two disks, in the order in which they were given.
     pub fn into_disks(self) -> Disks<D>
         // Whatever a crash leaves on them is the hub's, with the record in doubt or without it.
-        ensures left { MayLeave D.state result.first result.second (kept_in self) }
+        ensures left { MayLeave (hub_meaning self.leaves) hub_folded self.bot.kept self.bot.doubt D.state result.first result.second }
     {
         let HubLink { kept, waiting: _ } = self;
         kept.into_disks()

@@ -5,6 +5,7 @@ use crate::packets::{hello_packets, repeat_packets, reply_packet};
 use botjournal::{Answer as Outcome, Reply};
 use bytetext::{Failure, Seq, Text, TryCopy};
 use linkcalls::{Answer, LinkError, LinkFault, Note, Packet, text_by};
+use linkstate::HubRecord;
 use std::alloc::Global;
 use storage::Disk;
 use userfile::{Change, ChangeFault};
@@ -20,7 +21,7 @@ impl<D: Disk> HubLink<D> {
     ghost use Rattle.linkcalls.specs.declared.TheConstants.{MAX_LEAVES};
     ghost use Rattle.linkcalls.specs.Shapes.{GoOut};
     ghost use Rattle.std.specs.Prelude.{Some};
-    ghost use Rattle.hublink.specs.Link.{Meets};
+    ghost use Rattle.linkstate.specs.Ends.{Calls};
 
     /// Takes a packet.
     ///
@@ -37,7 +38,7 @@ impl<D: Disk> HubLink<D> {
     /// `JournalFault` where a disk failed: the hub is down, shows what it showed, and sends nothing. `Stray`, `Old` and
     /// `Gap`, and what is answered with no packet, take no memory.
     pub fn receive(&mut self, alloc: Global, packet: &Packet) -> Result<Answer, LinkError>
-        ensures row { Meets self.old (λ how. hub_received self.old.leaves how self.old.bot (from_wire packet.now)) result self.new }
+        ensures row { Calls self.old (λ how. hub_received self.old.leaves how self.old.bot (from_wire packet.now)) result self.new }
         ensures packets { GoOut (MAX_LEAVES + 1) result }
     {
         if self.kept.is_down() {
@@ -48,7 +49,7 @@ impl<D: Disk> HubLink<D> {
 
     fn receive_up(&mut self, alloc: Global, packet: &Packet) -> Result<Answer, LinkError>
         requires up { self.old.bot.down ≡ false }
-        ensures row { Meets self.old (λ how. hub_received_up self.old.leaves how self.old.bot (from_wire packet.now)) result self.new }
+        ensures row { Calls self.old (λ how. hub_received_up self.old.leaves how self.old.bot (from_wire packet.now)) result self.new }
         ensures packets { GoOut (MAX_LEAVES + 1) result }
     {
         match packet {
@@ -68,7 +69,7 @@ impl<D: Disk> HubLink<D> {
 
     // Answers a leaf's hello.
     fn receive_hello(&self, alloc: Global, leaf: u16, version: u32) -> Result<Answer, LinkError>
-        ensures row { Meets self.now (λ how. hub_received_up self.now.leaves how self.now.bot (hello_packet leaf version)) result self.now }
+        ensures row { Calls self.now (λ how. hub_received_up self.now.leaves how self.now.bot (hello_packet leaf version)) result self.now }
         ensures packets { GoOut (MAX_LEAVES + 1) result }
     {
         if self.is_stray_hello(leaf, version) {
@@ -85,7 +86,7 @@ impl<D: Disk> HubLink<D> {
     fn is_stray_hello(&self, leaf: u16, version: u32) -> bool
         ensures { result ≡ (is_no_leaf self.now.leaves leaf || nat_lt (version_of self.now.bot.kept) version) }
     {
-        leaf == 0 || leaf > self.kept.leaves() || version > self.kept.state().version()
+        leaf == 0 || leaf > self.kept.who() || version > self.kept.state().version()
     }
 
     // Takes a text, or sends it on.
@@ -96,7 +97,7 @@ impl<D: Disk> HubLink<D> {
         to: u16,
         text: &Text,
     ) -> Result<Answer, LinkError>
-        ensures row { Meets self.now (λ how. hub_received_up self.now.leaves how self.now.bot (text_packet from to text.now)) result self.now }
+        ensures row { Calls self.now (λ how. hub_received_up self.now.leaves how self.now.bot (text_packet from to text.now)) result self.now }
         ensures packets { GoOut (MAX_LEAVES + 1) result }
     {
         if self.is_stray_text(from, to) {
@@ -117,7 +118,7 @@ impl<D: Disk> HubLink<D> {
     fn is_stray_text(&self, from: u16, to: u16) -> bool
         ensures { result ≡ (nat_lt self.now.leaves from || nat_lt self.now.leaves to) }
     {
-        let leaves = self.kept.leaves();
+        let leaves = self.kept.who();
         from > leaves || to > leaves
     }
 
@@ -130,7 +131,7 @@ impl<D: Disk> HubLink<D> {
         change: &Change,
     ) -> Result<Answer, LinkError>
         requires up { self.old.bot.down ≡ false }
-        ensures row { Meets self.old (λ how. hub_received_up self.old.leaves how self.old.bot (request_packet leaf request change.now)) result self.new }
+        ensures row { Calls self.old (λ how. hub_received_up self.old.leaves how self.old.bot (request_packet leaf request change.now)) result self.new }
         ensures packets { GoOut (MAX_LEAVES + 1) result }
     {
         if request == 0 {
@@ -154,7 +155,7 @@ impl<D: Disk> HubLink<D> {
         requires up { self.old.bot.down ≡ false }
         requires last { item_at self.old.bot.kept.replies leaf ≡ Some last }
         requires one { nat_lt 0 request ≡ true }
-        ensures row { Meets self.old (λ how. request_placed self.old.leaves how self.old.bot leaf request change.now last
+        ensures row { Calls self.old (λ how. request_placed self.old.leaves how self.old.bot leaf request change.now last
             (place_of request (last_request last))) result self.new }
         ensures packets { GoOut (MAX_LEAVES + 1) result }
     {
@@ -188,12 +189,12 @@ impl<D: Disk> HubLink<D> {
     ) -> Result<Answer, LinkError>
         requires up { self.old.bot.down ≡ false }
         requires next { is_next_of (item_at self.old.bot.kept.replies leaf) request ≡ true }
-        ensures row { (change : _) → Meets self.old (λ how. next_request self.old.leaves how self.old.bot leaf request change (Some fault)) result self.new }
+        ensures row { (change : _) → Calls self.old (λ how. next_request self.old.leaves how self.old.bot leaf request change (Some fault)) result self.new }
         ensures packets { GoOut (MAX_LEAVES + 1) result }
     {
         let reply = reply_packet(leaf, request, Outcome::Refused(fault));
         let packets = Seq::new(vec![in alloc; reply]?);
-        match self.kept.settle(alloc, leaf, request, fault) {
+        match self.kept.journal(alloc, HubRecord::settle(leaf, fault)) {
             Ok(()) => Ok(Answer {
                 note: Note::Refused(fault),
                 packets,

@@ -1,7 +1,6 @@
 -- How the part that was the last one missing stands to its row, where the records of all parts stand together.
 use Rattle.std.proofs.Common.{◌≡◌, ℕ, true, nat_lt, List, [], if◌then◌else◌, Option, None, Some, is_none, Ok, Err, refl, ap, ◌∙◌}
 use Rattle.bytetext.specs.declared.failure.Failure.{Failure}
-use Rattle.storage.specs.declared.disk.DiskFault.{DiskFault}
 use Rattle.userfile.specs.Together.{records_fault}
 use Rattle.userfile.specs.declared.error.ChangeFault.{ChangeFault}
 use Rattle.usercodec.specs.declared.records.Record.{Record}
@@ -14,9 +13,11 @@ use Rattle.protocol.specs.Journals.{stand_together}
 use Rattle.protocol.specs.LeafRules.{Leaf, LeafLoose, Install, leaf_folded, installed, set_taken}
 use Rattle.protocol.proofs.Snapshots.{set_for-version}
 use Rattle.linkcalls.specs.declared.answer.Answer.{Answer}
+use Rattle.linkcalls.specs.declared.error.LinkFault.{LinkFault}
 use Rattle.linkcalls.specs.Calls.{note_of, outgoings_of}
-use Rattle.leaflink.specs.Kept.{KeptLeaf, Journals}
-use Rattle.leaflink.specs.Link.{LeafEnd, end_of, MeetsRow, part_taken_at, link_error}
+use Rattle.linkstate.specs.Kept.{Journals}
+use Rattle.linkstate.specs.Ends.{Calls}
+use Rattle.leaflink.specs.Link.{LeafEnd, KeptLeaf, leaf_end, part_taken_at}
 use Rattle.leaflink.proofs.LinkLaws.{meets-kept, meets-error}
 
 together-none : (fault : Option ChangeFault) → is_none fault ≡ true → fault ≡ None
@@ -25,9 +26,9 @@ together-none (Some fault) is = absurd (cc)
 
 module _ (leaves : ℕ) (old new : KeptLeaf) (before : LeafLoose) (version part count : ℕ) (items all : List Record)
     (whole : joined (with_part (set_for before.parts version count) part items).parts ≡ Some all)
-    (together : stand_together (records_from all) ≡ true) (numbered : nat_lt old.kept.generation last_number ≡ true) where
+    (together : stand_together (records_from all) ≡ true) (numbered : nat_lt old.state.generation last_number ≡ true) where
   abbrev end : LeafEnd
-  end = end_of leaves old before
+  end = leaf_end leaves old before
 
   abbrev row : How → Row Leaf
   row = part_taken_at end version part count items
@@ -38,25 +39,25 @@ module _ (leaves : ℕ) (old new : KeptLeaf) (before : LeafLoose) (version part 
   row-is : (how : How)
       → row how ≡ journals leaf_folded how end.bot (Install version (records_from all)) (Installed version) [] (record before { parts = None })
   row-is how =
-      ap (set_taken leaves old.number how end.bot part set) whole
-      ∙ ap (λ v. installed leaves old.number how end.bot v (records_from all) (records_fault (records_from all).users (records_from all).bans))
+      ap (set_taken leaves old.who how end.bot part set) whole
+      ∙ ap (λ v. installed leaves old.who how end.bot v (records_from all) (records_fault (records_from all).users (records_from all).bans))
       (set_for-version before.parts version count)
-      ∙ ap (installed leaves old.number how end.bot version (records_from all))
+      ∙ ap (installed leaves old.who how end.bot version (records_from all))
       (together-none (records_fault (records_from all).users (records_from all).bans) together)
       ∙ ap (λ b. if b
       then journals leaf_folded how end.bot (Install version (records_from all)) (Installed version) [] (record before { parts = None })
       else refused NumbersSpent end.bot) numbered
 
   -- the records are kept
-  pub installs : (answer : Answer) → Journals (Install version (records_from all)) old (Ok tt) new → note_of answer.note ≡ Installed version
-      → answer.packets ≡ [] → MeetsRow row end (Ok answer) (end_of leaves new (record before { parts = None }))
+  pub installs : (answer : Answer) → Journals leaf_folded (Install version (records_from all)) old (Ok tt) new → note_of answer.note ≡ Installed version
+      → answer.packets ≡ [] → Calls end row (Ok answer) (leaf_end leaves new (record before { parts = None }))
   installs answer kept notes silent =
       meets-kept leaves old new before row (Install version (records_from all)) (Installed version) [] (record before { parts = None }) row-is answer
       kept notes (ap outgoings_of silent)
 
   -- a disk failed, or memory ran out
-  pub installs-none : (error : Failure DiskFault) → Journals (Install version (records_from all)) old (Err error) new
-      → MeetsRow row end (Err (link_error error)) (end_of leaves new before)
+  pub installs-none : (error : Failure LinkFault) → Journals leaf_folded (Install version (records_from all)) old (Err error) new
+      → Calls end row (Err error) (leaf_end leaves new before)
   installs-none error fails =
       meets-error leaves old new before row (Install version (records_from all)) (Installed version) [] (record before { parts = None }) row-is error
       fails tt

@@ -1,6 +1,2 @@
-pub mod Kept
-pub mod Doubts
-pub mod Opening
-pub mod Link
 pub mod Parts
-pub mod Journaling
+pub mod Link

@@ -18,9 +18,6 @@
 //! ```
 #![tactic(auto)]
 
-mod doubt;
-mod journaled;
-mod kept;
 mod link;
 mod parts;
 mod receiving;

@@ -1,17 +1,14 @@
 // A leaf's end of the link.
 ghost use Rattle.std.specs.Prelude.{◌≡◌, ◌∷◌, [], IfOk, IfErr};
 ghost use Rattle.bytetext.specs.declared.failure.Failure.TheVariants.{NoMemory as no_memory};
-ghost use Rattle.leaflink.specs.Link.{link_error};
 
-use crate::kept::KeptLeaf;
 use crate::parts::KeptParts;
-use botjournal::{Answer as Reply, LedgerError};
 use bytejournal::{Disks, Returned};
 use bytetext::{Failure, NoMemory, Seq, Text, TryCopy, refuse};
 use linkcalls::{
     Answer, LinkError, LinkFault, MAX_ASKS, Note, Outgoing, Outgoings, Packet, text_by, text_fault,
 };
-use linkstate::{LeafState, know_change};
+use linkstate::{Kept, LeafRecord, LeafState, know_change};
 use std::alloc::Global;
 use std::collections::VecDeque;
 use std::marker::Model;
@@ -21,7 +18,7 @@ use userfile::{Change, Userfile, shape};
 /// A leaf's end: its userfile at a version, the asks that wait, the request that is out, and the journal.
 pub struct LeafLink<D: Disk> {
     pub(crate) leaves: u16,
-    pub(crate) kept: KeptLeaf<D>,
+    pub(crate) kept: Kept<LeafState, D>,
     pub(crate) waiting: VecDeque<Change>,
     pub(crate) parts: Option<KeptParts>,
 }
@@ -43,20 +40,24 @@ impl<D: Disk> Model for LeafLink<D> {
 
     ghost Value = { LeafEnd };
 
-    ghost use Rattle.leaflink.specs.Link.{end_of, IsLink};
+    ghost use Rattle.leaflink.specs.Link.{leaf_end, IsLink};
 
-    ghost view = { λ l. end_of l.leaves l.kept (record { waiting = l.waiting.items; parts = l.parts }) };
+    ghost view = { λ l. leaf_end l.leaves l.kept (record { waiting = l.waiting.items; parts = l.parts }) };
 
-    ghost invariant = { λ l. IsLink l.leaves l.kept.number l.waiting.items };
+    ghost invariant = { λ l. IsLink l.leaves l.kept.who l.waiting.items };
 }
 
 impl<D: Disk> LeafLink<D> {
     ghost use Rattle.std.specs.Prelude.{◌≡◌, ◌<◌, ◌≤◌, [], length, IfOk, OnErr, None, false};
     ghost use Rattle.storage.specs.State.{IsSettled};
     ghost use Rattle.linkcalls.specs.declared.TheConstants.{MAX_LEAVES};
-    ghost use Rattle.leaflink.specs.Opening.{MayLeave};
+    ghost use Rattle.protocol.specs.Journals.{leaf_meaning};
+    ghost use Rattle.protocol.specs.LeafRules.{no_loose, leaf_folded};
+    ghost use Rattle.protocol.specs.Network.{new_leaf};
+    ghost use Rattle.linkstate.specs.Kept.{MayLeave};
+    ghost use Rattle.linkstate.specs.Ends.{Calls, CallsRestart, Creates, Opens};
     ghost use Rattle.linkcalls.specs.Shapes.{GoOut};
-    ghost use Rattle.leaflink.specs.Link.{MeetsRow, RestartsAs, asked, keeps_asks, pumped, pumped_up, compacted, restarted, told, leaf_in, MakesLink, FindsLink};
+    ghost use Rattle.leaflink.specs.Link.{asked, keeps_asks, pumped, pumped_up, compacted, restarted, told};
     ghost use Rattle.linkcalls.specs.Texts.{Sends};
 
     /// The leaf of this number, from 1 to the number of leaves, before the first change. What the disks held is lost.
@@ -75,9 +76,9 @@ impl<D: Disk> LeafLink<D> {
         requires second_settled { IsSettled (D.state second) }
         requires numbered { (0 < number) × (number ≤ leaves) }
         requires few { leaves ≤ MAX_LEAVES }
-        ensures row { MakesLink D.state number leaves first second result }
+        ensures row { Creates D.state first second number leaves no_loose new_leaf.kept result }
     {
-        match KeptLeaf::create(alloc, first, second, number) {
+        match Kept::create(alloc, first, second, number) {
             Ok(kept) => Ok(LeafLink {
                 leaves,
                 kept,
@@ -104,9 +105,9 @@ impl<D: Disk> LeafLink<D> {
         requires second_settled { IsSettled (D.state second) }
         requires numbered { (0 < number) × (number ≤ leaves) }
         requires few { leaves ≤ MAX_LEAVES }
-        ensures row { FindsLink D.state number leaves first second result }
+        ensures row { Opens D.state first second number leaves no_loose (leaf_meaning number) result }
     {
-        match KeptLeaf::open(alloc, first, second, number) {
+        match Kept::open(alloc, first, second, number) {
             Ok(kept) => Ok(LeafLink {
                 leaves,
                 kept,
@@ -162,7 +163,7 @@ impl<D: Disk> LeafLink<D> {
     /// `Down`, then `BadChange` for a bad shape, then `AsksFull` where 64 asks wait, then `NoMemory`; each leaves the
     /// leaf as it was.
     pub fn ask(&mut self, alloc: Global, change: Change) -> Result<Answer, LinkError>
-        ensures row { MeetsRow (asked self.old change) self.old result self.new }
+        ensures row { Calls self.old (asked self.old change) result self.new }
         ensures few { IfOk result (λ answer. answer.packets ≡ []) }
         // No disk is used, and a refusal leaves all as it was.
         ensures quiet { self.new.failures ≡ self.old.failures }
@@ -191,14 +192,14 @@ impl<D: Disk> LeafLink<D> {
     /// the leaf as it was. `JournalFault` where a disk failed in this call: the leaf is down, and the request is in
     /// doubt.
     pub fn pump(&mut self, alloc: Global) -> Result<Answer, LinkError>
-        ensures row { MeetsRow (pumped self.old) self.old result self.new }
+        ensures row { Calls self.old (pumped self.old) result self.new }
         ensures few { GoOut 2 result }
     {
         if self.kept.is_down() {
             return Err(Failure::Refused(LinkFault::Down));
         }
         match self.kept.state().out() {
-            Some(change) => again(alloc, self.kept.number(), self.kept.state(), change),
+            Some(change) => again(alloc, self.kept.who(), self.kept.state(), change),
             None => self.pump_ask(alloc),
         }
     }
@@ -207,10 +208,10 @@ impl<D: Disk> LeafLink<D> {
     fn pump_ask(&mut self, alloc: Global) -> Result<Answer, LinkError>
         requires up { self.old.bot.down ≡ false }
         requires free { self.old.bot.kept.out ≡ None }
-        ensures row { MeetsRow (pumped_up self.old) self.old result self.new }
+        ensures row { Calls self.old (pumped_up self.old) result self.new }
         ensures few { GoOut 2 result }
     {
-        let number = self.kept.number();
+        let number = self.kept.who();
         let version = self.kept.state().version();
         let Some(change) = self.waiting.front() else {
             return Ok(Answer {
@@ -223,7 +224,8 @@ impl<D: Disk> LeafLink<D> {
             return Err(Failure::Refused(LinkFault::NumbersSpent));
         }
         let packets = hello_and_request(alloc, number, version, last + 1, change)?;
-        match self.kept.put_out(alloc, change) {
+        let out = LeafRecord::out(change.copy(alloc)?);
+        match self.kept.journal(alloc, out) {
             Ok(()) => {
                 let _ = self.waiting.pop_front();
                 Ok(Answer {
@@ -231,7 +233,7 @@ impl<D: Disk> LeafLink<D> {
                     packets,
                 })
             }
-            Err(error) => Err(link_error(error)),
+            Err(error) => Err(error),
         }
     }
 
@@ -253,8 +255,8 @@ impl<D: Disk> LeafLink<D> {
         if self.kept.is_down() {
             return Err(Failure::Refused(LinkFault::Down));
         }
-        refuse(text_fault(self.leaves, self.kept.number(), to, text, sent))?;
-        Ok(text_by(alloc, 0, self.kept.number(), to, text)?)
+        refuse(text_fault(self.leaves, self.kept.who(), to, text, sent))?;
+        Ok(text_by(alloc, 0, self.kept.who(), to, text)?)
     }
 
     /// Writes the state alone into the journal, in its next generation: `Compacted`.
@@ -263,7 +265,7 @@ impl<D: Disk> LeafLink<D> {
     /// `Down`; then `NumbersSpent` at generation 4,294,967,295; then `NoMemory`; each leaves the leaf as it was.
     /// `JournalFault` where a disk failed in this call: the leaf is down, and whether the journal was written in doubt.
     pub fn compact(&mut self, alloc: Global) -> Result<Answer, LinkError>
-        ensures row { MeetsRow (compacted self.old) self.old result self.new }
+        ensures row { Calls self.old (compacted self.old) result self.new }
         ensures few { IfOk result (λ answer. answer.packets ≡ []) }
     {
         if self.kept.is_down() {
@@ -272,9 +274,9 @@ impl<D: Disk> LeafLink<D> {
         if self.kept.state().generation() == u32::MAX {
             return Err(Failure::Refused(LinkFault::NumbersSpent));
         }
-        match self.kept.compact(alloc) {
+        match self.kept.journal(alloc, LeafRecord::compact()) {
             Ok(()) => Ok(Answer::only(alloc, Note::Compacted)),
-            Err(error) => Err(link_error(error)),
+            Err(error) => Err(error),
         }
     }
 
@@ -285,7 +287,7 @@ impl<D: Disk> LeafLink<D> {
     /// # Errors
     /// `DiskFault` where a disk failed, or `NoMemory`: the leaf is down, and all else as it was.
     pub fn restart(&mut self, alloc: Global) -> Result<Answer, LinkError>
-        ensures row { RestartsAs (restarted self.old) self.old result self.new }
+        ensures row { CallsRestart self.old (restarted self.old) result self.new }
         ensures few { IfOk result (λ answer. answer.packets ≡ []) }
     {
         match self.kept.restart(alloc) {
@@ -294,15 +296,14 @@ impl<D: Disk> LeafLink<D> {
                 self.parts = None;
                 Ok(Answer::only(alloc, Note::Restarted(self.kept.state().version())))
             }
-            Err(Failure::Refused(_)) => Err(Failure::Refused(LinkFault::DiskFault)),
-            Err(Failure::NoMemory) => Err(Failure::NoMemory),
+            Err(error) => Err(error),
         }
     }
 
     /// The two disks, in the order in which they were given.
     pub fn into_disks(self) -> Disks<D>
         // Whatever a crash leaves on them is the leaf's, with the record in doubt or without it.
-        ensures left { MayLeave D.state result.first result.second (leaf_in self) }
+        ensures left { MayLeave (leaf_meaning self.number) leaf_folded self.bot.kept self.bot.doubt D.state result.first result.second }
     {
         let LeafLink {
             leaves: _,
@@ -361,14 +362,4 @@ fn hello_and_request(
         },
     };
     Ok(Seq::new(vec![in alloc; hello(leaf, version), asking]?))
-}
-
-// What the link says of a record that isn't kept.
-pub(crate) fn link_error(error: LedgerError) -> LinkError
-    ensures { result ≡ link_error error }
-{
-    match error {
-        Failure::Refused(_) => Failure::Refused(LinkFault::JournalFault),
-        Failure::NoMemory => Failure::NoMemory,
-    }
 }

@@ -3,11 +3,12 @@ ghost use Rattle.std.specs.Prelude.{◌≡◌, ◌==◌, ◌||◌, not, nat_lt};
 ghost use Rattle.linkcalls.specs.Calls.{note_of as told_of};
 ghost use Rattle.leaflink.specs.Link.{reply_note};
 
-use crate::link::{LeafLink, link_error};
+use crate::link::LeafLink;
 use crate::parts::{is_behind, keep_part, whole_set};
-use botjournal::Answer as Reply;
+use botjournal::Answer as Outcome;
 use bytetext::{Failure, Seq, Text, TryCopy};
 use linkcalls::{Answer, LinkError, LinkFault, Note, Packet};
+use linkstate::LeafRecord;
 use std::alloc::Global;
 use storage::Disk;
 use usercodec::Record;
@@ -19,7 +20,8 @@ impl<D: Disk> LeafLink<D> {
     ghost use Rattle.std.specs.List.{AllByRecursion};
     ghost use Rattle.usercodec.specs.Records.{IsGoodRecord};
     ghost use Rattle.linkcalls.specs.Shapes.{HasGoodRecords};
-    ghost use Rattle.leaflink.specs.Link.{MeetsRow, received, received_up, change_placed_at, reply_placed_at, part_placed_at, part_taken_at, text_placed_at};
+    ghost use Rattle.linkstate.specs.Ends.{Calls};
+    ghost use Rattle.leaflink.specs.Link.{received, received_up, change_placed_at, reply_placed_at, part_placed_at, part_taken_at, text_placed_at};
 
     /// Takes a packet of the hub's.
     ///
@@ -37,7 +39,7 @@ impl<D: Disk> LeafLink<D> {
     /// the leaf is down, and what the packet tells is in doubt. `Old`, `Early` and `Stray` take no memory.
     pub fn receive(&mut self, alloc: Global, packet: &Packet) -> Result<Answer, LinkError>
         requires records { HasGoodRecords packet.now }
-        ensures row { MeetsRow (received self.old packet.now) self.old result self.new }
+        ensures row { Calls self.old (received self.old packet.now) result self.new }
         ensures few { IfOk result (λ answer. answer.packets ≡ []) }
     {
         if self.kept.is_down() {
@@ -49,7 +51,7 @@ impl<D: Disk> LeafLink<D> {
     fn receive_up(&mut self, alloc: Global, packet: &Packet) -> Result<Answer, LinkError>
         requires up { self.old.bot.down ≡ false }
         requires records { HasGoodRecords packet.now }
-        ensures row { MeetsRow (received_up self.old packet.now) self.old result self.new }
+        ensures row { Calls self.old (received_up self.old packet.now) result self.new }
         ensures few { IfOk result (λ answer. answer.packets ≡ []) }
     {
         match packet {
@@ -58,12 +60,12 @@ impl<D: Disk> LeafLink<D> {
                 leaf,
                 request,
                 number,
-            } => self.receive_reply(alloc, *leaf, *request, Reply::Taken(*number)),
+            } => self.receive_reply(alloc, *leaf, *request, Outcome::Taken(*number)),
             Packet::Refused {
                 leaf,
                 request,
                 fault,
-            } => self.receive_reply(alloc, *leaf, *request, Reply::Refused(*fault)),
+            } => self.receive_reply(alloc, *leaf, *request, Outcome::Refused(*fault)),
             Packet::BotText { from, to, text } => self.receive_text(alloc, *from, *to, text),
             Packet::Part {
                 version,
@@ -83,7 +85,7 @@ impl<D: Disk> LeafLink<D> {
         change: &Change,
     ) -> Result<Answer, LinkError>
         requires up { self.old.bot.down ≡ false }
-        ensures row { MeetsRow (change_placed_at self.old number change.now) self.old result self.new }
+        ensures row { Calls self.old (change_placed_at self.old number change.now) result self.new }
         ensures few { IfOk result (λ answer. answer.packets ≡ []) }
     {
         let version = self.kept.state().version();
@@ -97,9 +99,10 @@ impl<D: Disk> LeafLink<D> {
             self.parts = None;
             return Err(Failure::Refused(LinkFault::Diverged));
         }
-        match self.kept.apply(alloc, change) {
+        let next = LeafRecord::apply(change.copy(alloc)?);
+        match self.kept.journal(alloc, next) {
             Ok(()) => Ok(Answer::only(alloc, Note::Applied(number))),
-            Err(error) => Err(link_error(error)),
+            Err(error) => Err(error),
         }
     }
 
@@ -109,13 +112,13 @@ impl<D: Disk> LeafLink<D> {
         alloc: Global,
         leaf: u16,
         request: u32,
-        reply: Reply,
+        reply: Outcome,
     ) -> Result<Answer, LinkError>
         requires up { self.old.bot.down ≡ false }
-        ensures row { MeetsRow (reply_placed_at self.old leaf request reply) self.old result self.new }
+        ensures row { Calls self.old (reply_placed_at self.old leaf request reply) result self.new }
         ensures few { IfOk result (λ answer. answer.packets ≡ []) }
     {
-        if is_no_reply(leaf, request, self.kept.number()) {
+        if is_no_reply(leaf, request, self.kept.who()) {
             return Ok(Answer::only(alloc, Note::Stray));
         }
         if self.kept.state().out().is_none() {
@@ -124,9 +127,9 @@ impl<D: Disk> LeafLink<D> {
         if request != self.kept.state().last_request() {
             return Ok(Answer::only(alloc, Note::Old));
         }
-        match self.kept.end_request(alloc) {
+        match self.kept.journal(alloc, LeafRecord::done()) {
             Ok(()) => Ok(Answer::only(alloc, note_of(reply))),
-            Err(error) => Err(link_error(error)),
+            Err(error) => Err(error),
         }
     }
 
@@ -141,7 +144,7 @@ impl<D: Disk> LeafLink<D> {
     ) -> Result<Answer, LinkError>
         requires up { self.old.bot.down ≡ false }
         requires good { AllByRecursion IsGoodRecord records.now }
-        ensures row { MeetsRow (part_placed_at self.old version part count records.now) self.old result self.new }
+        ensures row { Calls self.old (part_placed_at self.old version part count records.now) result self.new }
         ensures few { IfOk result (λ answer. answer.packets ≡ []) }
     {
         if is_no_part(part, count) {
@@ -172,7 +175,7 @@ impl<D: Disk> LeafLink<D> {
         requires up { self.old.bot.down ≡ false }
         requires numbered { (0 < part) × (part ≤ count) }
         requires good { AllByRecursion IsGoodRecord records.now }
-        ensures row { MeetsRow (part_taken_at self.old version part count records.now) self.old result self.new }
+        ensures row { Calls self.old (part_taken_at self.old version part count records.now) result self.new }
         ensures few { IfOk result (λ answer. answer.packets ≡ []) }
     {
         let Some(whole) = whole_set(&self.parts, version, part, count, records.as_slice()) else {
@@ -187,12 +190,14 @@ impl<D: Disk> LeafLink<D> {
             return Err(Failure::Refused(LinkFault::NumbersSpent));
         }
         let userfile = whole.userfile(alloc)?;
-        match self.kept.install(alloc, version, userfile) {
+        userfile.are_sound();
+        let records = LeafRecord::install(version, userfile);
+        match self.kept.journal(alloc, records) {
             Ok(()) => {
                 self.parts = None;
                 Ok(Answer::only(alloc, Note::Installed(version)))
             }
-            Err(error) => Err(link_error(error)),
+            Err(error) => Err(error),
         }
     }
 
@@ -204,10 +209,10 @@ impl<D: Disk> LeafLink<D> {
         to: u16,
         text: &Text,
     ) -> Result<Answer, LinkError>
-        ensures row { MeetsRow (text_placed_at self.now from to text.now) self.now result self.now }
+        ensures row { Calls self.now (text_placed_at self.now from to text.now) result self.now }
         ensures few { IfOk result (λ answer. answer.packets ≡ []) }
     {
-        if is_no_text(from, to, self.kept.number(), self.leaves) {
+        if is_no_text(from, to, self.kept.who(), self.leaves) {
             return Ok(Answer::only(alloc, Note::Stray));
         }
         let text = text.copy(alloc)?;
@@ -216,12 +221,12 @@ impl<D: Disk> LeafLink<D> {
 }
 
 // The note of a reply.
-fn note_of(reply: Reply) -> Note
+fn note_of(reply: Outcome) -> Note
     ensures { told_of result ≡ reply_note reply }
 {
     match reply {
-        Reply::Taken(number) => Note::Accepted(number),
-        Reply::Refused(fault) => Note::Refused(fault),
+        Outcome::Taken(number) => Note::Accepted(number),
+        Outcome::Refused(fault) => Note::Refused(fault),
     }
 }
 

@@ -10,15 +10,6 @@ use Rattle.linkstate.specs.States.{contents_in}
 pub certain-counted : (account : Account) → account.doubt ≡ None → counted account ≡ account.contents
 certain-counted account certain = ap (λ d. written_if d account.contents) certain
 
-pub contents-found : (old new : Account) → (new ≡ settled old.contents) ⊎ (new ≡ settled (counted old))
-    → (new.contents ≡ old.contents) ⊎ (new.contents ≡ counted old)
-contents-found old new (inl e) = inl (ap (λ (a : Account). a.contents) e)
-contents-found old new (inr e) = inr (ap (λ (a : Account). a.contents) e)
-
-pub settled-found : (old new : Account) → (new ≡ settled old.contents) ⊎ (new ≡ settled (counted old)) → new ≡ settled new.contents
-settled-found old new (inl e) = e ∙ sym (ap (λ (a : Account). settled a.contents) e)
-settled-found old new (inr e) = e ∙ sym (ap (λ (a : Account). settled a.contents) e)
-
 -- what is found is what the journal then holds
 pub found-is : (contents : Contents) (generation : ℕ) (found : Found) → generation ≡ contents.generation → IsFound found contents
     → contents_in generation found ≡ contents

@@ -2,8 +2,8 @@
 use Rattle.std.proofs.Common.{◌≡◌, ◌<◌, ◌≤◌, ◌^◌, ℕ, zero, suc, ◌+◌, ◌==◌, nat_le, nat_lt, Bool, true, false, if◌then◌else◌, List, [], ◌∷◌, length, slice_get, Option, None, Some, is_none, refl, ap, sym, subst, ◌∙◌, arith}
 use Rattle.std.proofs.lemmas.Bool.{and_parts, eqb-true}
 use Rattle.std.proofs.lemmas.Bool.Decides.{nat_tests}
-use Rattle.std.specs.List.{AllByRecursion}
-use Rattle.std.specs.Option.{option_map, is_some}
+use Rattle.std.specs.List.{AllByRecursion, list_all}
+use Rattle.std.specs.Option.{is_some}
 use Rattle.userfile.specs.Records.{Records, no_records}
 use Rattle.userfile.specs.Apply.{refusal}
 use Rattle.userfile.specs.Together.{AreSound}
@@ -20,10 +20,11 @@ use Rattle.protocol.specs.Numbers.{last_number, item_at}
 use Rattle.protocol.specs.Snapshots.{records_from}
 use Rattle.protocol.specs.Packets.{AcceptedChange}
 use Rattle.protocol.specs.HubRules.{HubState, HubRecord, version_of, hub_folded}
-use Rattle.protocol.specs.Journals.{read_next, reads, record_if, stand_together, reply_among, replies_of, replies_in, hub_of, is_hub_base, is_next, is_next_of, hub_record, hub_meaning, HubMay, IsHubState}
+use Rattle.protocol.specs.Journals.{record_if, stand_together, is_to_leaf, reply_among, replies_of, replies_in, hub_of, is_hub_base, is_next, is_next_of, hub_record, hub_meaning, HubMay, IsHubState}
 use Rattle.protocol.proofs.Journals.{hub_state_kept}
 use Rattle.linkstate.specs.States.{ArePlaced}
 use Rattle.linkstate.proofs.Lists.{are_users, are_bans}
+use Rattle.linkstate.specs.Reading.{if-some, all-any, read-well}
 
 -- ---- the replies of a base
 
@@ -92,10 +93,6 @@ hub_of-state leaves generation base good together = record {
 
 -- ---- entry by entry
 
-if-some : {R : Type 0} (b : Bool) (given found : R) → record_if b given ≡ Some found → (b ≡ true) × (given ≡ found)
-if-some true given found is = (refl, cc)
-if-some false given found is = absurd (cc)
-
 no_fault-some : (last : Option (Option Reply)) (request : ℕ) → is_next_of last request ≡ true → is_some last ≡ true
 no_fault-some None request next = cc
 no_fault-some (Some last) request next = refl
@@ -113,61 +110,19 @@ record-may hub (Applied number change) found is = absurd (cc)
 record-may hub (ReqOut request change) found is = absurd (cc)
 record-may hub (ReqDone request) found is = absurd (cc)
 
--- no entry that is read moves the generation
-record-generation : (hub : HubState) (entry : Entry) (found : HubRecord) → hub_record hub entry ≡ Some found
-    → (hub_folded hub found).generation ≡ hub.generation
-record-generation hub (Accepted origin request change) found is =
-    subst (λ r. (hub_folded hub r).generation ≡ hub.generation) (if-some _ _ found is).1 refl
-record-generation hub (Settled leaf request fault) found is =
-    subst (λ r. (hub_folded hub r).generation ≡ hub.generation) (if-some _ _ found is).1 refl
-record-generation hub (Applied number change) found is = absurd (cc)
-record-generation hub (ReqOut request change) found is = absurd (cc)
-record-generation hub (ReqDone request) found is = absurd (cc)
-
--- a state that a hub with so many leaves has in this generation
-abbrev IsRead : ℕ → ℕ → HubState → Type 0
-IsRead leaves generation hub = IsHubState leaves hub × (hub.generation ≡ generation)
-
--- so is that of a start that there is
-abbrev StartsWell : ℕ → ℕ → Option HubState → Type 0
-StartsWell leaves generation start = (hub : HubState) → start ≡ Some hub → IsRead leaves generation hub
-
-next-well : (leaves generation : ℕ) (start : Option HubState) (entry : Entry) → StartsWell leaves generation start
-    → StartsWell leaves generation (read_next hub_record hub_folded start entry)
-next-well leaves generation None entry well hub is = absurd (cc)
-next-well leaves generation (Some old) entry well hub is = by (hub_record old entry) refl is
-  where
-    by : (o : Option HubRecord) → hub_record old entry ≡ o → option_map (hub_folded old) o ≡ Some hub → IsRead leaves generation hub
-    by None e is = absurd (cc)
-    by (Some found) e is =
-        let same : hub_folded old found ≡ hub = cc in
-        let was = well old refl in
-        subst (λ h. IsRead leaves generation h) same
-        (hub_state_kept leaves old found was.0 (record-may old entry found e), record-generation old entry found e ∙ was.1)
-
-reads-well : (leaves generation : ℕ) (start : Option HubState) (entries : List Entry) → StartsWell leaves generation start
-    → StartsWell leaves generation (reads hub_record hub_folded start entries)
-reads-well leaves generation start [] well = well
-reads-well leaves generation start (entry ∷ entries) well =
-    reads-well leaves generation (read_next hub_record hub_folded start entry) entries (next-well leaves generation start entry well)
+-- so the state stays one with each entry that is read
+entry-state : (leaves : ℕ) (hub : HubState) (entry : Entry) (found : HubRecord) → Unit {0} → hub_record hub entry ≡ Some found
+    → IsHubState leaves hub → IsHubState leaves (hub_folded hub found)
+entry-state leaves hub entry found any is state = hub_state_kept leaves hub found state (record-may hub entry found is)
 
 pub hub_meaning-state : (leaves : ℕ) (contents : Contents) (hub : HubState) → IsGoodBase contents.base
-    → hub_meaning leaves contents ≡ Some hub → IsHubState leaves hub × (hub.generation ≡ contents.generation)
-hub_meaning-state leaves contents hub good means = by (is_hub_base leaves contents.base) refl means
-  where
-    start : Option HubState
-    start = Some (hub_of leaves contents.generation contents.base)
-
-    by : (b : Bool) → is_hub_base leaves contents.base ≡ b
-        → (if b then reads hub_record hub_folded start contents.entries else None) ≡ Some hub → IsRead leaves contents.generation hub
-    by false e means = absurd (cc)
-    by true e means =
-        let parts = and_parts (contents.base.bot == 0) _ e in
-        let together = (and_parts _ (stand_together (records_from contents.base.records)) parts.1).1 in
-        reads-well leaves contents.generation start contents.entries
-        (λ kept is. let same : hub_of leaves contents.generation contents.base ≡ kept = cc in
-        subst (λ h. IsRead leaves contents.generation h) same
-        (hub_of-state leaves contents.generation contents.base good together, refl)) hub means
+    → hub_meaning leaves contents ≡ Some hub → IsHubState leaves hub
+hub_meaning-state leaves contents hub good means =
+    read-well hub_record hub_folded (λ (entry : Entry). Unit {0}) (λ (h : HubState). IsHubState leaves h) (entry-state leaves)
+    (is_hub_base leaves contents.base) (hub_of leaves contents.generation contents.base) hub contents.entries (all-any contents.entries)
+    (λ may. hub_of-state leaves contents.generation contents.base good
+    (and_parts (list_all (is_to_leaf leaves) contents.base.replies) (stand_together (records_from contents.base.records))
+    (and_parts (contents.base.bot == 0) _ may).1).1) means
 
 pub new_hub-state : (leaves : ℕ) (tail : List AcceptedChange) (held : Records) (replies : List (Option Reply)) → held ≡ no_records
     → replies ≡ replies_of 1 leaves []

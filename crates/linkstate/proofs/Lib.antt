@@ -2,5 +2,6 @@ pub mod Lists
 pub mod Folding
 pub mod FoundLaws
 pub mod Goodness
-mod LeafGoodness
 pub mod HubStates
+pub mod EndStates
+pub mod KeptLaws

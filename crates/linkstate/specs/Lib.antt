@@ -1,1 +1,9 @@
 pub mod States
+pub mod Kept
+pub mod Opening
+pub mod Ends
+pub mod Records
+pub mod HubRecords
+pub mod LeafRecords
+pub mod Reading
+pub mod EndLaws

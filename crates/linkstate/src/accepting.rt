@@ -1,9 +1,10 @@
 // The next change that a hub accepts, made in memory alone or after its entry in a journal.
 ghost use Rattle.std.specs.Prelude.{◌≡◌, ◌++◌, ◌∷◌, [], false, None, IfOk, OnOk, OnErr};
 ghost use Rattle.userfile.specs.Apply.{refusal, changed, bad_shape};
-ghost use Rattle.botjournal.specs.Ledger.{Appends};
+ghost use Rattle.botjournal.specs.Ledger.{Adding};
 ghost use Rattle.botjournal.specs.Entries.{IsGoodEntry};
 ghost use Rattle.botjournal.specs.declared.entry.Entry.TheVariants.{Accepted};
+ghost use Rattle.linkstate.specs.Kept.{WritesAny};
 
 use crate::accepted::AcceptedChange;
 use crate::fields::know_change;
@@ -65,7 +66,7 @@ pub(crate) fn keep_next<D: Disk>(
     requires up { ledger.old.account.down ≡ false }
     requires good { IsGoodEntry entry.now }
     requires taken { refusal userfile.old kept.change ≡ None }
-    ensures row { Appends ledger.old entry.now result ledger.new }
+    ensures row { WritesAny ledger.old (Adding entry.now) result ledger.new }
     ensures records { OnOk result (userfile.new ≡ changed userfile.old kept.change) }
     ensures tail { OnOk result (tail.new.items ≡ tail.old.items ++ kept ∷ []) }
     ensures same_records { OnErr result (userfile.new ≡ userfile.old) }

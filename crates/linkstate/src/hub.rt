@@ -7,11 +7,12 @@ ghost use Rattle.protocol.specs.Journals.{is_next};
 use crate::accepted::AcceptedChange;
 use crate::accepting::{accepted_entry, apply_next, keep_next};
 use crate::fault::{StateError, StateFault};
+use crate::journaled::{base_journaled, entry_journaled};
 use crate::records::{items_of, userfile_of};
 use crate::replies::{
     is_next, is_next_of, know_replies, put_reply, replies_in, replies_of, reply_at,
 };
-use botjournal::{Answer, Base, Entry, Ledger, LedgerError, RebaseError, Reply};
+use botjournal::{Answer, Base, Entry, Ledger, LedgerError, Reply};
 use bytetext::{Failure, NoMemory, Seq, TryCopy};
 use std::alloc::Global;
 use std::marker::Model;
@@ -60,13 +61,13 @@ impl Model for HubState {
 }
 
 impl HubState {
-    ghost use Rattle.std.specs.Prelude.{◌≡◌, ◌≢◌, ◌&&◌, ◌<◌, ◌≤◌, ◌^◌, true, false, nat_lt, is_none, None, Err, IfOk, IfErr, OnOk, OnErr, length};
+    ghost use Rattle.std.specs.Prelude.{◌≡◌, ◌≢◌, ◌&&◌, ◌<◌, ◌≤◌, ◌-◌, ◌^◌, true, false, nat_lt, is_none, None, Err, IfOk, IfErr, OnOk, OnErr, length};
     ghost use Rattle.bytetext.specs.declared.failure.Failure.TheVariants.{NoMemory as no_memory, Refused};
     ghost use Rattle.linkstate.specs.declared.fault.StateFault.TheVariants.{NotAJournal};
     ghost use Rattle.userfile.specs.Apply.{refusal};
     ghost use Rattle.usercodec.specs.Records.{IsGoodRecord};
     ghost use Rattle.botjournal.specs.Bases.{AreListed, IsGoodBase};
-    ghost use Rattle.botjournal.specs.Ledger.{Appends, Rebases};
+    ghost use Rattle.botjournal.specs.Ledger.{Adding, Rebasing};
     ghost use Rattle.botjournal.specs.declared.entry.Entry.TheVariants.{Accepted, Settled};
     ghost use Rattle.protocol.specs.Numbers.{last_number, item_at};
     ghost use Rattle.protocol.specs.HubRules.{Accept, Settle, Rebase, version_of, hub_folded};
@@ -74,6 +75,7 @@ impl HubState {
     ghost use Rattle.protocol.specs.Network.{new_hub};
     ghost use Rattle.protocol.specs.Journals.{hub_of, hub_base, hub_record, hub_meaning, is_next, is_next_of, IsHubState};
     ghost use Rattle.linkstate.specs.States.{Reads, Takes, TakesAll, ArePlaced, hub_on, is_hubs, empty_base, is_accepted};
+    ghost use Rattle.linkstate.specs.Kept.{WritesAny};
 
     /// A hub with so many leaves before the first change, in the first generation of its journal.
     ///
@@ -267,13 +269,9 @@ impl HubState {
         Ok(())
     }
 
-    /// Journals a change that isn't refused as the next one, and makes it. All memory is taken before the journal's first
-    /// device call. The change is the next request of the leaf that asked for it, or the hub's own.
-    ///
-    /// # Errors
-    /// What [`Ledger::append`] is refused for, and `NoMemory` for what else the change takes; all leave the state as it
-    /// was.
-    pub fn accept_next<D: Disk>(
+    // Journals a change that isn't refused as the next one, and makes it. All memory is taken before the journal's first
+    // device call. The change is the next request of the leaf that asked for it, or the hub's own.
+    pub(crate) fn accept_next<D: Disk>(
         &mut self,
         alloc: Global,
         ledger: &mut Ledger<D>,
@@ -283,7 +281,7 @@ impl HubState {
         requires taken { refusal self.old.records entry.change ≡ None }
         requires numbered { nat_lt (version_of self.old) last_number ≡ true }
         requires next { is_next self.old.replies entry.origin entry.request ≡ true }
-        ensures row { Appends ledger.old (Accepted entry.origin entry.request entry.change) result ledger.new }
+        ensures row { WritesAny ledger.old (Adding (Accepted entry.origin entry.request entry.change)) result ledger.new }
         ensures accepts { OnOk result (self.new ≡ hub_folded self.old (Accept entry)) }
         ensures stays { OnErr result (self.new ≡ self.old) }
     {
@@ -307,11 +305,8 @@ impl HubState {
         }
     }
 
-    /// Journals that a leaf's next request is refused, and keeps that as the reply to it.
-    ///
-    /// # Errors
-    /// What [`Ledger::append`] is refused for; all leave the state as it was.
-    pub fn refuse_next<D: Disk>(
+    // Journals that a leaf's next request is refused, and keeps that as the reply to it.
+    pub(crate) fn refuse_next<D: Disk>(
         &mut self,
         alloc: Global,
         ledger: &mut Ledger<D>,
@@ -321,7 +316,7 @@ impl HubState {
     ) -> Result<(), LedgerError>
         requires up { ledger.old.account.down ≡ false }
         requires next { is_next_of (item_at self.old.replies leaf) request ≡ true }
-        ensures row { Appends ledger.old (Settled leaf request fault) result ledger.new }
+        ensures row { WritesAny ledger.old (Adding (Settled leaf request fault)) result ledger.new }
         ensures settles { OnOk result (self.new ≡ hub_folded self.old (Settle leaf fault)) }
         ensures stays { OnErr result (self.new ≡ self.old) }
     {
@@ -330,7 +325,7 @@ impl HubState {
             request,
             fault,
         };
-        match ledger.append(alloc, &entry) {
+        match entry_journaled(alloc, ledger, &entry) {
             Ok(()) => {
                 put_reply(&mut self.replies, leaf, request, Answer::Refused(fault));
                 Ok(())
@@ -339,26 +334,23 @@ impl HubState {
         }
     }
 
-    /// Puts the state alone into the journal, in its next generation: the changes so far are no longer kept one by one.
-    ///
-    /// # Errors
-    /// What [`Ledger::rebase`] is refused for, and `NoMemory` for the base; all leave the state as it was.
-    pub fn rebase<D: Disk>(
+    // Puts the state alone into the journal, in its next generation: the changes so far are no longer kept one by one.
+    pub(crate) fn rebase<D: Disk>(
         &mut self,
         alloc: Global,
         ledger: &mut Ledger<D>,
-    ) -> Result<(), RebaseError>
+    ) -> Result<(), LedgerError>
         requires up { ledger.old.account.down ≡ false }
-        requires same { self.old.generation ≡ ledger.old.account.contents.generation }
-        requires left { nat_lt self.old.generation last_number ≡ true }
+        requires left { ledger.old.account.contents.generation ≢ 2 ^ 32 - 1 }
+        requires numbered { nat_lt self.old.generation last_number ≡ true }
         requires placed { ArePlaced self.old.replies }
         requires few { length self.old.replies < 2 ^ 16 }
-        ensures row { Rebases ledger.old (hub_base self.old) result ledger.new }
+        ensures row { WritesAny ledger.old (Rebasing (hub_base self.old)) result ledger.new }
         ensures rebases { OnOk result (self.new ≡ hub_folded self.old Rebase) }
         ensures stays { OnErr result (self.new ≡ self.old) }
     {
         let base = self.base(alloc)?;
-        match ledger.rebase(alloc, &base) {
+        match base_journaled(alloc, ledger, &base) {
             Ok(()) => {
                 self.floor = self.version();
                 self.tail.clear();

@@ -1,14 +1,52 @@
-// A change of a userfile that goes into a journal first.
-ghost use Rattle.std.specs.Prelude.{◌≡◌, false, None, OnOk, OnErr};
+// What goes into a journal that takes records.
+ghost use Rattle.std.specs.Prelude.{◌≡◌, ◌≢◌, ◌-◌, ◌^◌, false, None, OnOk, OnErr};
 ghost use Rattle.userfile.specs.Apply.{refusal, changed};
+ghost use Rattle.botjournal.specs.Bases.{IsGoodBase};
 ghost use Rattle.botjournal.specs.Entries.{IsGoodEntry};
-ghost use Rattle.botjournal.specs.Ledger.{Appends};
+ghost use Rattle.botjournal.specs.Ledger.{Adding, Rebasing};
+ghost use Rattle.linkstate.specs.Kept.{WritesAny};
 
-use botjournal::{Entry, Ledger, LedgerError};
+use botjournal::{Base, Entry, Ledger, LedgerError, RebaseFault};
 use bytetext::Failure;
 use std::alloc::Global;
-use storage::Disk;
+use storage::{Disk, DiskFault};
 use userfile::{Change, Userfile};
+
+// Appends an entry.
+pub(crate) fn entry_journaled<D: Disk>(
+    alloc: Global,
+    ledger: &mut Ledger<D>,
+    entry: &Entry,
+) -> Result<(), LedgerError>
+    requires up { ledger.old.account.down ≡ false }
+    requires good { IsGoodEntry entry.now }
+    ensures row { WritesAny ledger.old (Adding entry.now) result ledger.new }
+{
+    match ledger.append(alloc, entry) {
+        Ok(()) => Ok(()),
+        Err(Failure::NoMemory) => Err(Failure::NoMemory),
+        Err(Failure::Refused(fault)) => Err(Failure::Refused(fault)),
+    }
+}
+
+// Puts a base in place, where there are generations left.
+pub(crate) fn base_journaled<D: Disk>(
+    alloc: Global,
+    ledger: &mut Ledger<D>,
+    base: &Base,
+) -> Result<(), LedgerError>
+    requires up { ledger.old.account.down ≡ false }
+    requires left { ledger.old.account.contents.generation ≢ 2 ^ 32 - 1 }
+    requires good { IsGoodBase base.now }
+    ensures row { WritesAny ledger.old (Rebasing base.now) result ledger.new }
+{
+    match ledger.rebase(alloc, base) {
+        Ok(()) => Ok(()),
+        Err(Failure::NoMemory) => Err(Failure::NoMemory),
+        Err(Failure::Refused(RebaseFault::GenerationsSpent)) => unreachable!(),
+        Err(Failure::Refused(RebaseFault::DiskFault)) => Err(Failure::Refused(DiskFault)),
+    }
+}
 
 // Appends the entry of a change that the userfile doesn't refuse, and then makes the change. All memory is taken before
 // the first device call; where a disk failed, or memory is short, the userfile is as it was.
@@ -22,7 +60,7 @@ pub(crate) fn change_journaled<D: Disk>(
     requires up { ledger.old.account.down ≡ false }
     requires good { IsGoodEntry entry.now }
     requires taken { refusal userfile.old change.now ≡ None }
-    ensures row { Appends ledger.old entry.now result ledger.new }
+    ensures row { WritesAny ledger.old (Adding entry.now) result ledger.new }
     ensures changes { OnOk result (userfile.new ≡ changed userfile.old change.now) }
     ensures stays { OnErr result (userfile.new ≡ userfile.old) }
 {
@@ -30,7 +68,7 @@ pub(crate) fn change_journaled<D: Disk>(
         Ok(update) => update,
         Err(_) => return Err(Failure::NoMemory),
     };
-    match ledger.append(alloc, entry) {
+    match entry_journaled(alloc, ledger, entry) {
         Ok(()) => {
             update.commit();
             Ok(())

@@ -3,7 +3,7 @@ ghost use Rattle.std.specs.Prelude.{◌≡◌, IfOk};
 
 use crate::fault::{StateError, StateFault};
 use crate::fields::know_change;
-use crate::journaled::change_journaled;
+use crate::journaled::{base_journaled, change_journaled, entry_journaled};
 use crate::records::{items_of, userfile_of};
 use botjournal::{Base, Entry, Ledger, LedgerError};
 use bytetext::{Failure, NoMemory, Seq, TryCopy};
@@ -51,7 +51,7 @@ impl Model for LeafState {
 }
 
 impl LeafState {
-    ghost use Rattle.std.specs.Prelude.{◌≡◌, ◌≢◌, ◌<◌, ℕ, ◌+◌, ◌==◌, ◌&&◌, true, false, nat_lt, is_none, is_some, None, Err, IfOk, OnOk, OnErr};
+    ghost use Rattle.std.specs.Prelude.{◌≡◌, ◌≢◌, ◌<◌, ℕ, ◌+◌, ◌-◌, ◌^◌, ◌==◌, ◌&&◌, true, false, nat_lt, is_none, is_some, None, Err, IfOk, OnOk, OnErr};
     ghost use Rattle.std.specs.Option.{option_copied};
     ghost use Rattle.bytetext.specs.declared.failure.Failure.TheVariants.{NoMemory as no_memory, Refused};
     ghost use Rattle.linkstate.specs.declared.fault.StateFault.TheVariants.{NotAJournal};
@@ -59,13 +59,15 @@ impl LeafState {
     ghost use Rattle.std.specs.List.{AllByRecursion};
     ghost use Rattle.botjournal.specs.Bases.{IsGoodBase, IsGoodOut};
     ghost use Rattle.botjournal.specs.Entries.{IsGoodEntry};
-    ghost use Rattle.botjournal.specs.Ledger.{Appends};
+    ghost use Rattle.botjournal.specs.Ledger.{Adding, Rebasing};
     ghost use Rattle.botjournal.specs.declared.entry.Entry.TheVariants.{Applied, ReqOut, ReqDone};
     ghost use Rattle.protocol.specs.Numbers.{last_number};
     ghost use Rattle.protocol.specs.LeafRules.{Apply, Out, Done, Install, Compact, leaf_folded};
     ghost use Rattle.protocol.specs.Network.{new_leaf};
     ghost use Rattle.protocol.specs.Journals.{leaf_of, leaf_base, leaf_record, leaf_meaning};
     ghost use Rattle.linkstate.specs.States.{Reads, Takes, TakesAll, leaf_on, empty_base, wants_room};
+    ghost use Rattle.linkstate.specs.Kept.{WritesAny};
+    ghost use Rattle.usercodec.specs.Changes.{IsGoodChange};
 
     /// A leaf before the first change, in the first generation of its journal. Takes no memory.
     pub fn new(alloc: Global) -> LeafState
@@ -255,12 +257,8 @@ impl LeafState {
         self.out.is_some() && request == self.last
     }
 
-    /// Applies the hub's next change, which goes into the journal first. All memory is taken before that.
-    ///
-    /// # Errors
-    /// What [`Ledger::append`] is refused for, and `NoMemory` for what else the change takes; all leave the state as it
-    /// was.
-    pub fn apply_next<D: Disk>(
+    // Applies the hub's next change, which goes into the journal first. All memory is taken before that.
+    pub(crate) fn apply_next<D: Disk>(
         &mut self,
         alloc: Global,
         ledger: &mut Ledger<D>,
@@ -269,7 +267,7 @@ impl LeafState {
         requires up { ledger.old.account.down ≡ false }
         requires numbered { nat_lt self.old.version last_number ≡ true }
         requires taken { refusal self.old.records change.now ≡ None }
-        ensures row { Appends ledger.old (Applied (self.old.version + 1) change.now) result ledger.new }
+        ensures row { WritesAny ledger.old (Adding (Applied (self.old.version + 1) change.now)) result ledger.new }
         ensures applies { OnOk result (self.new ≡ leaf_folded self.old (Apply change.now)) }
         ensures stays { OnErr result (self.new ≡ self.old) }
     {
@@ -288,39 +286,111 @@ impl LeafState {
         }
     }
 
-    /// Lets a change be out under the next request number. Takes no memory.
-    pub fn put_out(&mut self, change: Change)
+    // Lets a change be out under the next request number.
+    pub(crate) fn put_out<D: Disk>(
+        &mut self,
+        alloc: Global,
+        ledger: &mut Ledger<D>,
+        change: Change,
+    ) -> Result<(), LedgerError>
+        requires up { ledger.old.account.down ≡ false }
         requires numbered { nat_lt self.old.last last_number ≡ true }
-        ensures { self.new ≡ leaf_folded self.old (Out change) }
+        requires good { IsGoodChange change }
+        ensures row { WritesAny ledger.old (Adding (ReqOut (self.old.last + 1) change)) result ledger.new }
+        ensures out { OnOk result (self.new ≡ leaf_folded self.old (Out change)) }
+        ensures stays { OnErr result (self.new ≡ self.old) }
     {
-        self.last += 1;
-        self.out = Some(change);
+        let entry = Entry::ReqOut {
+            request: self.last + 1,
+            change: change.copy(alloc)?,
+        };
+        match entry_journaled(alloc, ledger, &entry) {
+            Ok(()) => {
+                self.last += 1;
+                self.out = Some(change);
+                Ok(())
+            }
+            Err(error) => Err(error),
+        }
     }
 
-    /// Ends the request that is out. Takes no memory.
-    pub fn end_request(&mut self)
-        ensures { self.new ≡ leaf_folded self.old Done }
+    // Ends the request that is out.
+    pub(crate) fn end_request<D: Disk>(
+        &mut self,
+        alloc: Global,
+        ledger: &mut Ledger<D>,
+    ) -> Result<(), LedgerError>
+        requires up { ledger.old.account.down ≡ false }
+        ensures row { WritesAny ledger.old (Adding (ReqDone self.old.last)) result ledger.new }
+        ensures done { OnOk result (self.new ≡ leaf_folded self.old Done) }
+        ensures stays { OnErr result (self.new ≡ self.old) }
     {
-        self.out = None;
+        let entry = Entry::ReqDone {
+            request: self.last_request(),
+        };
+        match entry_journaled(alloc, ledger, &entry) {
+            Ok(()) => {
+                self.out = None;
+                Ok(())
+            }
+            Err(error) => Err(error),
+        }
     }
 
-    /// Puts the records of a version in the place of what there was, in the next generation of the journal. Takes no
-    /// memory.
-    pub fn install(&mut self, version: u32, userfile: Userfile)
-        requires { nat_lt self.old.generation last_number ≡ true }
-        ensures { self.new ≡ leaf_folded self.old (Install version userfile) }
+    // Puts the records of a version in the place of what there was, in the next generation of the journal.
+    pub(crate) fn install<D: Disk>(
+        &mut self,
+        alloc: Global,
+        number: u16,
+        ledger: &mut Ledger<D>,
+        version: u32,
+        userfile: Userfile,
+    ) -> Result<(), LedgerError>
+        requires up { ledger.old.account.down ≡ false }
+        requires left { ledger.old.account.contents.generation ≢ 2 ^ 32 - 1 }
+        requires counted { nat_lt self.old.generation last_number ≡ true }
+        requires numbered { 0 < number }
+        requires good { IsGoodOut self.old.out }
+        ensures row { WritesAny ledger.old (Rebasing (leaf_base number (record self.old { version = version; records = userfile }))) result ledger.new }
+        ensures installs { OnOk result (self.new ≡ leaf_folded self.old (Install version userfile)) }
+        ensures stays { OnErr result (self.new ≡ self.old) }
     {
-        self.version = version;
-        self.userfile = userfile;
-        self.generation += 1;
+        let base = self.base_with(alloc, number, version, &userfile)?;
+        match base_journaled(alloc, ledger, &base) {
+            Ok(()) => {
+                self.version = version;
+                self.userfile = userfile;
+                self.generation += 1;
+                Ok(())
+            }
+            Err(error) => Err(error),
+        }
     }
 
-    /// Counts one more generation of the journal. Takes no memory.
-    pub fn count_generation(&mut self)
-        requires { nat_lt self.old.generation last_number ≡ true }
-        ensures { self.new ≡ leaf_folded self.old Compact }
+    // Puts the state alone into the journal, in its next generation.
+    pub(crate) fn compact<D: Disk>(
+        &mut self,
+        alloc: Global,
+        number: u16,
+        ledger: &mut Ledger<D>,
+    ) -> Result<(), LedgerError>
+        requires up { ledger.old.account.down ≡ false }
+        requires left { ledger.old.account.contents.generation ≢ 2 ^ 32 - 1 }
+        requires counted { nat_lt self.old.generation last_number ≡ true }
+        requires numbered { 0 < number }
+        requires good { IsGoodOut self.old.out }
+        ensures row { WritesAny ledger.old (Rebasing (leaf_base number self.old)) result ledger.new }
+        ensures compacts { OnOk result (self.new ≡ leaf_folded self.old Compact) }
+        ensures stays { OnErr result (self.new ≡ self.old) }
     {
-        self.generation += 1;
+        let base = self.base(alloc, number)?;
+        match base_journaled(alloc, ledger, &base) {
+            Ok(()) => {
+                self.generation += 1;
+                Ok(())
+            }
+            Err(error) => Err(error),
+        }
     }
 
     /// The base of this state of the leaf of this number: what a journal that is written anew starts from. It has a

@@ -2,7 +2,8 @@
 //!
 //! A [`HubState`] is what a hub keeps: the userfile, the changes accepted since the journal's base ([`AcceptedChange`]),
 //! and the last reply to each leaf. A [`LeafState`] is what a leaf keeps: the userfile at its version, the number of its
-//! last request, and the change that is out. Both are plain values in memory; no disk and no packet is here.
+//! last request, and the change that is out. Both are plain values in memory. A [`Kept`] is either of them in the journal
+//! that it is kept in: what it keeps next is journaled first. No packet is here.
 //!
 //! Each is read from a journal's base and entries, one entry after another by `take`, which folds in what a link writes
 //! in that state and refuses all else. The contracts say so in the words of `protocol`: what `read` answers is what the
@@ -19,17 +20,25 @@
 
 mod accepted;
 mod accepting;
+mod end_state;
 mod fault;
 mod fields;
 mod hub;
+mod hub_record;
 mod journaled;
+mod kept;
 mod leaf;
+mod leaf_record;
 mod records;
 mod replies;
 
 pub use crate::accepted::AcceptedChange;
+pub use crate::end_state::EndState;
 pub use crate::fault::{StateError, StateFault};
 pub use crate::fields::know_change;
 pub use crate::hub::HubState;
+pub use crate::hub_record::HubRecord;
+pub use crate::kept::Kept;
 pub use crate::leaf::LeafState;
+pub use crate::leaf_record::LeafRecord;
 pub use crate::records::userfile_of;

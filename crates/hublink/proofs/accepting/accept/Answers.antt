@@ -5,4 +5,4 @@ use Rattle.hublink.proofs.accepting.accept.Goals as goal
 
 pub returns-in-Ok-clause-packets : goal.returns-in-Ok-clause-packets
 returns-in-Ok-clause-packets g c =
-    goes-accepted c.leaves.result _ _ c.new.result c.leaves.ensures.few (ap outgoings_of c.new.ensures ∙ c.in_ok-packets.ensures)
+    goes-accepted c.who.result _ _ c.new.result c.who.ensures.end (ap outgoings_of c.new.ensures ∙ c.in_ok-packets.ensures)

@@ -39,31 +39,12 @@ returns-in_err-calls-clause-needs_none c = λ none.
     let minutes = ap (due_calls Minutes second) c.as_slice.ensures.value ∙ both.1 in
     absurd (false≢true (ap is_ok (sym c.in_err-calls.was) ∙ c.due_of.ensures.needs_none seconds minutes))
 
-pub invariant_of-self : goal.invariant_of-self
-invariant_of-self c =
-    let above = subst (λ h. IsAbove h.last c.args.second) (sym c.self.view_is) c.requires in
-    record {
-      running =
-          All-same (IsRunning c.args.second) _ _ c.pass.ensures.items
-          (running_kept (unwrap_or c.self.inside.last 0) c.args.second c.self.inside.entries.items
-          (running_to c.self.inside.last c.args.second c.self.inside.entries.items above c.self.invariant.running));
-      room = omega (arith, c.self.invariant.room, c.pass.ensures.room, c.pass.ensures.fewer);
-    }
-
 pub returns-clause-calls : goal.returns-clause-calls
 returns-clause-calls c =
     let second = c.args.second in
     c.in_ok-calls.ensures.calls
     ∙ ap (λ (xs : List Entry). due_calls Seconds second xs ++ due_calls Minutes second xs) c.as_slice.ensures.value
     ∙ both_calls c.self.inside c.args.self.now second c.self.view_is
-
-pub returns-clause-passed : goal.returns-clause-passed
-returns-clause-passed c =
-    let inside = c.self.inside in
-    let timers = map (λ (e : Entry). e.timer) c.pass.new.entries.items in
-    let kept = ap (map (λ (e : Entry). e.timer)) c.pass.ensures.items ∙ timers_kept c.args.second inside.entries.items in
-    subst (λ h. held_of timers (Some c.args.second) inside.spent inside.room ≡ passed c.args.second h) c.self.view_is
-    (ap (λ (ts : List Timer). held_of ts (Some c.args.second) inside.spent inside.room) kept)
 
 pub returns-clause-occurrences : goal.returns-clause-occurrences
 returns-clause-occurrences c = is_due-law c.args.second

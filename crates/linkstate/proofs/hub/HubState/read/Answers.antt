@@ -1,5 +1,6 @@
 use Rattle.linkstate.proofs.Folding.{hub-failed, hub-read}
 use Rattle.linkstate.proofs.HubStates.{hub_meaning-state}
+use Rattle.linkstate.specs.EndLaws.{hub-generation}
 use Rattle.linkstate.proofs.hub.HubState.read.Goals as goal
 
 pub returns-in-Ok-clause-reads : goal.returns-in-Ok-clause-reads
@@ -8,17 +9,17 @@ returns-in-Ok-clause-reads c =
 
 pub returns-in-Ok-clause-state : goal.returns-in-Ok-clause-state
 returns-in-Ok-clause-state c =
-    (hub_meaning-state c.args.leaves
+    hub_meaning-state c.args.leaves
     (record { generation = c.args.generation; base = c.args.base.now; entries = c.args.entries.now }) c.take_all.new.self c.requires.good
     (hub-read c.args.leaves c.args.generation c.args.base.now c.args.entries.now c.in_ok-hub.hub c.take_all.new.self c.in_ok-hub.ensures.reads
-    c.in-Ok.ensures)).0
+    c.in-Ok.ensures)
 
 pub returns-in-Ok-clause-generation : goal.returns-in-Ok-clause-generation
 returns-in-Ok-clause-generation c =
-    (hub_meaning-state c.args.leaves
-    (record { generation = c.args.generation; base = c.args.base.now; entries = c.args.entries.now }) c.take_all.new.self c.requires.good
+    hub-generation c.args.leaves
+    (record { generation = c.args.generation; base = c.args.base.now; entries = c.args.entries.now }) c.take_all.new.self
     (hub-read c.args.leaves c.args.generation c.args.base.now c.args.entries.now c.in_ok-hub.hub c.take_all.new.self c.in_ok-hub.ensures.reads
-    c.in-Ok.ensures)).1
+    c.in-Ok.ensures)
 
 pub returns-in-Err-clause-reads : goal.returns-in-Err-clause-reads
 returns-in-Err-clause-reads c =

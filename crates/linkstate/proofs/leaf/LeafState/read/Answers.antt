@@ -1,5 +1,5 @@
 use Rattle.linkstate.proofs.Folding.{leaf-failed, leaf-read}
-use Rattle.linkstate.proofs.LeafGoodness.{read-good}
+use Rattle.linkstate.proofs.EndStates.{leaf_out-good}
 use Rattle.linkstate.proofs.leaf.LeafState.read.Goals as goal
 
 pub returns-in-Ok-clause-reads : goal.returns-in-Ok-clause-reads
@@ -9,8 +9,10 @@ returns-in-Ok-clause-reads c =
 
 pub returns-in-Ok-clause-good : goal.returns-in-Ok-clause-good
 returns-in-Ok-clause-good c each =
-    read-good c.args.number c.args.generation c.args.base.now c.args.entries.now c.in_ok-leaf.leaf c.take_all.new.self c.requires.good
-    c.in_ok-leaf.ensures.reads c.in-Ok.ensures each
+    leaf_out-good c.args.number
+    (record { generation = c.args.generation; base = c.args.base.now; entries = c.args.entries.now }) c.take_all.new.self c.requires.good each
+    (leaf-read c.args.number c.args.generation c.args.base.now c.args.entries.now c.in_ok-leaf.leaf c.take_all.new.self
+    c.in_ok-leaf.ensures.reads c.in-Ok.ensures)
 
 pub returns-in-Err-clause-reads : goal.returns-in-Err-clause-reads
 returns-in-Err-clause-reads c =

@@ -1,0 +1,134 @@
+// Readings of the clock that call nothing, so that a bot takes no memory for them.
+ghost use Rattle.std.specs.Prelude.{◌≡◌, ◌<◌, false, Some, IfSome};
+ghost use Rattle.std.specs.List.{list_all};
+ghost use Rattle.bytetext.specs.declared.moment.TheConstants.{MOMENTS_END as end_of_moments};
+ghost use Rattle.bottimers.specs.Held.{IsAbove};
+ghost use Rattle.bottimers.specs.Seconds.{seconds_between, seconds_run};
+ghost use Rattle.botcore.specs.Happenings.{passed_all};
+ghost use Rattle.botcore.specs.Quiet.{is_still};
+ghost use Rattle.botcore.specs.Rising.{IsReached};
+ghost use Rattle.botcore.specs.Steps.{is_stale};
+
+use crate::bot::Bot;
+use bottimers::{Clock, MAX_SECONDS, Timers};
+use bytetext::{NoMemory, Texts};
+use std::alloc::Global;
+use storage::Disk;
+
+impl<D: Disk> Bot<D> {
+    ghost use Rattle.std.specs.Prelude.{◌≡◌, ◌<◌, [], false, IfOk, IsOk, OnOk, OnErr};
+    ghost use Rattle.bytetext.specs.declared.moment.TheConstants.{MOMENTS_END as end_of_moments};
+    ghost use Rattle.outqueue.specs.Sending.{sent, after as after_sending};
+    ghost use Rattle.botcore.specs.Quiet.{is_still_until};
+    ghost use Rattle.botcore.specs.Steps.{is_stale, run_to};
+
+    // Whether no timer is due at the seconds of a reading, and none of them begins a minute. Takes no memory.
+    pub(crate) fn is_still_until(&self, now: u64) -> bool
+        requires moment { now < end_of_moments }
+        requires above { is_stale self.now.clock now ≡ false }
+        ensures { result ≡ is_still_until self.now now }
+    {
+        are_still_until(&self.timers, self.clock.last(), now)
+    }
+
+    // Lets the seconds of a reading pass without their calls, and sends what may go: all of it, or nothing. Where no line
+    // goes it takes no memory.
+    pub(crate) fn pass_to(&mut self, alloc: Global, now: u64) -> Result<Texts, NoMemory>
+        requires moment { now < end_of_moments }
+        requires above { is_stale self.old.clock now ≡ false }
+        ensures lines { IfOk result (λ lines. lines ≡ sent self.old.queues now) }
+        ensures ok { OnOk result (self.new ≡ record (run_to self.old now) { queues = after_sending self.old.queues now }) }
+        ensures err { OnErr result (self.new ≡ self.old) }
+        ensures needs_none { sent self.old.queues now ≡ [] → IsOk result }
+    {
+        match self.send(alloc, now) {
+            Ok(lines) => {
+                self.run_on(now);
+                Ok(lines)
+            }
+            Err(NoMemory) => Err(NoMemory),
+        }
+    }
+
+    // Lets the clock and the timers run to a reading. Takes no memory.
+    fn run_on(&mut self, now: u64)
+        requires moment { now < end_of_moments }
+        requires above { is_stale self.old.clock now ≡ false }
+        ensures { self.new ≡ run_to self.old now }
+    {
+        pass_until(&mut self.timers, self.clock.last(), now);
+        self.clock = Clock::at(now);
+    }
+}
+
+// Whether no timer is due at the seconds of a reading, and none of them begins a minute.
+fn are_still_until(timers: &Timers, last: Option<u64>, now: u64) -> bool
+    requires moment { now < end_of_moments }
+    requires above { is_stale last now ≡ false }
+    requires reached { IsReached timers.now.last last }
+    ensures { result ≡ list_all (is_still timers.now.timers) (seconds_run last now) }
+{
+    are_still(timers, first_second(last, now), now)
+}
+
+// Lets the seconds of a reading pass without their calls.
+fn pass_until(timers: &mut Timers, last: Option<u64>, now: u64)
+    requires moment { now < end_of_moments }
+    requires above { is_stale last now ≡ false }
+    requires reached { IsReached timers.old.last last }
+    ensures passed { timers.new ≡ passed_all timers.old (seconds_run last now) }
+    ensures reached { IsReached timers.new.last (Some now) }
+{
+    pass_seconds(timers, first_second(last, now), now);
+}
+
+// The first of the seconds that a reading runs, or the one after it where it runs none.
+#[tactic(auto, using(crate::proofs::StillLemmas::above_fresh))]
+fn first_second(last: Option<u64>, now: u64) -> u64
+    requires moment { now < end_of_moments }
+    requires above { is_stale last now ≡ false }
+    ensures seconds { seconds_run last now ≡ seconds_between result now }
+    ensures above { IfSome last (λ last. last < result) }
+{
+    match last {
+        Some(last) => (last + 1).max(now.saturating_sub(MAX_SECONDS - 1)),
+        None => now + 1,
+    }
+}
+
+// Whether no timer is due at these seconds, and none of them begins a minute.
+fn are_still(timers: &Timers, first: u64, last: u64) -> bool
+    requires above { IsAbove timers.now.last first }
+    requires moment { last < end_of_moments }
+    ensures { result ≡ list_all (is_still timers.now.timers) (seconds_between first last) }
+{
+    let mut second = first;
+    while second <= last {
+        if !is_still(timers, second) {
+            return false;
+        }
+        second += 1;
+    }
+    true
+}
+
+// Whether no timer is due at a second, and it begins no minute.
+fn is_still(timers: &Timers, second: u64) -> bool
+    requires { IsAbove timers.now.last second }
+    ensures { result ≡ is_still timers.now.timers second }
+{
+    second % 60 != 0 && !timers.is_due(second)
+}
+
+// Lets these seconds pass without their calls.
+fn pass_seconds(timers: &mut Timers, first: u64, last: u64)
+    requires above { IsAbove timers.old.last first }
+    requires moment { last < end_of_moments }
+    ensures { timers.new ≡ passed_all timers.old (seconds_between first last) }
+{
+    let mut second = first;
+    while second <= last {
+        timers.pass(second);
+        second += 1;
+    }
+}

@@ -1,0 +1,79 @@
+-- What an end of the link keeps in a journal whose disks may fail.
+use Rattle.std.specs.Prelude.{◌≡◌, ◌⊎◌, ℕ, Bool, true, false, List, Option, None, Some, Result, Ok, Err}
+use Rattle.bytetext.specs.declared.failure.Failure.{Failure}
+use Rattle.bytetext.specs.declared.failure.Failure.TheVariants.{Refused, NoMemory}
+use Rattle.storage.specs.State.{State}
+use Rattle.storage.specs.declared.disk.DiskFault.{DiskFault}
+use Rattle.botjournal.specs.Contents.{Contents, meaning}
+use Rattle.botjournal.specs.Ledger.{Ledger, Pending, Account, Failures, Failed, Writes, FailsAt, counted as contents_counted}
+use Rattle.protocol.specs.Bots.{counted}
+use Rattle.linkcalls.specs.declared.error.LinkFault.{LinkFault}
+use Rattle.linkcalls.specs.declared.error.LinkFault.TheVariants.{JournalFault, DiskFault as NotRead}
+
+-- whose state it is: of the hub how many leaves it has, of a leaf its number; the state that is kept; whether a disk failed since
+-- the journal was opened; the record that is in doubt since; and how often the disks have failed
+pub record Kept (S R : Type 0) : Type 0 where
+  pub who : ℕ
+  pub state : S
+  pub down : Bool
+  pub doubt : Option R
+  pub failures : Failures
+
+-- Writing to a journal that has generations left, by cases on the answer.
+abbrev pub WritesAny : Ledger → Pending → Result (Unit {0}) (Failure DiskFault) → Ledger → Type 0
+WritesAny old pending (Ok _) new = Writes pending old new
+WritesAny old pending (Err (Refused _)) new = FailsAt pending old new
+WritesAny old pending (Err NoMemory) new = new ≡ old
+
+-- ---- how a journal stands to the state
+
+module _ {S R : Type 0} (state_of : Contents → Option S) (folded : S → R → S) where
+  -- the contents mean the state, or that with the record in doubt counted
+  abbrev pub MeansEither : S → Option R → Contents → Type 0
+  MeansEither kept doubt contents = (state_of contents ≡ Some kept) ⊎ (state_of contents ≡ Some (counted folded kept doubt))
+
+  -- a journal that takes records means what is kept
+  pub record IsUp (kept : S) (doubt : Option R) (account : Account) : Type 0 where
+    pub up : account.down ≡ false
+    pub certain : account.doubt ≡ None
+    pub none : doubt ≡ None
+    pub means : state_of account.contents ≡ Some kept
+
+  -- whatever a restart finds means what is kept, or that with the record in doubt
+  pub record IsDown (kept : S) (doubt : Option R) (account : Account) : Type 0 where
+    pub held : MeansEither kept doubt account.contents
+    pub after : MeansEither kept doubt (contents_counted account)
+
+  abbrev pub Stands : S → Bool → Option R → Account → Type 0
+  Stands kept false doubt account = IsUp kept doubt account
+  Stands kept true doubt account = IsDown kept doubt account
+
+  -- these bytes of two disks mean the state, or that with the record in doubt
+  pub record AreOf (kept : S) (doubt : Option R) (x y : List ℕ) : Type 0 where
+    pub contents : Contents
+    pub found : meaning x y ≡ Some contents
+    pub means : MeansEither kept doubt contents
+
+  -- whatever a crash leaves on the disks is the end's
+  abbrev pub MayLeave : S → Option R → {D : Type 0} → (D → State) → D → D → Type 0
+  MayLeave kept doubt disk first second =
+      (x y : List ℕ) → (disk first).may_leave x → (disk second).may_leave y → AreOf kept doubt x y
+
+-- ---- what the calls answer
+
+module _ {S R : Type 0} (folded : S → R → S) where
+  -- Journaling a record, by cases on the answer: it is kept, and counted; or a disk failed, and it is in doubt; or all is as it was.
+  abbrev pub Journals : R → Kept S R → Result (Unit {0}) (Failure LinkFault) → Kept S R → Type 0
+  Journals entry old (Ok _) new = new ≡ record old { state = folded old.state entry; failures = new.failures }
+  Journals entry old (Err (Refused fault)) new = (fault ≡ JournalFault)
+      × (new ≡ record old { down = true; doubt = Some entry; failures = new.failures }) × Failed old.failures new.failures
+  Journals entry old (Err NoMemory) new = new ≡ old
+
+  -- A restart, by cases on the answer: the record in doubt doesn't count, or does; else the end is down.
+  abbrev pub Restarts : Kept S R → Result (Unit {0}) (Failure LinkFault) → Kept S R → Type 0
+  Restarts old (Ok _) new =
+      (new ≡ record old { down = false; doubt = None; failures = new.failures })
+      ⊎ (new ≡ record old { state = counted folded old.state old.doubt; down = false; doubt = None; failures = new.failures })
+  Restarts old (Err (Refused fault)) new = (fault ≡ NotRead) × (new ≡ record old { down = true; failures = new.failures })
+      × Failed old.failures new.failures
+  Restarts old (Err NoMemory) new = new ≡ record old { down = true; failures = new.failures }

@@ -1,0 +1,57 @@
+-- Which records an end may journal, and what its journal is given of each.
+use Rattle.std.specs.Prelude.{◌≡◌, ◌+◌, ◌<◌, ◌^◌, ℕ, true, None, nat_lt, is_some}
+use Rattle.userfile.specs.Apply.{refusal}
+use Rattle.userfile.specs.Together.{AreSound}
+use Rattle.usercodec.specs.Changes.{IsGoodChange}
+use Rattle.botjournal.specs.Bases.{IsGoodOut}
+use Rattle.botjournal.specs.declared.entry.Entry.TheVariants.{Accepted, Settled, Applied, ReqOut, ReqDone}
+use Rattle.botjournal.specs.Ledger.{Pending, Adding, Rebasing}
+use Rattle.protocol.specs.Numbers.{last_number, item_at}
+use Rattle.protocol.specs.HubRules.{HubState, HubRecord, Accept, Settle, Rebase, next_number}
+use Rattle.protocol.specs.LeafRules.{LeafState, LeafRecord, Apply, Out, Done, Install, Compact}
+use Rattle.protocol.specs.Journals.{hub_base, leaf_base, HubMay, LeafMay}
+use Rattle.protocol.specs.Network.{new_hub, new_leaf}
+
+-- ---- the hub
+
+abbrev pub start_hub : ℕ → HubState
+start_hub leaves = (new_hub leaves).kept
+
+-- a record that the hub's journal may take now, whose numbers there are
+abbrev pub HubMayWrite : HubState → HubRecord → Type 0
+HubMayWrite hub (Accept entry) = HubMay hub (Accept entry)
+HubMayWrite hub (Settle leaf fault) = HubMay hub (Settle leaf fault) × (next_number (item_at hub.replies leaf) < 2 ^ 32)
+HubMayWrite hub Rebase = nat_lt hub.generation last_number ≡ true
+
+-- an entry more, or another base
+abbrev pub hub_pending : HubState → HubRecord → Pending
+hub_pending hub (Accept entry) = Adding (Accepted entry.origin entry.request entry.change)
+hub_pending hub (Settle leaf fault) = Adding (Settled leaf (next_number (item_at hub.replies leaf)) fault)
+hub_pending hub Rebase = Rebasing (hub_base hub)
+
+-- ---- a leaf
+
+abbrev pub start_leaf : LeafState
+start_leaf = new_leaf.kept
+
+-- the state of a leaf: the records of a userfile, and a change with a spelling where one is out
+pub record IsLeafState (leaf : LeafState) : Type 0 where
+  pub records : AreSound leaf.records
+  pub out : IsGoodOut leaf.out
+
+-- a record that the leaf's journal may take now, whose numbers there are
+abbrev pub LeafMayWrite : LeafState → LeafRecord → Type 0
+LeafMayWrite leaf (Apply change) = LeafMay leaf (Apply change) × (nat_lt leaf.version last_number ≡ true)
+LeafMayWrite leaf (Out change) = LeafMay leaf (Out change) × IsGoodChange change
+LeafMayWrite leaf Done = LeafMay leaf Done
+LeafMayWrite leaf (Install version records) = AreSound records × (nat_lt leaf.generation last_number ≡ true)
+LeafMayWrite leaf Compact = nat_lt leaf.generation last_number ≡ true
+
+-- an entry more, or another base
+abbrev pub leaf_pending : ℕ → LeafState → LeafRecord → Pending
+leaf_pending number leaf (Apply change) = Adding (Applied (leaf.version + 1) change)
+leaf_pending number leaf (Out change) = Adding (ReqOut (leaf.last + 1) change)
+leaf_pending number leaf Done = Adding (ReqDone leaf.last)
+leaf_pending number leaf (Install version records) =
+    Rebasing (leaf_base number (record leaf { version = version; records = records }))
+leaf_pending number leaf Compact = Rebasing (leaf_base number leaf)

@@ -1,0 +1,107 @@
+// What an end of the link keeps, as the journal that it is kept in sees it.
+ghost use Rattle.std.specs.Prelude.{◌≡◌, ℕ, Option, Some, false, IfOk, OnOk, OnErr};
+ghost use Rattle.std.specs.List.{AllByRecursion};
+ghost use Rattle.botjournal.specs.Bases.{IsGoodBase};
+ghost use Rattle.botjournal.specs.Entries.{IsGoodEntry};
+ghost use Rattle.botjournal.specs.Contents.{Contents, new_contents};
+ghost use Rattle.botjournal.specs.Ledger.{Pending, written};
+ghost use Rattle.linkstate.specs.States.{Reads, empty_base};
+ghost use Rattle.linkstate.specs.Kept.{WritesAny};
+
+use crate::fault::StateError;
+use botjournal::{Base, Entry, Ledger, LedgerError};
+use bytetext::NoMemory;
+use std::alloc::Global;
+use storage::Disk;
+
+/// What an end of the link keeps over a restart: how it is read from a journal, and what it writes there.
+///
+/// Whose it is stands as `who` in every call: of the hub how many leaves it has, of a leaf its number.
+pub trait EndState: Drop + Sized {
+    /// What it journals, one record a call.
+    type Record: Drop;
+
+    /// There is such an end.
+    ghost is_end: { ℕ → Type 0 };
+
+    /// Which bot the journal is of.
+    ghost bot: { ℕ → ℕ };
+
+    /// The state before the first change.
+    ghost start: { ℕ → Self };
+
+    /// What always holds of the state.
+    ghost is_state: { ℕ → Self → Type 0 };
+
+    /// What the contents of a journal mean: nothing where they are not the end's.
+    ghost meaning: { ℕ → Contents → Option Self };
+
+    /// A record that may be journaled in this state.
+    ghost may: { Self → Self.Record → Type 0 };
+
+    /// What the journal is given of a record.
+    ghost pending: { ℕ → Self → Self.Record → Pending };
+
+    /// The state once a record is kept.
+    ghost folded: { Self → Self.Record → Self };
+
+    /// Which bot the journal is of.
+    fn bot(who: u16) -> u16
+        ensures { result ≡ bot who };
+
+    /// The state before the first change, in the first generation of its journal.
+    ///
+    /// # Errors
+    /// `NoMemory`.
+    fn start(alloc: Global, who: u16) -> Result<Self, NoMemory>
+        requires end { is_end who }
+        ensures start { IfOk result (λ kept. kept ≡ start who) }
+        // A journal that is made anew means it.
+        ensures means { IfOk result (λ kept. meaning who (new_contents (empty_base (bot who))) ≡ Some kept) }
+        ensures state { IfOk result (λ kept. is_state who kept) };
+
+    /// What a journal's base and entries mean, in this generation. They have spellings, as all have that a journal was
+    /// opened with.
+    ///
+    /// # Errors
+    /// `NotAJournal` where they mean nothing, or `NoMemory`.
+    fn read(
+        alloc: Global,
+        who: u16,
+        generation: u32,
+        base: &Base,
+        entries: &[Entry],
+    ) -> Result<Self, StateError>
+        requires end { is_end who }
+        requires good { IsGoodBase base.now }
+        requires spelled { AllByRecursion IsGoodEntry entries.now }
+        ensures reads { Reads (meaning who (record { generation = generation; base = base.now; entries = entries.now })) result }
+        ensures state { IfOk result (λ kept. is_state who kept) };
+
+    /// Journals a record, and then makes the state of it. All memory is taken before the first device call.
+    ///
+    /// # Errors
+    /// What [`Ledger::append`] is refused for; each leaves the state as it was.
+    fn write<D: Disk>(
+        &mut self,
+        alloc: Global,
+        who: u16,
+        ledger: &mut Ledger<D>,
+        entry: Self::Record,
+    ) -> Result<(), LedgerError>
+        requires up { ledger.old.account.down ≡ false }
+        requires end { is_end who }
+        requires state { is_state who self.old }
+        requires means { meaning who ledger.old.account.contents ≡ Some self.old }
+        requires may { may self.old entry }
+        ensures row { WritesAny ledger.old (pending who self.old entry) result ledger.new }
+        ensures folds { OnOk result (self.new ≡ folded self.old entry) }
+        ensures stays { OnErr result (self.new ≡ self.old) };
+
+    // What a record makes of the contents means what it makes of the state, which stays one.
+    ghost writes: { (who : ℕ) (contents : Contents) (kept : Self) (entry : Self.Record) → is_end who → is_state who kept
+        → may kept entry → meaning who contents ≡ Some kept → meaning who (written (pending who kept entry) contents) ≡ Some (folded kept entry) };
+
+    ghost stays_state: { (who : ℕ) (kept : Self) (entry : Self.Record) → is_state who kept → may kept entry
+        → is_state who (folded kept entry) };
+}

@@ -1,0 +1,144 @@
+// What a hub keeps and journals.
+ghost use Rattle.std.specs.Prelude.{◌≡◌, ◌<◌, ◌^◌};
+ghost use Rattle.protocol.specs.HubRules.{next_number};
+
+use crate::accepted::AcceptedChange;
+use crate::end_state::EndState;
+use crate::fault::StateError;
+use crate::hub::HubState;
+use botjournal::{Base, Entry, Ledger, LedgerError, Reply};
+use bytetext::NoMemory;
+use std::alloc::Global;
+use std::marker::Model;
+use storage::Disk;
+use userfile::ChangeFault;
+
+#[derive(Drop)]
+enum What {
+    Accept(AcceptedChange),
+    Settle(u16, ChangeFault),
+    Rebase,
+}
+
+/// What a hub journals: an accepted change, the refusal of a leaf's next request, or its state alone.
+#[derive(Drop)]
+pub struct HubRecord {
+    what: What,
+}
+
+impl Model for HubRecord {
+    ghost use Rattle.protocol.specs.HubRules.{HubRecord as Record};
+
+    ghost Value = { Record };
+
+    ghost use Rattle.linkstate.specs.HubRecords.{shown};
+
+    ghost view = { λ r. shown r.what };
+}
+
+impl HubRecord {
+    ghost use Rattle.std.specs.Prelude.{◌≡◌};
+    ghost use Rattle.protocol.specs.HubRules.{Accept, Settle, Rebase};
+
+    /// A change is accepted under the next number.
+    pub fn accept(entry: AcceptedChange) -> HubRecord
+        ensures { result ≡ Accept entry }
+    {
+        HubRecord {
+            what: What::Accept(entry),
+        }
+    }
+
+    /// A leaf's next request is refused.
+    pub fn settle(leaf: u16, fault: ChangeFault) -> HubRecord
+        ensures { result ≡ Settle leaf fault }
+    {
+        HubRecord {
+            what: What::Settle(leaf, fault),
+        }
+    }
+
+    /// The state alone goes into the journal.
+    pub fn rebase() -> HubRecord
+        ensures { result ≡ Rebase }
+    {
+        HubRecord { what: What::Rebase }
+    }
+}
+
+impl EndState for HubState {
+    type Record = HubRecord;
+
+    ghost use Rattle.std.specs.Prelude.{◌≤◌};
+    ghost use Rattle.protocol.specs.HubRules.{hub_folded};
+    ghost use Rattle.protocol.specs.Journals.{hub_meaning, IsHubState};
+    ghost use Rattle.linkcalls.specs.declared.TheConstants.{MAX_LEAVES};
+    ghost use Rattle.linkstate.specs.Records.{start_hub, hub_pending, HubMayWrite};
+    ghost use Rattle.linkstate.specs.EndLaws.{hub_writes, hub_stays};
+
+    ghost is_end = { λ leaves. leaves ≤ MAX_LEAVES };
+
+    ghost bot = { λ _. 0 };
+
+    ghost start = { start_hub };
+
+    ghost is_state = { IsHubState };
+
+    ghost meaning = { hub_meaning };
+
+    ghost may = { HubMayWrite };
+
+    ghost pending = { λ _. hub_pending };
+
+    ghost folded = { hub_folded };
+
+    fn bot(_leaves: u16) -> u16 {
+        0
+    }
+
+    fn start(alloc: Global, leaves: u16) -> Result<HubState, NoMemory> {
+        HubState::new(alloc, leaves)
+    }
+
+    fn read(
+        alloc: Global,
+        leaves: u16,
+        generation: u32,
+        base: &Base,
+        entries: &[Entry],
+    ) -> Result<HubState, StateError> {
+        HubState::read(alloc, leaves, generation, base, entries)
+    }
+
+    fn write<D: Disk>(
+        &mut self,
+        alloc: Global,
+        _leaves: u16,
+        ledger: &mut Ledger<D>,
+        entry: HubRecord,
+    ) -> Result<(), LedgerError> {
+        match entry.what {
+            What::Accept(accepted) => self.accept_next(alloc, ledger, accepted),
+            What::Settle(leaf, fault) => {
+                let request = next_number(self.reply_of(leaf));
+                self.refuse_next(alloc, ledger, leaf, request, fault)
+            }
+            What::Rebase => self.rebase(alloc, ledger),
+        }
+    }
+
+    ghost writes = { hub_writes };
+
+    ghost stays_state = { hub_stays };
+}
+
+// The number of a leaf's next request.
+fn next_number(last: Option<Option<Reply>>) -> u32
+    requires { next_number last < 2 ^ 32 }
+    ensures { result ≡ next_number last }
+{
+    match last {
+        Some(Some(reply)) => reply.request + 1,
+        Some(None) | None => 1,
+    }
+}
