@@ -37,7 +37,6 @@ def configurations(tally, program, room):
         ([*right, "bot 0 of 2", link[1]], "a hub with leaves needs a line: listen HOST PORT"),
         ([*right, "bot 1 of 2", *link, "listen ::1 7100"], "a leaf has no line listen: take it out"),
         ([*right, link[0]], "a hub has no line hub: take it out"),
-        ([*right, "bot 1 of 2", *link], ""),
         ([*right, "account egg /etc/egg"], ""),
         ([*right, "bind pub - echo"], "line 4: say bind TYPE FLAGS PROC MASK"),
         ([*right, "bind pub zz:z+ echo !echo"], "line 4: B"),
@@ -54,6 +53,13 @@ def configurations(tally, program, room):
         Path(config).write_text("\n".join(lines) + "\n", encoding="utf-8", newline="")
         for word in ("check", "run"):
             says(tally, f"{word}: {lines[-1]!r}", [program, word, config], 1, f"eggnet: {config}: {text}")
+    config = f"{room}/secret.conf"
+    for secret, text in ((None, "can't be read"), (b"too short\n", "has no secret"), (b"x" * 201, "has no secret")):
+        Path(config).write_text("\n".join([*right, "bot 1 of 2", *link]) + "\n", encoding="utf-8")
+        if secret:
+            Path(f"{room}/secret").write_bytes(secret)
+        says(tally, f"run: a secret that is {secret}"[:60], [program, "run", config], 1,
+             f"eggnet: {config}: the file of the line secret {text}")
     tally.note("no folder was made", not os.path.exists(f"{room}/none"))
     sizes(tally, program, room, "\n".join(right) + "\n")
 
@@ -275,9 +281,38 @@ def clients(tally, program, room):
         for it in many:
             it.close()
         tally.note("after them it answers", bool(comes(lambda: bot.tell("status")[0] == 0)))
+        ninth(tally, bot)
         never_reads(tally, bot)
     finally:
         end_all(bot)
+
+
+def ninth(tally, bot):
+    """Eight clients that say nothing, or nothing any more: the one that was silent the longest gives way to a ninth."""
+    silent = []
+    for _ in range(8):
+        silent.append(connected(bot.folder))
+        time.sleep(1.5)
+    silent[0].sendall(b"status\n")
+    began = time.monotonic()
+    status, out, err = bot.tell("status")
+    took = time.monotonic() - began
+    tally.note("a ninth operator comes in after a while", status == 0 and 10 < took < 35, f"{took:.1f} s {err}")
+    gone = [place for place, it in enumerate(silent) if is_let_go(it)]
+    tally.note("of the eight the second has given way", gone == [1], gone)
+    for it in silent:
+        it.close()
+
+
+def is_let_go(client):
+    """Whether the bot has let a client go."""
+    client.settimeout(0.5)
+    try:
+        while client.recv(65536):
+            pass
+        return True
+    except OSError:
+        return False
 
 
 def never_reads(tally, bot):

@@ -1,5 +1,5 @@
 -- What actions leave of the link and the rest.
-use Rattle.std.proofs.Common.{◌≡◌, ◌∙◌, ℕ, ◌+◌, ◌<◌, nat_lt, Bool, true, false, if◌then◌else◌, List, [], ◌∷◌, ◌++◌, length, drop, get_or, refl, ap, sym, subst, append_assoc, Option, Some, None, Result, Ok, Err}
+use Rattle.std.proofs.Common.{◌≡◌, ◌≢◌, ◌∙◌, ℕ, ◌+◌, ◌<◌, nat_lt, Bool, true, false, if◌then◌else◌, List, [], ◌∷◌, ◌++◌, length, drop, get_or, refl, ap, sym, subst, append_assoc, Option, Some, None, Result, Ok, Err}
 use Rattle.std.proofs.lemmas.List.{append-nil, drop_more}
 use Rattle.userfile.specs.Apply.{bad_shape}
 use Rattle.userfile.specs.declared.change.Change.{Change}
@@ -22,11 +22,13 @@ use Rattle.linknet.specs.Ends.{End, AtHub, AtLeaf, end_asks, with_asks, end_did}
 use Rattle.botlink.specs.Links.{BotEnd, Asks}
 use Rattle.botcore.specs.declared.fault.ActionFault.{ActionFault}
 use Rattle.botcore.specs.declared.fault.Fault.{Fault}
+use Rattle.botcore.specs.declared.report.End.TheVariants.{NoMemory as ends_no_memory}
 use Rattle.botcalls.specs.declared.made_call.MadeCall.{MadeCall}
 use Rattle.botcore.specs.Acting.{Acting, acted, acted_all, with_fault, action_faults, actions_of}
 use Rattle.botcore.specs.Links.{link_with_asks, fault_told}
 use Rattle.botcore.specs.Progress.{Progress, Leaves, LeavesAll, HasMoreAsks, acting_at}
 use Rattle.botcore.specs.Putting.{HasMoreLines}
+use Rattle.botcore.specs.Reports.{answer_report}
 use Rattle.botcore.proofs.PutLemmas.{HasMoreLines-then}
 
 -- asks -------------------------------------------------------------------------------------------------------------------
@@ -97,6 +99,12 @@ HasMoreAsks-asked old change (Ok answer) new is = (
 )
 HasMoreAsks-asked old change (Err (Refused fault)) new is = subst (HasMoreAsks old) (sym is.1) (HasMoreAsks_refl old)
 HasMoreAsks-asked old change (Err NoMemory) new is = subst (HasMoreAsks old) (sym is.1) (HasMoreAsks_refl old)
+
+-- a report ends out of memory only where the link's call did
+pub answer_ends : (answer : Result Answer (Failure LinkFault)) → answer ≢ Err NoMemory → (answer_report answer).end ≢ ends_no_memory
+answer_ends (Ok answer) has = λ same. cc
+answer_ends (Err (Refused fault)) has = λ same. cc
+answer_ends (Err NoMemory) has = λ same. has refl
 
 -- an ask, as an action ----------------------------------------------------------------------------------------------------
 

@@ -1,4 +1,4 @@
--- Events that call nothing and bring nothing, so that a bot takes no memory for them.
+-- Events that call nothing and bring nothing, and asks, for which room is kept: a bot takes no memory for them.
 use Rattle.std.specs.Prelude.{◌≡◌, ◌≢◌, ℕ, ◌%◌, ◌==◌, Bool, true, false, not, ◌&&◌, List, []}
 use Rattle.std.specs.List.{list_all, list_any}
 use Rattle.bottimers.specs.declared.timer.Timer.{Timer}
@@ -38,13 +38,13 @@ pub record PassesQuietly (bot : Bot) (now : ℕ) : Type 0 where
   pub calls : is_still_until bot now ≡ true
   pub lines : sent bot.queues now ≡ []
 
--- an event that takes no memory for what it calls and brings; of others the step's own rule says when they take none
+-- an event that takes no memory for what it calls and brings, or an ask; of others the step's own rule says when they take none
 abbrev pub NeedsNone : Bot → Event → Type 0
 NeedsNone bot (Line (a_message message)) = BringsNothing bot message
 NeedsNone bot (Line (a_bad_line fault)) = ⊥
 NeedsNone bot (Clock now) = PassesQuietly bot now
 NeedsNone bot Connect = ⊥
-NeedsNone bot (Ask change) = ⊥
+NeedsNone bot (Ask change) = Unit {0}
 NeedsNone bot Pump = ⊥
 NeedsNone bot (Receive packet) = ⊥
 NeedsNone bot (Bind asked) = ⊥

@@ -45,12 +45,12 @@ impl<D: Disk> Bot<D> {
     /// (S2), and so is what procs ask for and tell other bots; all else goes on.
     ///
     /// The report ends `NoMemory` where a growth was refused: then the bot is as it was, but for a restart, and the calls
-    /// that were made are the first of those that would be made. A line that is no message, a reading that is refused or not
-    /// above the last, a bind that is taken away, and each call of the link that takes no memory never end so. Nor does a
-    /// message, once one was taken in since the bot connected, where no bind waits for messages, nobody has joined a
-    /// channel on which the bot is op, the bot puts no line, and the channels get no new text or member; nor a reading of
-    /// seconds at which no timer is due and none of which begins a minute, where no line may go. At most 1,001 packets are
-    /// to be sent.
+    /// that were made are the first of those that would be made. A line that is no message, an ask, a reading that is
+    /// refused or not above the last, a bind that is taken away, and each call of the link that takes no memory never end
+    /// so. Nor does a message, once one was taken in since the bot connected, where no bind waits for messages, nobody has
+    /// joined a channel on which the bot is op, the bot puts no line, and the channels get no new text or member; nor a
+    /// reading of seconds at which no timer is due and none of which begins a minute, where no line may go. At most 1,001
+    /// packets are to be sent.
     pub fn step<P: Promise, B: Run>(
         &mut self,
         alloc: Global,
@@ -61,7 +61,7 @@ impl<D: Disk> Bot<D> {
         ensures takes { TakesStep P.code_of P.may store.now self.old event result self.new }
         ensures few { length result.packets ≤ MAX_LEAVES + 1 }
         ensures good_records { AreGood result.packets }
-        // An event that calls nothing and brings nothing to be kept takes no memory.
+        // An ask takes no memory, nor does an event that calls nothing and brings nothing to be kept.
         ensures needs_none { NeedsNone self.old event → result.end ≢ End.NoMemory }
     {
         match event {
@@ -127,11 +127,13 @@ impl<D: Disk> Bot<D> {
         }
     }
 
-    // A change is asked for.
+    // A change is asked for. Takes no memory.
+    #[tactic(auto, using(crate::proofs::AskLemmas::answer_ends))]
     fn ask(&mut self, alloc: Global, change: Change) -> Report
         ensures takes { GivesAsk self.old change result self.new }
         ensures few { length result.packets ≤ MAX_LEAVES + 1 }
         ensures good_records { AreGood result.packets }
+        ensures memory { result.end ≢ End.NoMemory }
     {
         let answer = self.link.ask(alloc, change);
         Report::of_answer(alloc, answer)

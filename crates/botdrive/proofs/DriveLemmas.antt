@@ -11,6 +11,7 @@ use Rattle.botcore.specs.Bots.{Bot}
 use Rattle.botcore.specs.declared.event.Event.TheVariants.{Clock}
 use Rattle.botdrive.specs.declared.driving.DriveEnd.{DriveEnd}
 use Rattle.botdrive.specs.declared.driving.DriveEnd.TheVariants.{Done, Read, Write, NoMemory}
+use Rattle.botdrive.specs.declared.outcome.Outcome.{Outcome}
 use Rattle.botdrive.specs.Driving.{Course, Makes, Hears, HearsPiece, HearsNoPiece, HearsAll, HearsSome, ReadsEnough, ReadsSome, TakesAll, TakesFirst, TakesSome, DrivesAll, DrivesTo, course_at, line_events, all_events}
 use Rattle.botdrive.proofs.DrivingLemmas.{Makes-then, MakesFirst-more, Hears-none, Hears-then, HearsFirst-then}
 
@@ -151,41 +152,41 @@ TakesSome-of code_of may names now old new held after before left NoMemory (byte
 -- ---- and what is written
 
 pub DrivesAll-of : (Writes : Sink → List ℕ → Sink → Type 0) (code_of : List ℕ → Call → Code) (may : List ℕ → Call → List Action → Type 0)
-    (names : List (List ℕ)) (now : ℕ) (start : Course) (old new : Bot) (packets : List Outgoing) (text held after : List ℕ)
+    (names : List (List ℕ)) (now : ℕ) (start : Course) (old new : Bot) (packets : List Outgoing) (outcomes : List Outcome) (text held after : List ℕ)
     (before between left : Source) (empty kept full : Sink) → start ≡ course_at old
-    → TakesAll code_of may names now start held before (record { bot = new; packets = packets; text = text }) after between
+    → TakesAll code_of may names now start held before (record { bot = new; packets = packets; text = text; outcomes = outcomes }) after between
     → kept ≡ empty → left ≡ between → Writes kept text full
-    → DrivesAll Writes code_of may names now (record { bot = old; held = held; source = before; sink = empty }) packets
+    → DrivesAll Writes code_of may names now (record { bot = old; held = held; source = before; sink = empty }) packets outcomes
     (record { bot = new; held = after; source = left; sink = full })
-DrivesAll-of Writes code_of may names now start old new packets text held after before between left empty kept full is p same other writes = record {
+DrivesAll-of Writes code_of may names now start old new packets outcomes text held after before between left empty kept full is p same other writes = record {
   bytes = p.bytes;
   lines = p.lines;
   text = text;
   read = subst (λ (x : Source). ReadsEnough before p.bytes x) (sym other) p.read;
   ends = p.ends;
-  makes = subst (λ (x : Course). Makes code_of may names x (all_events p.lines now) (record { bot = new; packets = packets; text = text })) is p.makes;
+  makes = subst (λ (x : Course). Makes code_of may names x (all_events p.lines now) (record { bot = new; packets = packets; text = text; outcomes = outcomes })) is p.makes;
   writes = subst (λ (x : Sink). Writes x text full) same writes;
 }
 
 pub DrivesTo-some : (end : DriveEnd) (code_of : List ℕ → Call → Code) (may : List ℕ → Call → List Action → Type 0)
-    (names : List (List ℕ)) (now : ℕ) (start : Course) (old new : Bot) (packets : List Outgoing) (text held after : List ℕ)
+    (names : List (List ℕ)) (now : ℕ) (start : Course) (old new : Bot) (packets : List Outgoing) (outcomes : List Outcome) (text held after : List ℕ)
     (before left : Source) (empty kept : Sink) → start ≡ course_at old
-    → TakesSome end code_of may names now start held before (record { bot = new; packets = packets; text = text }) after left
+    → TakesSome end code_of may names now start held before (record { bot = new; packets = packets; text = text; outcomes = outcomes }) after left
     → kept ≡ empty
-    → DrivesTo end code_of may names now (record { bot = old; held = held; source = before; sink = empty }) packets
+    → DrivesTo end code_of may names now (record { bot = old; held = held; source = before; sink = empty }) packets outcomes
     (record { bot = new; held = after; source = left; sink = kept })
-DrivesTo-some Done code_of may names now start old new packets text held after before left empty kept is p same = absurd p
-DrivesTo-some Read code_of may names now start old new packets text held after before left empty kept is (bytes, read, hears) same = record {
+DrivesTo-some Done code_of may names now start old new packets outcomes text held after before left empty kept is p same = absurd p
+DrivesTo-some Read code_of may names now start old new packets outcomes text held after before left empty kept is (bytes, read, hears) same = record {
   bytes = bytes;
   lines = hears.lines;
   text = text;
   read = read;
   ends = hears.ends;
-  makes = subst (λ (x : Course). Makes code_of may names x (line_events hears.lines) (record { bot = new; packets = packets; text = text })) is hears.makes;
+  makes = subst (λ (x : Course). Makes code_of may names x (line_events hears.lines) (record { bot = new; packets = packets; text = text; outcomes = outcomes })) is hears.makes;
   writes = same;
 }
-DrivesTo-some Write code_of may names now start old new packets text held after before left empty kept is p same = absurd p
-DrivesTo-some NoMemory code_of may names now start old new packets text held after before left empty kept is p same = record {
+DrivesTo-some Write code_of may names now start old new packets outcomes text held after before left empty kept is p same = absurd p
+DrivesTo-some NoMemory code_of may names now start old new packets outcomes text held after before left empty kept is p same = record {
   bytes = p.bytes;
   lost = p.lost;
   lines = p.lines;
@@ -197,7 +198,7 @@ DrivesTo-some NoMemory code_of may names now start old new packets text held aft
     first = p.makes.first;
     rest = p.makes.rest;
     all = p.makes.all;
-    makes = subst (λ (x : Course). Makes code_of may names x p.makes.first (record { bot = new; packets = packets; text = text })) is p.makes.makes;
+    makes = subst (λ (x : Course). Makes code_of may names x p.makes.first (record { bot = new; packets = packets; text = text; outcomes = outcomes })) is p.makes.makes;
   };
   writes = same;
 }

@@ -11,7 +11,8 @@ use Rattle.botcore.specs.declared.event.Event.{Event}
 use Rattle.botcore.specs.declared.event.Event.TheVariants.{Line}
 use Rattle.botcore.specs.declared.report.End.TheVariants.{NoMemory}
 use Rattle.botcore.specs.declared.report.Report.{Report}
-use Rattle.botdrive.specs.Driving.{Course, Makes, MakesFirst, MakesStep, Ends, Hears, HearsFirst, line_events, text_of}
+use Rattle.botdrive.specs.declared.outcome.Outcome.{Outcome}
+use Rattle.botdrive.specs.Driving.{Course, Makes, MakesFirst, MakesStep, Ends, Hears, HearsFirst, line_events, text_of, unless_silent, outcome_of}
 use Rattle.botcore.specs.Steps.{TakesStep}
 
 -- ---- steps
@@ -28,18 +29,20 @@ Makes-one code_of may names old new event step = (new, step, refl)
 
 -- where a call that keeps a report succeeds, its step is made
 pub Makes-if : {E : Type 0} (code_of : List ℕ → Call → Code) (may : List ℕ → Call → List Action → Type 0) (names : List (List ℕ))
-    (old new : Course) (event : Event) (report : Report) (kept : Result Unit E) (packets : List Outgoing) (text : List ℕ)
-    → packets ≡ old.packets → text ≡ old.text → TakesStep code_of may names old.bot event report new.bot
+    (old new : Course) (event : Event) (report : Report) (kept : Result Unit E) (packets : List Outgoing) (text : List ℕ) (outcomes : List Outcome)
+    → packets ≡ old.packets → text ≡ old.text → outcomes ≡ old.outcomes → TakesStep code_of may names old.bot event report new.bot
     → OnOk kept (report.end ≢ NoMemory) → OnOk kept (new.packets ≡ packets ++ report.packets)
-    → OnOk kept (new.text ≡ text ++ text_of report.lines) → OnOk kept (Makes code_of may names old (event ∷ []) new)
-Makes-if code_of may names old new event report (Err e) packets text p t takes made more_packets more_text = tt
-Makes-if code_of may names old new event report (Ok x) packets text p t takes made more_packets more_text =
+    → OnOk kept (new.text ≡ text ++ text_of report.lines) → OnOk kept (new.outcomes ≡ outcomes ++ unless_silent (outcome_of report))
+    → OnOk kept (Makes code_of may names old (event ∷ []) new)
+Makes-if code_of may names old new event report (Err e) packets text outcomes p t o takes made more_packets more_text more_outcomes = tt
+Makes-if code_of may names old new event report (Ok x) packets text outcomes p t o takes made more_packets more_text more_outcomes =
     Makes-one code_of may names old new event (record {
       report = report;
       takes = takes;
       made = made;
       packets = more_packets ∙ ap (λ front. front ++ report.packets) p;
       text = more_text ∙ ap (λ front. front ++ text_of report.lines) t;
+      outcomes = more_outcomes ∙ ap (λ front. front ++ unless_silent (outcome_of report)) o;
     })
 
 pub Makes-then : (code_of : List ℕ → Call → Code) (may : List ℕ → Call → List Action → Type 0) (names : List (List ℕ)) (old mid new : Course)

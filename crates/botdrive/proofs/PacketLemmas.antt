@@ -14,6 +14,7 @@ use Rattle.botcore.specs.Steps.{TakesStep}
 use Rattle.botcore.proofs.GoodLemmas.{line_good, clock_good}
 use Rattle.botdrive.specs.declared.driving.DriveEnd.{DriveEnd}
 use Rattle.botdrive.specs.declared.driving.DriveEnd.TheVariants.{Done, Read, Write, NoMemory}
+use Rattle.botdrive.specs.declared.outcome.Outcome.{Outcome}
 use Rattle.botdrive.specs.Driving.{Course, Connection, Makes, DrivesTo, line_events, all_events}
 
 AreGood-after : (xs ys : List Outgoing) → AreGood xs → AreGood ys → AreGood (xs ++ ys)
@@ -74,14 +75,14 @@ module _ (code_of : List ℕ → Call → Code) (may : List ℕ → Call → Lis
 -- ---- a whole drive
 
 pub DrivesTo_good : (end : DriveEnd) (code_of : List ℕ → Call → Code) (may : List ℕ → Call → List Action → Type 0)
-    (names : List (List ℕ)) (now : ℕ) (old : Connection) (packets : List Outgoing) (new : Connection)
-    → DrivesTo end code_of may names now old packets new → AreGood packets
-DrivesTo_good Done code_of may names now old packets new d =
+    (names : List (List ℕ)) (now : ℕ) (old : Connection) (packets : List Outgoing) (outcomes : List Outcome) (new : Connection)
+    → DrivesTo end code_of may names now old packets outcomes new → AreGood packets
+DrivesTo_good Done code_of may names now old packets outcomes new d =
     steps_good code_of may names (all_events d.lines now) _ _ (all_heard code_of may names d.lines now) d.makes tt
-DrivesTo_good Read code_of may names now old packets new d =
+DrivesTo_good Read code_of may names now old packets outcomes new d =
     steps_good code_of may names (line_events d.lines) _ _ (lines_heard code_of may names d.lines) d.makes tt
-DrivesTo_good Write code_of may names now old packets new d =
+DrivesTo_good Write code_of may names now old packets outcomes new d =
     steps_good code_of may names (all_events d.lines now) _ _ (all_heard code_of may names d.lines now) d.makes tt
-DrivesTo_good NoMemory code_of may names now old packets new d =
+DrivesTo_good NoMemory code_of may names now old packets outcomes new d =
     steps_good code_of may names d.makes.first _ _
     (front_heard code_of may names d.makes.first d.makes.rest _ d.makes.all (all_heard code_of may names d.lines now)) d.makes.makes tt

@@ -1,5 +1,5 @@
 -- Driving a bot: what comes from a server is taken in line by line, then the clock is read, and what the bot says is written.
-use Rattle.std.specs.Prelude.{◌≡◌, ◌≢◌, ◌≤◌, ◌⊎◌, ℕ, Bool, true, false, List, [], ◌∷◌, ◌++◌, map, take}
+use Rattle.std.specs.Prelude.{◌≡◌, ◌≢◌, ◌≤◌, ◌⊎◌, ℕ, ◌==◌, Bool, true, false, ◌&&◌, if◌then◌else◌, is_none, List, [], ◌∷◌, ◌++◌, length, map, take}
 use Rattle.std.specs.List.{flat_map}
 use Rattle.streams.specs.declared.stream.Given.TheVariants.{Bytes, End, Stall, Fault}
 use Rattle.streams.specs.State.{Source, Sink}
@@ -14,6 +14,7 @@ use Rattle.linkcalls.specs.declared.answer.Outgoing.{Outgoing}
 use Rattle.botdrive.specs.declared.driving.DriveEnd.{DriveEnd}
 use Rattle.botdrive.specs.declared.driving.DriveEnd.TheVariants.{Done, Read, Write, NoMemory}
 use Rattle.botdrive.specs.declared.driving.DriveReport.{DriveReport}
+use Rattle.botdrive.specs.declared.outcome.Outcome.{Outcome}
 use Rattle.botcore.specs.declared.event.Event.{Event}
 use Rattle.botcore.specs.declared.event.Event.TheVariants.{Line, Clock}
 use Rattle.botcore.specs.declared.report.End.TheVariants.{NoMemory as ends_no_memory}
@@ -27,17 +28,29 @@ use Rattle.botcore.specs.Steps.{TakesStep}
 abbrev pub text_of : List (List ℕ) → List ℕ
 text_of lines = flat_map (λ line. line ++ 13 ∷ 10 ∷ []) lines
 
--- a bot, and what its steps so far have to send: packets over the link, and text to the server
+-- what came of a step, if anything did
+abbrev pub is_silent : Outcome → Bool
+is_silent outcome = is_none outcome.note && (length outcome.calls == 0 && length outcome.faults == 0)
+
+abbrev pub unless_silent : Outcome → List Outcome
+unless_silent outcome = if is_silent outcome then [] else outcome ∷ []
+
+abbrev pub outcome_of : Report → Outcome
+outcome_of report = record { note = report.note; calls = report.calls; faults = report.faults }
+
+-- a bot, what its steps so far have to send, packets over the link and text to the server, and what came of them
 pub record Course : Type 0 where
   pub bot : Bot
   pub packets : List Outgoing
   pub text : List ℕ
+  pub outcomes : List Outcome
 
 -- before the first step
 abbrev pub course_at : Bot → Course
-course_at bot = record { bot = bot; packets = []; text = [] }
+course_at bot = record { bot = bot; packets = []; text = []; outcomes = [] }
 
--- The bot makes a step of this event, which does not run out of memory. Its packets and its lines go after those before.
+-- The bot makes a step of this event, which does not run out of memory. Its packets, its lines and what came of it go after
+-- those before.
 pub record MakesStep (code_of : List ℕ → Call → Code) (may : List ℕ → Call → List Action → Type 0) (names : List (List ℕ))
     (old : Course) (event : Event) (new : Course) : Type 0 where
   pub report : Report
@@ -45,6 +58,7 @@ pub record MakesStep (code_of : List ℕ → Call → Code) (may : List ℕ → 
   pub made : report.end ≢ ends_no_memory
   pub packets : new.packets ≡ old.packets ++ report.packets
   pub text : new.text ≡ old.text ++ text_of report.lines
+  pub outcomes : new.outcomes ≡ old.outcomes ++ unless_silent (outcome_of report)
 
 -- it makes a step of each event, in order
 unfoldable pub Makes : (List ℕ → Call → Code) → (List ℕ → Call → List Action → Type 0) → List (List ℕ)
@@ -188,31 +202,31 @@ pub record Connection : Type 0 where
 -- all lines that were read and the reading are stepped, and what the bot says is written as `Writes` says
 pub record DrivesAll (Writes : Sink → List ℕ → Sink → Type 0)
     (code_of : List ℕ → Call → Code) (may : List ℕ → Call → List Action → Type 0) (names : List (List ℕ)) (now : ℕ)
-    (old : Connection) (packets : List Outgoing) (new : Connection) : Type 0 where
+    (old : Connection) (packets : List Outgoing) (outcomes : List Outcome) (new : Connection) : Type 0 where
   pub bytes : List ℕ
   pub lines : List ReadLine
   pub text : List ℕ
   pub read : ReadsEnough old.source bytes new.source
   pub ends : Ends old.held bytes lines new.held
   pub makes : Makes code_of may names (course_at old.bot) (all_events lines now)
-      (record { bot = new.bot; packets = packets; text = text })
+      (record { bot = new.bot; packets = packets; text = text; outcomes = outcomes })
   pub writes : Writes old.sink text new.sink
 
 -- the stream failed as it was asked: all lines that were read are stepped, and nothing is written
 pub record DrivesLines (code_of : List ℕ → Call → Code) (may : List ℕ → Call → List Action → Type 0) (names : List (List ℕ))
-    (old : Connection) (packets : List Outgoing) (new : Connection) : Type 0 where
+    (old : Connection) (packets : List Outgoing) (outcomes : List Outcome) (new : Connection) : Type 0 where
   pub bytes : List ℕ
   pub lines : List ReadLine
   pub text : List ℕ
   pub read : ReadsUntil Fault 1000 old.source bytes new.source
   pub ends : Ends old.held bytes lines new.held
   pub makes : Makes code_of may names (course_at old.bot) (line_events lines)
-      (record { bot = new.bot; packets = packets; text = text })
+      (record { bot = new.bot; packets = packets; text = text; outcomes = outcomes })
   pub writes : new.sink ≡ old.sink
 
 -- memory ran out: of all steps the first are made, and nothing is written
 pub record DrivesFirst (code_of : List ℕ → Call → Code) (may : List ℕ → Call → List Action → Type 0) (names : List (List ℕ))
-    (now : ℕ) (old : Connection) (packets : List Outgoing) (new : Connection) : Type 0 where
+    (now : ℕ) (old : Connection) (packets : List Outgoing) (outcomes : List Outcome) (new : Connection) : Type 0 where
   pub bytes : List ℕ
   pub lost : List ℕ
   pub lines : List ReadLine
@@ -221,17 +235,17 @@ pub record DrivesFirst (code_of : List ℕ → Call → Code) (may : List ℕ �
   pub read : ReadsSome old.source (bytes ++ lost) new.source
   pub ends : Ends old.held bytes lines after
   pub makes : MakesFirst code_of may names (course_at old.bot) (all_events lines now)
-      (record { bot = new.bot; packets = packets; text = text })
+      (record { bot = new.bot; packets = packets; text = text; outcomes = outcomes })
   pub writes : new.sink ≡ old.sink
 
--- what a drive that ends so has done, and what it tells to be sent over the link
+-- what a drive that ends so has done, what it tells to be sent over the link, and what came of its steps
 abbrev pub DrivesTo : DriveEnd → (List ℕ → Call → Code) → (List ℕ → Call → List Action → Type 0) → List (List ℕ)
-    → ℕ → Connection → List Outgoing → Connection → Type 0
-DrivesTo Done code_of may names now old packets new = DrivesAll WritesOut code_of may names now old packets new
-DrivesTo Read code_of may names now old packets new = DrivesLines code_of may names old packets new
-DrivesTo Write code_of may names now old packets new = DrivesAll WritesFront code_of may names now old packets new
-DrivesTo NoMemory code_of may names now old packets new = DrivesFirst code_of may names now old packets new
+    → ℕ → Connection → List Outgoing → List Outcome → Connection → Type 0
+DrivesTo Done code_of may names now old packets outcomes new = DrivesAll WritesOut code_of may names now old packets outcomes new
+DrivesTo Read code_of may names now old packets outcomes new = DrivesLines code_of may names old packets outcomes new
+DrivesTo Write code_of may names now old packets outcomes new = DrivesAll WritesFront code_of may names now old packets outcomes new
+DrivesTo NoMemory code_of may names now old packets outcomes new = DrivesFirst code_of may names now old packets outcomes new
 
 abbrev pub Drives : (List ℕ → Call → Code) → (List ℕ → Call → List Action → Type 0) → List (List ℕ)
     → ℕ → Connection → DriveReport → Connection → Type 0
-Drives code_of may names now old report new = DrivesTo report.end code_of may names now old report.packets new
+Drives code_of may names now old report new = DrivesTo report.end code_of may names now old report.packets report.outcomes new

@@ -6,4 +6,9 @@ use Rattle.botdrive.specs.Driving.{Course, text_of}
 
 -- a bot, and what its outbox holds
 abbrev pub course_of : Bot → Outbox → Course
-course_of bot outbox = record { bot = bot; packets = outbox.packets.items; text = flat_map text_of outbox.lines.items }
+course_of bot outbox = record {
+  bot = bot;
+  packets = outbox.packets.items;
+  text = flat_map text_of outbox.lines.items;
+  outcomes = outbox.outcomes.items;
+}

@@ -7,6 +7,7 @@ ghost use Rattle.linkcalls.specs.Shapes.{AreGood};
 
 use crate::hearing::hear_all;
 use crate::outbox::{Outbox, step_clock};
+use crate::outcome::Outcomes;
 use crate::output::write_out;
 use botcore::Bot;
 use bytetext::{NoMemory, Seq};
@@ -39,6 +40,8 @@ pub struct DriveReport {
     pub end: DriveEnd,
     /// The packets of the steps that it made, in order, to be sent over the link: texts, so that no record is in them.
     pub packets: Outgoings,
+    /// What came of the steps that it made, in order: of each that has a note, a call or a fault.
+    pub outcomes: Outcomes,
 }
 
 /// Drives a bot over a connection to a server: takes in what has come, reads the clock, and writes what the bot says.
@@ -78,6 +81,7 @@ pub fn drive<P: Promise, D: Disk, B: Run, S: Stream>(
     DriveReport {
         end,
         packets: Seq::new(outbox.packets),
+        outcomes: Seq::new(outbox.outcomes),
     }
 }
 
@@ -94,7 +98,7 @@ fn drive_with<P: Promise, D: Disk, B: Run, S: Stream>(
     requires { course_of bot.old outbox.old ≡ course_at bot.old }
     ensures { DrivesTo result P.code_of P.may store.now now
         (record { bot = bot.old; held = lines.old; source = S.source stream.old; sink = S.sink stream.old })
-        outbox.new.packets.items
+        outbox.new.packets.items outbox.new.outcomes.items
         (record { bot = bot.new; held = lines.new; source = S.source stream.new; sink = S.sink stream.new }) }
 {
     match take_in(alloc, bot, store, lines, stream, now, outbox) {

@@ -9,6 +9,8 @@
 mod driving;
 mod hearing;
 mod outbox;
+mod outcome;
 mod output;
 
 pub use crate::driving::{DriveEnd, DriveReport, drive};
+pub use crate::outcome::{Outcome, Outcomes};

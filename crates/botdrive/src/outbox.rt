@@ -4,9 +4,10 @@ ghost use Rattle.std.specs.List.{flat_map};
 ghost use Rattle.linkcalls.specs.declared.TheConstants.{MAX_TEXTS as most_texts};
 ghost use Rattle.botcore.specs.declared.event.Event.TheVariants.{Line as line_event, Clock as clock_event};
 ghost use Rattle.botcore.specs.declared.report.End.TheVariants.{NoMemory as ends_no_memory};
-ghost use Rattle.botdrive.specs.Driving.{Makes, MakesFirst, line_events, text_of};
+ghost use Rattle.botdrive.specs.Driving.{Makes, MakesFirst, line_events, outcome_of, text_of, unless_silent};
 ghost use Rattle.botdrive.specs.Outboxes.{course_of};
 
+use crate::outcome::Outcome;
 use botcore::{Bot, End, Report};
 use bytetext::{NoMemory, Texts};
 use ircline::Line;
@@ -15,11 +16,13 @@ use procstore::{ProcStore, Promise, Run};
 use std::alloc::Global;
 use storage::Disk;
 
-// What steps have to send: packets over the link, and lines to the server, of each step that has some.
+// What steps have to send, packets over the link, and lines to the server of each step that has some; and what came of each
+// step that has something to tell.
 #[derive(Drop)]
 pub(crate) struct Outbox {
     pub(crate) packets: Vec<Outgoing>,
     pub(crate) lines: Vec<Texts>,
+    pub(crate) outcomes: Vec<Outcome>,
 }
 
 impl Outbox {
@@ -27,56 +30,74 @@ impl Outbox {
     pub(crate) fn new(alloc: Global) -> Outbox
         ensures packets { result.packets.items ≡ [] }
         ensures lines { result.lines.items ≡ [] }
+        ensures outcomes { result.outcomes.items ≡ [] }
     {
         Outbox {
             packets: Vec::new(alloc),
             lines: Vec::new(alloc),
+            outcomes: Vec::new(alloc),
         }
     }
 
-    // Makes room for what one step has to send.
+    // Makes room for what one step has to send and to tell.
     fn make_room(&mut self) -> Result<(), NoMemory>
         ensures packets { self.new.packets.items ≡ self.old.packets.items }
         ensures lines { self.new.lines.items ≡ self.old.lines.items }
+        ensures outcomes { self.new.outcomes.items ≡ self.old.outcomes.items }
         ensures packets_room { OnOk result (vec_len self.new.packets + most_texts ≤ vec_capacity self.new.packets) }
         ensures lines_room { OnOk result (vec_len self.new.lines < vec_capacity self.new.lines) }
+        ensures outcomes_room { OnOk result (vec_len self.new.outcomes < vec_capacity self.new.outcomes) }
     {
         self.packets.reserve(MAX_TEXTS)?;
         self.lines.reserve(1)?;
+        self.outcomes.reserve(1)?;
         Ok(())
     }
 
-    // Takes what a step has to send. Takes no memory.
-    fn put(&mut self, packets: Outgoings, lines: Texts)
+    // Takes what a step has to send and to tell. Takes no memory.
+    fn put(&mut self, packets: Outgoings, lines: Texts, outcome: Outcome)
         requires few { length packets ≤ most_texts }
         requires packets_room { vec_len self.old.packets + most_texts ≤ vec_capacity self.old.packets }
         requires lines_room { vec_len self.old.lines < vec_capacity self.old.lines }
+        requires outcomes_room { vec_len self.old.outcomes < vec_capacity self.old.outcomes }
         ensures packets { self.new.packets.items ≡ self.old.packets.items ++ packets }
         ensures text { flat_map text_of self.new.lines.items ≡ flat_map text_of self.old.lines.items ++ text_of lines }
+        ensures outcomes { self.new.outcomes.items ≡ self.old.outcomes.items ++ unless_silent outcome }
     {
         let mut packets = packets.into_vec();
         let _ = self.packets.append(&mut packets);
         if !lines.is_empty() {
             self.lines.push_reserved(lines);
         }
+        if !outcome.is_silent() {
+            self.outcomes.push_reserved(outcome);
+        }
     }
 
-    // Takes what a step has to send, unless it ran out of memory. Takes no memory.
+    // Takes what a step has to send and to tell, unless it ran out of memory. Takes no memory.
     fn put_report(&mut self, report: Report) -> Result<(), NoMemory>
         requires few { length report.packets ≤ most_texts }
         requires packets_room { vec_len self.old.packets + most_texts ≤ vec_capacity self.old.packets }
         requires lines_room { vec_len self.old.lines < vec_capacity self.old.lines }
+        requires outcomes_room { vec_len self.old.outcomes < vec_capacity self.old.outcomes }
         ensures made { OnOk result (report.end ≢ ends_no_memory) }
         ensures packets { OnOk result (self.new.packets.items ≡ self.old.packets.items ++ report.packets) }
         ensures text { OnOk result
             (flat_map text_of self.new.lines.items ≡ flat_map text_of self.old.lines.items ++ text_of report.lines) }
+        ensures outcomes { OnOk result
+            (self.new.outcomes.items ≡ self.old.outcomes.items ++ unless_silent (outcome_of report)) }
         ensures not_made { OnErr result (report.end ≡ ends_no_memory) }
         ensures same { OnErr result (self.new ≡ self.old) }
     {
         match report.end {
             End::NoMemory => Err(NoMemory),
             End::Done | End::Refused(_) => {
-                self.put(report.packets, report.lines);
+                let outcome = Outcome {
+                    note: report.note,
+                    calls: report.calls,
+                    faults: report.faults,
+                };
+                self.put(report.packets, report.lines, outcome);
                 Ok(())
             }
         }

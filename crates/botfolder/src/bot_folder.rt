@@ -3,7 +3,7 @@ ghost use Rattle.std.specs.Prelude.{IfOk};
 ghost use Rattle.botfolder.specs.Folders.{AreEmpty, AreReady, IsBegun, IsReady};
 
 use crate::begun::Begun;
-use crate::fault::{FolderError, FolderFault, folder_error};
+use crate::fault::{FolderError, FolderFault, folder_error, system_error};
 use crate::paths::{
     JOURNAL, JOURNAL_FIRST, JOURNAL_SECOND, LOCK, MAX_PATH, NEW, NEW_FIRST, NEW_SECOND, below,
     control_of,
@@ -110,7 +110,7 @@ impl BotFolder {
     /// Takes the socket away that a bot left which was killed, so that a new one can be made there.
     ///
     /// # Errors
-    /// `Unusable` where it can't be removed.
+    /// `Unusable` where it can't be removed; `NoMemory` where memory is refused.
     pub fn clear_control<R: Files>(&self, rt: &R) -> Result<(), FolderError> {
         remove(rt, self.control())
     }
@@ -128,7 +128,7 @@ fn keep_others_out<R: Files>(rt: &R, folder: &str) -> Result<(), FolderError> {
                 Err(Failure::Refused(FolderFault::Unusable))
             }
         }
-        Err(_) => Err(Failure::Refused(FolderFault::Unusable)),
+        Err(error) => Err(system_error(&error, FolderFault::Unusable)),
     }
 }
 
@@ -141,7 +141,7 @@ pub(crate) fn is_there<R: AllocGlobal + Files<File = File>>(
     let path = below(rt.alloc(), folder, name)?;
     match fs::exists(rt, path.as_str()) {
         Ok(is_there) => Ok(is_there),
-        Err(_) => Err(Failure::Refused(FolderFault::Unusable)),
+        Err(error) => Err(system_error(&error, FolderFault::Unusable)),
     }
 }
 
@@ -220,7 +220,7 @@ fn clear_new<R: AllocGlobal + Files<File = File>>(rt: &R, folder: &str) -> Resul
 }
 
 // Removes the file of this name, where there is one.
-fn remove_below<R: AllocGlobal + Files<File = File>>(
+pub(crate) fn remove_below<R: AllocGlobal + Files<File = File>>(
     rt: &R,
     folder: &str,
     name: &str,
@@ -235,7 +235,7 @@ fn remove<R: Files>(rt: &R, path: &str) -> Result<(), FolderError> {
         Ok(()) => Ok(()),
         Err(error) => match error.kind() {
             ErrorKind::NotFound => Ok(()),
-            _ => Err(Failure::Refused(FolderFault::Unusable)),
+            _ => Err(system_error(&error, FolderFault::Unusable)),
         },
     }
 }

@@ -1,6 +1,8 @@
 // Why a folder can't be used.
 use bytetext::Failure;
 use disks::{FileDiskError, FileFault};
+use std::io;
+use std::io::ErrorKind;
 use thiserror::Error;
 
 /// Why a folder can't be a bot's. Each text goes on from the folder's name: `/var/lib/eggnet/egg1 is in use: ..`.
@@ -40,6 +42,14 @@ pub(crate) fn folder_error(error: FileDiskError, missing: FolderFault) -> Folder
     match error {
         Failure::NoMemory => Failure::NoMemory,
         Failure::Refused(fault) => Failure::Refused(folder_fault(fault, missing)),
+    }
+}
+
+// What an error of the system means of the folder: this, where it is not the want of memory.
+pub(crate) fn system_error(error: &io::Error, fault: FolderFault) -> FolderError {
+    match error.kind() {
+        ErrorKind::OutOfMemory => Failure::NoMemory,
+        _ => Failure::Refused(fault),
     }
 }
 

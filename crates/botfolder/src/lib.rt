@@ -5,6 +5,7 @@
 //!   lock            an empty file, locked while a bot runs on the folder
 //!   journal/        first and second, the two disks of the bot's journal
 //!   new/            the same while they are made
+//!   net             the number of the bot's net: 16 digits and a line feed
 //!   control         a socket, at which the running bot takes commands
 //! ```
 //!
@@ -34,11 +35,13 @@
 mod begun;
 mod bot_folder;
 mod fault;
+mod net_file;
 mod paths;
 mod stopped;
 
 pub use crate::begun::Begun;
 pub use crate::bot_folder::BotFolder;
 pub use crate::fault::{FolderError, FolderFault};
+pub use crate::net_file::NET_DIGITS;
 pub use crate::paths::{MAX_PATH, control_of};
 pub use crate::stopped::{Stopped, read_stopped};

@@ -23,6 +23,11 @@ pub(crate) const NEW_FIRST: &str = "new/first";
 
 pub(crate) const NEW_SECOND: &str = "new/second";
 
+// The file of the net's number, and the same while it is made.
+pub(crate) const NET: &str = "net";
+
+pub(crate) const NEW_NET: &str = "net.new";
+
 // The path of what has this name in a folder.
 pub(crate) fn below(alloc: Global, folder: &str, name: &str) -> Result<String, NoMemory> {
     Ok(format!(in alloc; "{folder}/{name}")?)

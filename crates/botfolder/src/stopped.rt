@@ -3,7 +3,7 @@ ghost use Rattle.std.specs.Prelude.{◌≡◌, [], IfOk};
 ghost use Rattle.botfolder.specs.Folders.{AreCopies};
 
 use crate::bot_folder::is_there;
-use crate::fault::{FolderError, FolderFault};
+use crate::fault::{FolderError, FolderFault, system_error};
 use crate::paths::{JOURNAL, JOURNAL_FIRST, JOURNAL_SECOND, below};
 use bytetext::Failure;
 use disks::MemDisk;
@@ -83,8 +83,7 @@ fn copy_of(alloc: Global, file: &File) -> Result<MemDisk, FolderError>
 // Why a file of a journal can't be read.
 fn error_of(error: &io::Error) -> FolderError {
     match error.kind() {
-        ErrorKind::OutOfMemory => Failure::NoMemory,
         ErrorKind::NotFound => Failure::Refused(FolderFault::LacksFile),
-        _ => Failure::Refused(FolderFault::Unusable),
+        _ => system_error(error, FolderFault::Unusable),
     }
 }

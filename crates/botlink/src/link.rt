@@ -34,7 +34,8 @@ impl<D: Disk> Model for BotLink<D> {
 }
 
 impl<D: Disk> BotLink<D> {
-    ghost use Rattle.std.specs.Prelude.{◌≡◌, ◌≤◌, ◌+◌, length};
+    ghost use Rattle.std.specs.Prelude.{◌≡◌, ◌≢◌, ◌≤◌, ◌+◌, length, Err};
+    ghost use Rattle.bytetext.specs.declared.failure.Failure.TheVariants.{NoMemory as no_memory};
     ghost use Rattle.storage.specs.State.{IsSettled};
     ghost use Rattle.protocol.specs.Network.{Pump, Compact};
     ghost use Rattle.linknet.specs.Ends.{end_version, end_records, end_is_down, end_asks};
@@ -81,8 +82,8 @@ impl<D: Disk> BotLink<D> {
     ///
     /// # Errors
     /// With the disks, which hold what they held: `DiskFault` where a read failed; `NotAJournal` where the disks hold no
-    /// journal, or one that no bot of this number writes in such a net; `NoMemory` where room for what they hold is
-    /// refused.
+    /// journal, or one that no bot of this number writes in such a net; `NoMemory` where room for what they hold, or for
+    /// the asks, is refused.
     pub fn open(
         alloc: Global,
         first: D,
@@ -166,14 +167,14 @@ impl<D: Disk> BotLink<D> {
         }
     }
 
-    /// Lets a change wait for a pump: `Queued`, and nothing to send.
+    /// Lets a change wait for a pump: `Queued`, and nothing to send. Takes no memory.
     ///
     /// # Errors
-    /// `Down`, then `BadChange` for a bad shape, then `AsksFull` where 64 asks wait, then `NoMemory`; each leaves the bot
-    /// as it was.
+    /// `Down`, then `BadChange` for a bad shape, then `AsksFull` where 64 asks wait; each leaves the bot as it was.
     pub fn ask(&mut self, alloc: Global, change: Change) -> Result<Answer, LinkError>
         ensures row { Asks self.old change result self.new }
         ensures packets { GoOut (MAX_LEAVES + 1) result }
+        ensures memory { result ≢ Err no_memory }
     {
         match &mut self.end {
             Ends::Hub(hub) => hub.ask(alloc, change),

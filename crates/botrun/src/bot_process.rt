@@ -1,22 +1,29 @@
 // A bot's process, from its start to its end.
 ghost use Rattle.std.specs.Prelude.{◌<◌, IfOk, length};
 ghost use Rattle.bytetext.specs.declared.moment.TheConstants.{MOMENTS_END};
+ghost use Rattle.botrun.specs.Stations.{IsKnownWhereWanted, IsLinkedAs};
 
 use crate::checking::check;
 use crate::ending::{RunError, of_folder};
 use crate::entry::Entry;
 use crate::log::log;
+use crate::netting::{is_out, keep_net, links_of, secret_of};
 use crate::operators::Operators;
+use crate::others::Others;
 use crate::process::{Process, Turned};
 use crate::starting::{bind_all, bot_of, folder_of};
 use crate::uplink::Uplink;
 use botfolder::BotFolder;
+use handshake::Key;
 use ircline::LineReader;
 use procstore::{ProcStore, Promise, Run};
 use settings::Settings;
 use sockets::Watch;
+use std::alloc::Global;
 use std::fs::File;
+use std::io::ErrorKind;
 use std::net::Net;
+use std::random::RandomSource;
 use std::rt::Files;
 use std::time::Clock;
 use timeline::Timeline;
@@ -27,23 +34,26 @@ const EVENTS: usize = 64;
 /// Runs the bot of these settings until an operator says that it is to end. Its binds call the procs of this store.
 ///
 /// # Errors
-/// What [`check`] answers; then `Folder`, `Config`, `OtherJournal` and `Control` as they say, before anything is done.
-/// Later `DiskFailed` and `System` as they say, and `NoMemory` where a growth is refused. What was told as accepted was
-/// journaled before.
+/// What [`check`] answers, then `Secret`, before anything is opened. Then `Folder`, `System`, `Config`, `OtherJournal`,
+/// `NoNet`, `Listen` and `Control` as they say, before anybody is connected or let in. Later `DiskFailed` and `System` as
+/// they say, and `Folder` where a leaf can't keep the number of its net. `NoMemory` at any time where a growth is
+/// refused. What was told as accepted was journaled before, at the hub.
 pub fn run<R, P: Promise, B: Run>(
     rt: &R,
     store: &ProcStore<P, B>,
     settings: &Settings,
 ) -> Result<(), RunError>
 where
-    R: AllocGlobal + Net + Clock + Files<File = File> + Print,
+    R: AllocGlobal + Net + Clock + Files<File = File> + Print + RandomSource,
 {
     check(rt.alloc(), store, settings)?;
+    let key = secret_of(rt, settings)?;
     let folder = folder_of(rt, settings)?;
     let mut watch = watch_of(rt)?;
-    let mut process = begin(rt, &watch, &folder, settings)?;
+    let mut process = begin(rt, &watch, &folder, settings, key)?;
     bind_all(rt.alloc(), &mut process.bot, store, settings)?;
-    go_on(rt, &mut watch, &mut process, store, settings)?;
+    look_back(rt.alloc(), &mut process, store)?;
+    go_on(rt, &mut watch, &folder, &mut process, store, settings)?;
     let _gone = folder.clear_control(rt);
     Ok(())
 }
@@ -52,7 +62,10 @@ where
 fn watch_of<R: AllocGlobal + Net>(rt: &R) -> Result<Watch, RunError> {
     match Watch::new(rt, EVENTS) {
         Ok(watch) => Ok(watch),
-        Err(_) => Err(RunError::System),
+        Err(error) => match error.kind() {
+            ErrorKind::OutOfMemory => Err(RunError::NoMemory),
+            _ => Err(RunError::System),
+        },
     }
 }
 
@@ -62,18 +75,23 @@ fn begin<R>(
     watch: &Watch,
     folder: &BotFolder,
     settings: &Settings,
+    key: Option<Key>,
 ) -> Result<Process, RunError>
 where
-    R: AllocGlobal + Net + Files<File = File>,
+    R: AllocGlobal + Net + Files<File = File> + RandomSource,
     requires some { 0 < length settings.now.servers }
+    requires known { IsKnownWhereWanted settings.now.station key }
+    ensures station { IfOk result (λ process. IsLinkedAs settings.now.station process.others.links) }
 {
     let bot = bot_of(rt, folder, settings)?;
+    let links = links_of(rt, watch.registry(), folder, settings, key, bot.version())?;
     let operators = door_of(rt, watch, folder)?;
     Ok(Process {
         bot,
         lines: LineReader::new(rt.alloc()),
         uplink: Uplink::new(rt.alloc(), settings)?,
         operators,
+        others: Others::new(rt.alloc(), links),
         base: 0,
         until: None,
     })
@@ -93,16 +111,43 @@ where
     }
 }
 
+// A change of an earlier run that is out is answered before all that are asked for in this one.
+fn look_back<P: Promise, B: Run>(
+    alloc: Global,
+    process: &mut Process,
+    store: &ProcStore<P, B>,
+) -> Result<(), RunError> {
+    if process.others.links.is_leaf() && is_out(alloc, &mut process.bot, store)? {
+        process.others.asks.put(None)?;
+    }
+    Ok(())
+}
+
+// Where a leaf has learned of which net it is, keeps that before it goes on.
+fn keep_new_net<R: AllocGlobal + Print + Files<File = File>>(
+    rt: &R,
+    folder: &BotFolder,
+    process: &mut Process,
+    now: u64,
+) -> Result<(), RunError> {
+    if let Some(net) = process.others.links.to_keep() {
+        keep_net(rt, folder, &net)?;
+        process.others.links.keep(rt, net, now);
+    }
+    Ok(())
+}
+
 // Makes turns until it is to end.
 fn go_on<R, P: Promise, B: Run>(
     rt: &R,
     watch: &mut Watch,
+    folder: &BotFolder,
     process: &mut Process,
     store: &ProcStore<P, B>,
     settings: &Settings,
 ) -> Result<(), RunError>
 where
-    R: AllocGlobal + Net + Clock + Print,
+    R: AllocGlobal + Net + Clock + Files<File = File> + Print + RandomSource,
 {
     let mut timeline = timeline_of(rt)?;
     let mut turned = Turned::Moved;
@@ -113,7 +158,9 @@ where
     );
     for _turn in 0..u64::MAX {
         let now = wait(rt, watch, &mut timeline, turned)?;
+        process.others.links.wake(watch.tokens());
         turned = process.turn(rt, watch.registry(), store, settings, now)?;
+        keep_new_net(rt, folder, process, now)?;
         if turned == Turned::Ended {
             log(rt, now, &Entry::Ended);
             return Ok(());

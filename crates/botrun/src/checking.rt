@@ -13,7 +13,7 @@ use std::alloc::Global;
 /// Whether a bot of these settings can run with these procs, as far as it can be said before anything is opened.
 ///
 /// # Errors
-/// `NoServer`, `Others` and `Account` as they say; then the first bind that is refused, by `BindKind`, `BindProc` or
+/// `NoServer` and `Account` as they say; then the first bind that is refused, by `BindKind`, `BindProc` or
 /// `Bind`; `NoMemory` where a growth is refused.
 pub fn check<P: Promise, B: Run>(
     alloc: Global,
@@ -21,15 +21,11 @@ pub fn check<P: Promise, B: Run>(
     settings: &Settings,
 ) -> Result<(), RunError>
     ensures some { OnOk result (0 < length settings.now.servers) }
-    // It is a hub without leaves, and authenticates as nobody.
-    ensures alone { OnOk result (settings.now.station.leaves ≡ 0) }
+    // It authenticates as nobody.
     ensures nobody { OnOk result (settings.now.account ≡ None) }
 {
     if settings.servers.is_empty() {
         return Err(RunError::NoServer);
-    }
-    if settings.station.leaves > 0 {
-        return Err(RunError::Others);
     }
     if settings.account.is_some() {
         return Err(RunError::Account);

@@ -5,6 +5,7 @@ ghost use Rattle.botrun.specs.Ending.{status_of};
 use bindtable::BindFault;
 use botcore::{BotError, BotFault};
 use botfolder::{FolderError, FolderFault};
+use botlinks::SecretFault;
 use bytejournal::JournalFault;
 use bytetext::{Failure, NoMemory};
 use sockets::DoorFault;
@@ -16,8 +17,6 @@ use std::fmt::Display;
 /// Why a bot's process does not run, or ends before it is told to. Each text goes on from its [`Subject`].
 #[derive(Clone, Copy, Debug, PartialEq, Eq)]
 pub enum RunError {
-    /// The bot is one of several: such a one does not run as a process.
-    Others,
     /// It has a line `account`.
     Account,
     /// It has no server.
@@ -43,16 +42,23 @@ pub enum RunError {
     Config,
     /// The folder can't be the bot's.
     Folder(FolderFault),
+    /// The file of the line `secret` has none.
+    Secret(SecretFault),
+    /// The folder holds a journal, and not the number of the bot's net.
+    NoNet,
+    /// The hub can't listen at its address.
+    Listen(DoorFault),
     /// The folder holds another bot's journal, or none.
     OtherJournal,
     /// Nobody can be listened to at the socket for operators.
     Control(DoorFault),
-    /// A disk failed while the journal was made, opened or written.
+    /// A disk failed while the journal was written. Where one fails before, as it is made or opened, that is the
+    /// folder's fault `DiskFails`.
     DiskFailed {
         /// The change that may count or not: one above the version.
         change: u64,
     },
-    /// The system does not wait for sockets, or tells no time.
+    /// The system does not wait for sockets, tells no time, or draws no number for a net.
     System,
     /// A growth was refused.
     NoMemory,
@@ -72,21 +78,24 @@ pub enum Subject {
 }
 
 impl RunError {
-    /// The status with which a program ends: 1 for a configuration or another bot's journal, 3 for what the system, a
-    /// folder, a socket or a disk refuses, 4 for want of memory.
+    /// The status with which a program ends: 1 for a configuration, the file of its secret, another bot's journal, or
+    /// one without the number of its net, 3 for what the system, a folder, a socket or a disk refuses, 4 for want of
+    /// memory.
     pub fn status(self) -> u8
         ensures { result ≡ status_of self }
     {
         match self {
-            RunError::Others
-            | RunError::Account
+            RunError::Account
             | RunError::NoServer
             | RunError::BindKind { line: _ }
             | RunError::BindProc { line: _ }
             | RunError::Bind { line: _, fault: _ }
             | RunError::Config
+            | RunError::Secret(_)
+            | RunError::NoNet
             | RunError::OtherJournal => 1,
             RunError::Folder(_)
+            | RunError::Listen(_)
             | RunError::Control(_)
             | RunError::DiskFailed { change: _ }
             | RunError::System => 3,
@@ -97,16 +106,18 @@ impl RunError {
     /// What its text goes on from.
     pub fn subject(self) -> Subject {
         match self {
-            RunError::Others
-            | RunError::Account
+            RunError::Account
             | RunError::NoServer
             | RunError::BindKind { line: _ }
             | RunError::BindProc { line: _ }
             | RunError::Bind { line: _, fault: _ }
-            | RunError::Config => Subject::File,
-            RunError::OtherJournal | RunError::Folder(_) | RunError::DiskFailed { change: _ } => {
-                Subject::Folder
-            }
+            | RunError::Config
+            | RunError::Secret(_)
+            | RunError::Listen(_) => Subject::File,
+            RunError::OtherJournal
+            | RunError::NoNet
+            | RunError::Folder(_)
+            | RunError::DiskFailed { change: _ } => { Subject::Folder }
             RunError::Control(_) => Subject::Control,
             RunError::System | RunError::NoMemory => Subject::Nothing,
         }
@@ -124,14 +135,16 @@ impl Display for RunError {
             }
             RunError::Folder(fault) => write!(f, "{fault}"),
             RunError::Control(fault) => write!(f, "{fault}"),
+            RunError::Secret(fault) => write!(f, "the file of the line secret {fault}"),
+            RunError::Listen(fault) => write!(f, "the address of the line listen {fault}"),
             RunError::DiskFailed { change } => write!(
                 f,
                 "lies on a disk that failed: free space or mend it, then run again; change {change} may count or not"
             ),
-            RunError::Others
-            | RunError::Account
+            RunError::Account
             | RunError::NoServer
             | RunError::Config
+            | RunError::NoNet
             | RunError::OtherJournal
             | RunError::System
             | RunError::NoMemory => write!(f, "{}", sentence(*self)),
@@ -151,21 +164,23 @@ pub(crate) const PROC: &str = "say a proc that this program has";
 // The text of an error without parts; empty for the others.
 fn sentence(error: RunError) -> &'static str {
     match error {
-        RunError::Others =>
-            "take the line bot out, and hub, listen and secret: a bot of several does not run as a process",
         RunError::Account =>
             "take the line account out, and say a line as in perform PRIVMSG NickServ :IDENTIFY password",
         RunError::NoServer => "a bot needs a line: server HOST PORT",
         RunError::Config => "mend the lines bot, nick and channel: one is out of its range",
         RunError::OtherJournal =>
             "holds the journal of another bot, or none that can be read: give the folder of this bot",
+        RunError::NoNet =>
+            "holds a journal and not the number of its net: bring back the file net, 16 digits and a line feed",
         RunError::System =>
-            "the system waits for no sockets or tells no time: raise its limit of open files, and try again",
+            "the system waits for no sockets, tells no time or draws no number: raise its limit of open files, and try again",
         RunError::NoMemory => "out of memory: free some and try again",
         RunError::BindKind { line: _ }
         | RunError::BindProc { line: _ }
         | RunError::Bind { line: _, fault: _ }
         | RunError::Folder(_)
+        | RunError::Secret(_)
+        | RunError::Listen(_)
         | RunError::Control(_)
         | RunError::DiskFailed { change: _ } => "",
     }

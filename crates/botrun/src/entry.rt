@@ -51,6 +51,8 @@ pub(crate) enum Entry<'a> {
     LeftOut(&'static str, &'a [u8]),
     // An operator asks for this.
     Asked(&'a [u8]),
+    // An operator that was silent is let go, since another waits.
+    GaveWay,
     // The journal was written anew.
     Compacted,
     // The bot ends.
@@ -110,6 +112,7 @@ impl Display for Entry<'_> {
             Entry::NotDone(code) => write!(f, "refused: {code}"),
             Entry::LeftOut(word, proc) => write!(f, "left out: {word} {}", Shown(proc)),
             Entry::Asked(line) => write!(f, "operator: {}", Shown(line)),
+            Entry::GaveWay => write!(f, "operator gone: it was silent, and another waited"),
             Entry::Compacted => write!(f, "journal written anew"),
             Entry::Ended => write!(f, "ended"),
         }

@@ -1,4 +1,4 @@
-//! One bot as a process that runs until it is told to end.
+//! A bot as a process that runs until it is told to end: one that is alone, a hub with its leaves, or a leaf.
 //!
 //! [`run`] takes the bot's folder, finds or makes its journal, connects to the servers of its configuration in turn,
 //! and listens for operators at the socket `control` in the folder. Then it goes round: it waits for sockets, reads the
@@ -10,6 +10,11 @@
 //! where the bot was not let in, and what an operator has it say. Each line to a server has 1 to 510 bytes: a
 //! [`ServerWire`] is told nothing else.
 //!
+//! A hub and its leaves are processes on any machines, connected over TCP ([`botlinks`]). A hub draws the number of its
+//! net where it is made, before its journal gets its name, and a leaf keeps it at its first handshake. A change that is
+//! asked for at a leaf is `queued`; once the hub has answered, the operator is told `accepted N` or `refused ..` on the
+//! same connection. Changes are answered in the order in which they were asked for, those of procs among them.
+//!
 //! The log goes to standard output, a line an event: seconds since 1970-01-01 UTC, and what happened. That it can't be
 //! written ends nothing.
 //!
@@ -20,7 +25,9 @@
 //! ```
 #![tactic(auto)]
 
+mod answering;
 mod answers;
+mod asks;
 mod bot_process;
 mod channels;
 mod checking;
@@ -30,8 +37,10 @@ mod entry;
 mod hearing;
 mod keeping;
 mod log;
+mod netting;
 mod obeying;
 mod operators;
+mod others;
 mod outcome;
 mod own_lines;
 mod passing;

@@ -26,7 +26,9 @@ impl Process {
         let mut obeyed = false;
         for place in 0..self.operators.len() {
             if let Some(line) = self.operators.take_command(rt.alloc(), place)? {
+                self.others.asks.asker = self.operators.number(place);
                 let answer = self.obey_line(rt, store, settings, line.as_slice(), now)?;
+                self.others.asks.asker = None;
                 self.operators.tell(place, answer.as_slice())?;
                 obeyed = true;
             }

@@ -1,6 +1,9 @@
 // Operators, at the socket in the bot's folder.
-ghost use Rattle.std.specs.Prelude.{◌<◌, length, IfSome};
+ghost use Rattle.std.specs.Prelude.{◌<◌, length, vec_len, IfSome};
 
+use crate::asks::Asks;
+use crate::entry::Entry;
+use crate::log::log;
 use bytetext::NoMemory;
 use control::MAX_COMMAND;
 use sockets::{DoorFault, Registry, UnixDoor, UnixSocket};
@@ -10,7 +13,9 @@ use std::rt::Files;
 use streams::{Given, Taken};
 use wire::{Bounds, Wire};
 
-/// The most operators at once. Others wait until one is gone.
+/// The most operators at once. Where another waits, the one that has said nothing for the longest time gives way, if
+/// that is 30 seconds at least and nothing waits for it: no command of its own, no byte of an answer, and no change that
+/// the hub has still to answer. Where there is none, the other waits.
 pub const MAX_OPERATORS: usize = 8;
 
 /// The most bytes of answers that wait for an operator; one for whom more would wait is let go.
@@ -18,6 +23,9 @@ pub const MAX_UNSENT: usize = 16_777_216;
 
 // Above so many bytes of answers that wait no more commands of an operator are taken.
 const SLOW: usize = 65_536;
+
+// How long one has said nothing that may have to give way, in seconds.
+const SILENCE: u64 = 30;
 
 // Under which the door is watched, and who comes in by it.
 const DOOR: usize = 2;
@@ -35,6 +43,10 @@ struct Operator {
     wire: Wire<UnixSocket>,
     // Whether it is let go once it has all answers.
     is_last: bool,
+    // Which of all that have come it is.
+    number: u64,
+    // The second at which it last said something, or came.
+    spoke: u64,
 }
 
 // By hand, so that this is proved once, and not in each function in which an operator ends.
@@ -43,6 +55,8 @@ impl Drop for Operator {
         let Operator {
             wire: _,
             is_last: _,
+            number: _,
+            spoke: _,
         } = self;
     }
 }
@@ -51,12 +65,18 @@ impl Drop for Operator {
 pub(crate) struct Operators {
     door: UnixDoor,
     seats: Vec<Operator>,
+    // How many have come.
+    count: u64,
 }
 
 // By hand, so that this is proved once, and not in each function in which operators end.
 impl Drop for Operators {
     fn drop(self) {
-        let Operators { door: _, seats: _ } = self;
+        let Operators {
+            door: _,
+            seats: _,
+            count: _,
+        } = self;
     }
 }
 
@@ -71,25 +91,74 @@ impl Operators {
             Ok(door) => Ok(Operators {
                 door,
                 seats: Vec::new(rt.alloc()),
+                count: 0,
             }),
             Err(fault) => Err(fault),
         }
     }
 
-    // Lets in who waits, as long as there are places.
-    pub(crate) fn let_in(&mut self, alloc: Global, registry: &Registry) -> Result<(), NoMemory> {
+    // Lets in who waits, as long as there are places or one gives way.
+    pub(crate) fn let_in<R: AllocGlobal + Print>(
+        &mut self,
+        rt: &R,
+        registry: &Registry,
+        asks: &Asks,
+        now: u64,
+    ) -> Result<(), NoMemory> {
         for _operator in 0..MAX_OPERATORS {
-            if self.seats.len() >= MAX_OPERATORS {
+            if self.is_full() && self.silent(asks, now).is_none() {
                 return Ok(());
             }
-            match self.door.let_in(registry, TOKEN) {
-                Some(socket) => self.seats.push(Operator {
-                    wire: Wire::new(alloc, socket, BOUNDS),
-                    is_last: false,
-                })?,
-                None => return Ok(()),
+            let Some(socket) = self.door.let_in(registry, TOKEN) else {
+                return Ok(());
+            };
+            self.make_way(rt, asks, now);
+            self.seat(rt.alloc(), socket, now)?;
+        }
+        Ok(())
+    }
+
+    // Whether all places are taken.
+    fn is_full(&self) -> bool {
+        self.seats.len() >= MAX_OPERATORS
+    }
+
+    // The place of the one that gives way where all places are taken, if one does.
+    fn silent(&self, asks: &Asks, now: u64) -> Option<usize>
+        ensures within { IfSome result (λ place. place < vec_len self.now.seats) }
+    {
+        let mut found = None;
+        let mut longest = SILENCE - 1;
+        for (place, seat) in self.seats.iter().enumerate() {
+            let silence = now.saturating_sub(seat.spoke);
+            if silence > longest && seat.is_idle() && !asks.holds(seat.number) {
+                found = Some(place);
+                longest = silence;
             }
         }
+        found
+    }
+
+    // Where all places are taken, lets go the one that gives way.
+    fn make_way<R: Print>(&mut self, rt: &R, asks: &Asks, now: u64) {
+        if !self.is_full() {
+            return;
+        }
+        if let Some(place) = self.silent(asks, now) {
+            let _gone = self.seats.remove(place);
+            log(rt, now, &Entry::GaveWay);
+        }
+    }
+
+    // One more comes in.
+    fn seat(&mut self, alloc: Global, socket: UnixSocket, now: u64) -> Result<(), NoMemory> {
+        self.seats.push(Operator {
+            wire: Wire::new(alloc, socket, BOUNDS),
+            is_last: false,
+            number: self.count,
+            spoke: now,
+        })?;
+        self.count = self.count.wrapping_add(1);
         Ok(())
     }
 
@@ -99,10 +168,10 @@ impl Operators {
     }
 
     // Hears each. Whether a byte came.
-    pub(crate) fn read(&mut self) -> Result<bool, NoMemory> {
+    pub(crate) fn read(&mut self, now: u64) -> Result<bool, NoMemory> {
         let mut came = false;
         for seat in self.seats.iter_mut() {
-            if seat.read()? {
+            if seat.read(now)? {
                 came = true;
             }
         }
@@ -127,6 +196,21 @@ impl Operators {
             Some(seat) => seat.tell(answer),
             None => Ok(()),
         }
+    }
+
+    // The number of the one at a place.
+    pub(crate) fn number(&self, place: usize) -> Option<u64> {
+        Some(self.seats.get(place)?.number)
+    }
+
+    // Leaves an answer for the one of this number, with the line that ends it, if it is still there.
+    pub(crate) fn tell_one(&mut self, number: u64, answer: &[u8]) -> Result<(), NoMemory> {
+        for seat in self.seats.iter_mut() {
+            if seat.number == number {
+                return seat.tell(answer);
+            }
+        }
+        Ok(())
     }
 
     // Whether all have their answers.
@@ -158,14 +242,22 @@ impl Operators {
 
 impl Operator {
     // Hears what has come. Whether a byte came.
-    fn read(&mut self) -> Result<bool, NoMemory> {
+    fn read(&mut self, now: u64) -> Result<bool, NoMemory> {
         if self.wire.is_over || self.is_last || self.wire.is_full() {
             return Ok(false);
         }
         match self.wire.read()? {
-            Given::Bytes(_) => Ok(true),
+            Given::Bytes(_) => {
+                self.spoke = now;
+                Ok(true)
+            }
             Given::End | Given::Stall | Given::Fault => Ok(false),
         }
+    }
+
+    // Whether no command of its own waits, and no byte of an answer.
+    fn is_idle(&self) -> bool {
+        self.wire.unsent.is_empty() && line_end(self.wire.heard.as_slice()).is_none()
     }
 
     // The first line that was heard whole. One that does not end is cut where it is too long, and the last.

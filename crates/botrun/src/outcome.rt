@@ -45,7 +45,7 @@ impl Outcome {
 }
 
 // What a step tells of a change.
-fn told_by(report: &Report) -> Outcome
+pub(crate) fn told_by(report: &Report) -> Outcome
     ensures { result ≡ told_by report.now }
 {
     match report.end {

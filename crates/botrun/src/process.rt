@@ -4,6 +4,7 @@ ghost use Rattle.bytetext.specs.declared.moment.TheConstants.{MOMENTS_END};
 
 use crate::ending::RunError;
 use crate::operators::Operators;
+use crate::others::Others;
 use crate::uplink::Uplink;
 use botcore::Bot;
 use bytetext::NoMemory;
@@ -13,6 +14,7 @@ use procstore::{ProcStore, Promise, Run};
 use settings::Settings;
 use sockets::Registry;
 use std::net::Net;
+use std::random::RandomSource;
 
 // A bot, its connections, and how far it has come.
 pub(crate) struct Process {
@@ -20,6 +22,7 @@ pub(crate) struct Process {
     pub(crate) lines: LineReader,
     pub(crate) uplink: Uplink,
     pub(crate) operators: Operators,
+    pub(crate) others: Others,
     // The version at which the journal was last written anew; 0 where that is not known.
     pub(crate) base: u32,
     // The second until which it waits for who has still to be told something, once it is to end.
@@ -34,6 +37,7 @@ impl Drop for Process {
             lines: _,
             uplink: _,
             operators: _,
+            others: _,
             base: _,
             until: _,
         } = self;
@@ -53,7 +57,7 @@ pub(crate) enum Turned {
 
 impl Process {
     // Makes a turn: connects what is lost and due, lets in who waits, reads, steps, writes, and lets go who is over.
-    pub(crate) fn turn<R: AllocGlobal + Net + Print, P: Promise, B: Run>(
+    pub(crate) fn turn<R: AllocGlobal + Net + Print + RandomSource, P: Promise, B: Run>(
         &mut self,
         rt: &R,
         registry: &Registry,
@@ -76,7 +80,7 @@ impl Process {
     }
 
     // Connects, lets in, reads and steps. Whether there may be more at once.
-    fn take_in<R: AllocGlobal + Net + Print, P: Promise, B: Run>(
+    fn take_in<R: AllocGlobal + Net + Print + RandomSource, P: Promise, B: Run>(
         &mut self,
         rt: &R,
         registry: &Registry,
@@ -87,10 +91,10 @@ impl Process {
         requires moment { now < MOMENTS_END }
     {
         let began = self.connect(rt, registry, settings, now)?;
-        let came = self.read(now)?;
-        self.hear(rt, store, settings, began, now)?;
+        let came = self.read(rt, now)?;
+        let packets = self.hear(rt, store, settings, began, now)?;
         let obeyed = self.obey_all(rt, store, settings, now)?;
-        Ok(began || came || obeyed)
+        Ok(began || came || packets || obeyed)
     }
 
     // Looks after the connection to the server, writes, and lets go who is over. Whether a byte went.
@@ -105,12 +109,13 @@ impl Process {
         self.uplink.keep(rt, settings, now)?;
         let sent = self.send();
         self.uplink.let_go(rt, now);
+        self.others.links.let_go(rt, now);
         self.stay_up()?;
         Ok(sent)
     }
 
     // Connects what is lost and due, unless it is to end, and lets in who waits. Whether a server is being connected.
-    fn connect<R: AllocGlobal + Net + Print>(
+    fn connect<R: AllocGlobal + Net + Print + RandomSource>(
         &mut self,
         rt: &R,
         registry: &Registry,
@@ -119,25 +124,28 @@ impl Process {
     ) -> Result<bool, NoMemory>
         requires moment { now < MOMENTS_END }
     {
-        self.operators.let_in(rt.alloc(), registry)?;
+        self.operators.let_in(rt, registry, &self.others.asks, now)?;
         if self.until.is_some() {
             return Ok(false);
         }
+        let _linking = self.others.links.connect(rt, registry, settings, now)?;
         self.uplink.connect(rt, registry, settings, now)
     }
 
     // Hears each. Whether a byte came.
-    fn read(&mut self, now: u64) -> Result<bool, NoMemory> {
+    fn read<R: AllocGlobal + Print>(&mut self, rt: &R, now: u64) -> Result<bool, NoMemory> {
         let said = self.uplink.read(now)?;
-        let asked = self.operators.read()?;
-        Ok(said || asked)
+        let asked = self.operators.read(now)?;
+        let linked = self.others.links.read(rt, now)?;
+        Ok(said || asked || linked)
     }
 
     // Offers each what is unsent. Whether one took a byte.
     fn send(&mut self) -> bool {
         let server = self.uplink.send();
         let operators = self.operators.send();
-        server || operators
+        let links = self.others.links.send();
+        server || operators || links
     }
 
     // A bot whose disk failed does not go on: its journal tells what counts when it is opened again.

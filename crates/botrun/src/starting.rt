@@ -3,6 +3,7 @@ ghost use Rattle.botfolder.specs.Folders.{AreReady};
 
 use crate::checking::{new_bind, of_line};
 use crate::ending::{RunError, of_bot, of_folder};
+use crate::netting::begin_net;
 use botcore::{Bot, Config, End, Event, Refusal};
 use botfolder::{Begun, BotFolder, FolderFault};
 use bytetext::{NoMemory, TryCopy};
@@ -11,6 +12,7 @@ use procstore::{ProcStore, Promise, Run};
 use settings::{BindLine, Settings};
 use std::alloc::Global;
 use std::fs::File;
+use std::random::RandomSource;
 use std::rt::Files;
 use std::str;
 
@@ -29,7 +31,7 @@ pub(crate) fn folder_of<R: AllocGlobal + Files<File = File>>(
 }
 
 // The bot whose journal a folder holds, which is made where there is none.
-pub(crate) fn bot_of<R: AllocGlobal + Files<File = File>>(
+pub(crate) fn bot_of<R: AllocGlobal + Files<File = File> + RandomSource>(
     rt: &R,
     folder: &BotFolder,
     settings: &Settings,
@@ -37,7 +39,10 @@ pub(crate) fn bot_of<R: AllocGlobal + Files<File = File>>(
     let config = config_of(rt.alloc(), settings)?;
     match folder.begin(rt) {
         Ok(Begun::Found(disks)) => found(rt.alloc(), config, disks),
-        Ok(Begun::Empty(disks)) => made(rt, folder, config, disks),
+        Ok(Begun::Empty(disks)) => {
+            begin_net(rt, folder, settings)?;
+            made(rt, folder, config, disks)
+        }
         Err(error) => Err(of_folder(error)),
     }
 }

@@ -1,6 +1,7 @@
 // How a bot is, as lines.
 use crate::process::Process;
 use crate::session::Session;
+use botlinks::put_status;
 use bytetext::NoMemory;
 use itoa::Buffer;
 use settings::Settings;
@@ -17,6 +18,10 @@ pub(crate) fn status_of(
     put_server(&mut text, process, settings)?;
     for place in 0..process.uplink.channels.len() {
         put_channel(&mut text, process, place)?;
+    }
+    put_status(&mut text, &process.others.links)?;
+    if process.others.links.is_leaf() {
+        put_count(&mut text, b"asks ", process.others.asks.len() as u64)?;
     }
     put_count(&mut text, b"lines ", process.uplink.own.len() as u64)?;
     put_count(&mut text, b"operators ", process.operators.len() as u64)?;

@@ -1,5 +1,7 @@
 // The steps of a bot in one turn of its process.
 ghost use Rattle.std.specs.Prelude.{◌<◌, ◌≡◌, ◌∷◌, [], true, IfOk};
+ghost use Rattle.std.specs.List.{AllByRecursion};
+ghost use Rattle.linkcalls.specs.Shapes.{HasGoodRecords};
 ghost use Rattle.bytetext.specs.declared.moment.TheConstants.{MOMENTS_END};
 ghost use Rattle.botrun.specs.Taking.{TakesTurn, TakesChanges};
 
@@ -17,7 +19,8 @@ use upkeep::is_base_due;
 use userfile::Change;
 
 impl Process {
-    // Has the bot take what its server said, and all that waits then, and has the journal written anew where due.
+    // Has the bot take what its server and the other bots said, and all that waits then, and has the journal written
+    // anew where due. Whether another bot said anything.
     pub(crate) fn hear<R: AllocGlobal + Print, P: Promise, B: Run>(
         &mut self,
         rt: &R,
@@ -25,19 +28,22 @@ impl Process {
         settings: &Settings,
         connected: bool,
         now: u64,
-    ) -> Result<(), RunError>
+    ) -> Result<bool, RunError>
         requires moment { now < MOMENTS_END }
     {
         let alloc = rt.alloc();
         let bytes = self.uplink.take_heard(alloc);
         self.uplink.look(rt, settings, bytes.as_slice(), now)?;
-        let heard = heard_of(alloc, connected, bytes, now);
+        let heard = self.others.hear(alloc, connected, bytes, now)?;
+        let said = !heard.packets.is_empty();
         let outcome = self.take(rt, store, settings, heard)?;
-        self.pump(rt, store, settings, outcome, now)?;
+        if !self.others.links.is_leaf() {
+            self.pump(rt, store, settings, outcome, now)?;
+        }
         if is_base_due(self.base, self.bot.version()) {
             self.compact(rt, store, settings, now)?;
         }
-        Ok(())
+        Ok(said)
     }
 
     // Pumps until nothing waits. The last pump's outcome is the first that is told.
@@ -103,7 +109,7 @@ impl Process {
         settings: &Settings,
         heard: Heard,
     ) -> Result<Outcome, RunError>
-        requires none { heard.packets.items ≡ [] }
+        requires good { AllByRecursion HasGoodRecords heard.packets.items }
         // The bot takes one turn, and this is what it tells of changes.
         ensures turn { IfOk result (λ outcome. TakesTurn P.code_of P.may store.now self.old.bot self.old.lines heard
             self.new.bot self.new.lines outcome) }
@@ -113,6 +119,8 @@ impl Process {
         let outcome = outcome_of(told.reports.as_slice());
         self.uplink
             .pass_all(rt, settings, told.reports.as_slice(), now)?;
+        self.others
+            .pass_all(rt, &mut self.operators, told.reports.as_slice(), now)?;
         match told.end {
             TurnEnd::Done => Ok(outcome),
             TurnEnd::NoMemory => Err(RunError::NoMemory),
@@ -122,7 +130,7 @@ impl Process {
 
 // What is heard of a server in a turn, and a pump.
 fn heard_of(alloc: Global, connected: bool, bytes: Vec<u8>, now: u64) -> Heard
-    ensures packets { result.packets.items ≡ [] }
+    ensures good { AllByRecursion HasGoodRecords result.packets.items }
     ensures changes { result.changes.items ≡ [] }
     ensures pump { result.pump ≡ true }
 {

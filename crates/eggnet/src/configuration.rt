@@ -1,23 +1,23 @@
 // The bot of a configuration file.
-use crate::procs::Ours;
-use crate::statuses::{FAULT, STREAM_FAULT, out_of_memory};
 use botrun::{RunError, Subject, check, run};
 use bytetext::Failure;
+use eggprocs::Ours;
 use procstore::{ProcStore, Run};
+use replaying::{FAULT, STREAM_FAULT, out_of_memory};
 use settings::{MAX_FILE, Settings};
 use std::fs::File;
 use std::net::Net;
+use std::random::RandomSource;
 use std::rt::Files;
 use std::str;
 use std::time::Clock;
 use streams::{Duplex, ReadError, read_up_to};
 
 /// Runs the bot of a configuration file, until it is told to end.
-pub fn run_file<R: Print + Eprint + AllocGlobal + Net + Clock + Files<File = File>, B: Run>(
-    rt: &R,
-    store: &ProcStore<Ours, B>,
-    file: &str,
-) -> u8 {
+pub fn run_file<
+    R: Print + Eprint + AllocGlobal + Net + Clock + Files<File = File> + RandomSource,
+    B: Run,
+>(rt: &R, store: &ProcStore<Ours, B>, file: &str) -> u8 {
     let settings = match settings_of(rt, file) {
         Ok(settings) => settings,
         Err(status) => return status,

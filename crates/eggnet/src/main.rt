@@ -5,10 +5,11 @@
 //! prints its answer. `eggnet show FOLDER` prints the version and the records of a bot, whether it runs or not.
 //!
 //! `eggnet replay` reads a script, on standard input or in a file that is named, does its commands with a botnet in
-//! memory, and prints the transcript. `eggnet picture` draws such a script's run, as SVG. `eggnet live` reads a live script on standard input, and does its commands with a
-//! server, a hub and leaves that talk over sockets of this machine. It prints what the script has shown and what its
-//! guests have heard. `eggnet serve PORT` keeps a small IRC server running on this machine, for other programs. It prints
-//! the port, which the system chooses where PORT is 0, and then serves until it is ended.
+//! memory, and prints the transcript. `eggnet picture` draws such a script's run, as SVG. `eggnet live` reads a live
+//! script on standard input, and does its commands with a server, a hub and leaves that talk over sockets of this
+//! machine. It prints what the script has shown and what its guests have heard. `eggnet serve PORT` keeps a small IRC
+//! server running on this machine, for other programs. It prints the port, which the system chooses where PORT is 0, and
+//! then serves until it is ended.
 //!
 //! Binds may call the procs `quiet`, `stop`, `adduser`, `tick`, `tell` and `echo`.
 //!
@@ -20,32 +21,29 @@
 
 ghost use Rattle.std.specs.Prelude.{◌≡◌, codes, IfOk};
 ghost use Rattle.procstore.specs.declared.reply.Code.TheVariants.{Zero, One};
-ghost use Rattle.eggnet.specs.Procs.{Keeps, plain, reply_of_adduser, reply_of_echo, reply_of_tick, reply_of_tell};
+ghost use Rattle.eggprocs.specs.Procs.{IsBody, plain, reply_of_adduser, reply_of_echo, reply_of_tell, reply_of_tick};
 
 mod configuration;
-mod pictures;
-mod play;
-mod procs;
+mod live;
 mod serve;
-mod statuses;
 mod talk;
 mod words;
 
 use crate::configuration::{check_file, run_file};
-use crate::pictures::picture_script;
-use crate::play::{live_script, replay_file, replay_input};
-use crate::procs::{
+use crate::live::live_script;
+use crate::serve::serve_port;
+use crate::talk::{show_folder, tell_folder};
+use crate::words::{Task, refused, task_of};
+use bytetext::NoMemory;
+use eggprocs::{
     Ours, plain, reply_of_adduser, reply_of_echo, reply_of_tell, reply_of_tick, store_of,
 };
-use crate::serve::serve_port;
-use crate::statuses::out_of_memory;
-use crate::talk::{show_folder, tell_folder};
-use crate::words::{Task, refused, task_of, unread, words_of};
-use bytetext::NoMemory;
 use procstore::{Body, Call, Code, ProcStore, Reply, Run};
+use replaying::{out_of_memory, picture_script, replay_file, replay_input, unread, words_of};
 use std::fs::File;
 use std::net::Net;
 use std::process::ExitCode;
+use std::random::RandomSource;
 use std::rt::{Env, Files};
 use std::time::Clock;
 
@@ -109,27 +107,16 @@ fn main(rt: HostRuntime) -> ExitCode {
 }
 
 // The status that the program ends with.
-fn status<R: Input + Print + Eprint + AllocGlobal + Env + Net + Clock + Files<File = File>, B: Run>(
-    rt: &R,
-    quiet: B,
-    stop: B,
-    adduser: B,
-    tick: B,
-    tell: B,
-    echo: B,
-) -> u8
-    requires quiet_runs { B.can_run quiet }
-    requires quiet_keeps { Keeps (codes "quiet") (B.answers quiet) }
-    requires stop_runs { B.can_run stop }
-    requires stop_keeps { Keeps (codes "stop") (B.answers stop) }
-    requires adduser_runs { B.can_run adduser }
-    requires adduser_keeps { Keeps (codes "adduser") (B.answers adduser) }
-    requires tick_runs { B.can_run tick }
-    requires tick_keeps { Keeps (codes "tick") (B.answers tick) }
-    requires tell_runs { B.can_run tell }
-    requires tell_keeps { Keeps (codes "tell") (B.answers tell) }
-    requires echo_runs { B.can_run echo }
-    requires echo_keeps { Keeps (codes "echo") (B.answers echo) }
+fn status<
+    R: Input + Print + Eprint + AllocGlobal + Env + Net + Clock + Files<File = File> + RandomSource,
+    B: Run,
+>(rt: &R, quiet: B, stop: B, adduser: B, tick: B, tell: B, echo: B) -> u8
+    requires quiet { IsBody (codes "quiet") (B.can_run quiet) (B.answers quiet) }
+    requires stop { IsBody (codes "stop") (B.can_run stop) (B.answers stop) }
+    requires adduser { IsBody (codes "adduser") (B.can_run adduser) (B.answers adduser) }
+    requires tick { IsBody (codes "tick") (B.can_run tick) (B.answers tick) }
+    requires tell { IsBody (codes "tell") (B.can_run tell) (B.answers tell) }
+    requires echo { IsBody (codes "echo") (B.can_run echo) (B.answers echo) }
 {
     let words = match words_of(rt) {
         Ok(words) => words,
@@ -146,11 +133,10 @@ fn status<R: Input + Print + Eprint + AllocGlobal + Env + Net + Clock + Files<Fi
 }
 
 // Does what the command line asks for.
-fn done<R: Input + Print + Eprint + AllocGlobal + Net + Clock + Files<File = File>, B: Run>(
-    rt: &R,
-    task: &Task<'_>,
-    store: ProcStore<Ours, B>,
-) -> u8 {
+fn done<
+    R: Input + Print + Eprint + AllocGlobal + Net + Clock + Files<File = File> + RandomSource,
+    B: Run,
+>(rt: &R, task: &Task<'_>, store: ProcStore<Ours, B>) -> u8 {
     match task {
         Task::Run(file) => run_file(rt, &store, file),
         Task::Check(file) => check_file(rt, &store, file),

@@ -1,9 +1,9 @@
 // The small server on loopback, for other programs.
 
-use crate::statuses::{STREAM_FAULT, not_written, out_of_memory};
 use bytetext::NoMemory;
 use liveloop::LiveError;
 use loopback::{House, SocketFault};
+use replaying::{STREAM_FAULT, not_written, out_of_memory};
 use std::alloc::Global;
 use std::io;
 use std::io::ErrorKind;

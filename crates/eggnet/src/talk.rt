@@ -1,8 +1,8 @@
 // What an operator asks a bot.
-use crate::statuses::{FAULT, STREAM_FAULT, not_written, out_of_memory};
 use bytetext::Failure;
 use control::is_refusal;
 use operator::{AskError, AskFault, ask, show};
+use replaying::{FAULT, STREAM_FAULT, not_written, out_of_memory};
 use std::fs::File;
 use std::io;
 use std::net::Net;

@@ -1,11 +1,8 @@
 // What the command line asks for.
-use crate::statuses::{STREAM_FAULT, USAGE, out_of_memory};
 use clap::error::ErrorKind;
 use clap::{Arg, ArgMatches, Command, Error, value_parser};
+use replaying::{USAGE, not_written, out_of_memory};
 use std::alloc::{AllocError, Global};
-use std::io::ErrorKind as StreamErrorKind;
-use std::rt::Env;
-use std::{env, io};
 
 /// What `--version` prints after the program's name.
 const VERSION: &str = "0.1.0";
@@ -31,40 +28,19 @@ pub enum Task<'a> {
     Show(&'a str),
 }
 
-/// The words of the command line, the program's own name first.
-///
-/// # Errors
-/// Where one is no UTF-8, and where memory is refused.
-pub fn words_of<R: AllocGlobal + Env>(rt: &R) -> io::Result<Vec<String>> {
-    let mut words = Vec::new(rt.alloc());
-    for word in env::args(rt)? {
-        words.push(word)?;
-    }
-    Ok(words)
-}
-
-/// Tells why the words of the command line can't be had.
-pub fn unread<R: Eprint>(rt: &R, error: &io::Error) -> u8 {
-    match error.kind() {
-        StreamErrorKind::OutOfMemory => out_of_memory(rt),
-        StreamErrorKind::InvalidData | StreamErrorKind::InvalidInput => {
-            let _told = eprintln!(rt; "eggnet: say each word in UTF-8");
-            USAGE
-        }
-        _ => {
-            let _told = eprintln!(rt; "eggnet: the command line can't be read");
-            STREAM_FAULT
-        }
-    }
-}
-
 /// Prints what clap says of a command line that it doesn't take, or its help, or the version.
 pub fn refused<R: Print + Eprint>(rt: &R, error: &Error) -> u8 {
     if error.kind() == ErrorKind::OutOfMemory {
         return out_of_memory(rt);
     }
-    let _told = error.print(rt);
-    if error.use_stderr() { USAGE } else { 0 }
+    let told = error.print(rt);
+    if error.use_stderr() {
+        USAGE
+    } else if told.is_ok() {
+        0
+    } else {
+        not_written(rt)
+    }
 }
 
 /// What the words after the program's name ask for.

@@ -10,7 +10,7 @@ use std::marker::Model;
 use storage::Disk;
 use userfile::{Change, Userfile, shape};
 
-/// The hub's end: what its journal keeps, and the asks that wait.
+/// The hub's end: what its journal keeps, and the asks that wait, with room for all of them.
 pub struct HubLink<D: Disk> {
     pub(crate) kept: Kept<HubState, D>,
     waiting: VecDeque<Change>,
@@ -34,10 +34,18 @@ impl<D: Disk> Model for HubLink<D> {
     ghost use Rattle.hublink.specs.Link.{hub_end};
 
     ghost view = { λ h. hub_end h.kept h.waiting.items };
+
+    ghost use Rattle.std.specs.Prelude.{◌≤◌};
+    ghost use Rattle.std.specs.VecDeque.{deque_capacity};
+    ghost use Rattle.linkcalls.specs.declared.TheConstants.{MAX_ASKS};
+
+    // There is room for all asks that may wait.
+    ghost invariant = { λ h. MAX_ASKS ≤ deque_capacity h.waiting };
 }
 
 impl<D: Disk> HubLink<D> {
-    ghost use Rattle.std.specs.Prelude.{◌≡◌, ◌≤◌, ◌+◌, [], false, length, OnErr};
+    ghost use Rattle.std.specs.Prelude.{◌≡◌, ◌≢◌, ◌≤◌, ◌+◌, [], false, length, Err, OnErr};
+    ghost use Rattle.bytetext.specs.declared.failure.Failure.TheVariants.{NoMemory as no_memory};
     ghost use Rattle.storage.specs.State.{IsSettled};
     ghost use Rattle.protocol.specs.Bots.{unless_down};
     ghost use Rattle.protocol.specs.HubRules.{version_of, hub_asked, text_told, hub_pumped, hub_pumped_up, hub_compacted, hub_restarted, hub_folded};
@@ -66,11 +74,14 @@ impl<D: Disk> HubLink<D> {
         requires few { leaves ≤ MAX_LEAVES }
         ensures row { Creates D.state first second 0 leaves [] (new_hub leaves).kept result }
     {
+        let Ok(waiting) = VecDeque::with_capacity(alloc, MAX_ASKS) else {
+            return Err(Returned {
+                error: Failure::NoMemory,
+                disks: Disks { first, second },
+            });
+        };
         match Kept::create(alloc, first, second, leaves) {
-            Ok(kept) => Ok(HubLink {
-                kept,
-                waiting: VecDeque::new(alloc),
-            }),
+            Ok(kept) => Ok(HubLink { kept, waiting }),
             Err(returned) => Err(returned),
         }
     }
@@ -87,11 +98,14 @@ impl<D: Disk> HubLink<D> {
         requires few { leaves ≤ MAX_LEAVES }
         ensures row { Opens D.state first second 0 leaves [] (hub_meaning leaves) result }
     {
+        let Ok(waiting) = VecDeque::with_capacity(alloc, MAX_ASKS) else {
+            return Err(Returned {
+                error: Failure::NoMemory,
+                disks: Disks { first, second },
+            });
+        };
         match Kept::open(alloc, first, second, leaves) {
-            Ok(kept) => Ok(HubLink {
-                kept,
-                waiting: VecDeque::new(alloc),
-            }),
+            Ok(kept) => Ok(HubLink { kept, waiting }),
             Err(returned) => Err(returned),
         }
     }
@@ -134,16 +148,16 @@ impl<D: Disk> HubLink<D> {
         self.waiting.truncate(count);
     }
 
-    /// Lets a change wait for a pump: `Queued`.
+    /// Lets a change wait for a pump: `Queued`. Takes no memory.
     ///
     /// # Errors
-    /// `Down`, then `BadChange` for a bad shape, then `AsksFull` where 64 asks wait, then `NoMemory`; each leaves the hub
-    /// as it was, and only `Queued` takes memory.
+    /// `Down`, then `BadChange` for a bad shape, then `AsksFull` where 64 asks wait; each leaves the hub as it was.
     pub fn ask(&mut self, alloc: Global, change: Change) -> Result<Answer, LinkError>
         ensures row { Calls self.old (λ how. hub_asked self.old.bot change) result self.new }
         ensures quiet { self.new.failures ≡ self.old.failures }
         ensures stays { OnErr result (self.new ≡ self.old) }
         ensures packets { GoOut 0 result }
+        ensures memory { result ≢ Err no_memory }
     {
         if self.kept.is_down() {
             return Err(Failure::Refused(LinkFault::Down));
@@ -154,7 +168,7 @@ impl<D: Disk> HubLink<D> {
         if self.waiting.len() >= MAX_ASKS {
             return Err(Failure::Refused(LinkFault::AsksFull));
         }
-        self.waiting.push_back(change)?;
+        self.waiting.push_back_reserved(change);
         Ok(Answer::only(alloc, Note::Queued))
     }
 

@@ -15,7 +15,8 @@ use std::marker::Model;
 use storage::Disk;
 use userfile::{Change, Userfile, shape};
 
-/// A leaf's end: its userfile at a version, the asks that wait, the request that is out, and the journal.
+/// A leaf's end: its userfile at a version, the asks that wait, with room for all of them, the request that is out, and
+/// the journal.
 pub struct LeafLink<D: Disk> {
     pub(crate) leaves: u16,
     pub(crate) kept: Kept<LeafState, D>,
@@ -44,11 +45,16 @@ impl<D: Disk> Model for LeafLink<D> {
 
     ghost view = { λ l. leaf_end l.leaves l.kept (record { waiting = l.waiting.items; parts = l.parts }) };
 
-    ghost invariant = { λ l. IsLink l.leaves l.kept.who l.waiting.items };
+    ghost use Rattle.std.specs.Prelude.{◌≤◌};
+    ghost use Rattle.std.specs.VecDeque.{deque_capacity};
+    ghost use Rattle.linkcalls.specs.declared.TheConstants.{MAX_ASKS};
+
+    // It is a leaf of the net, and there is room for all asks that may wait.
+    ghost invariant = { λ l. IsLink l.leaves l.kept.who l.waiting.items × (MAX_ASKS ≤ deque_capacity l.waiting) };
 }
 
 impl<D: Disk> LeafLink<D> {
-    ghost use Rattle.std.specs.Prelude.{◌≡◌, ◌<◌, ◌≤◌, [], length, IfOk, OnErr, None, false};
+    ghost use Rattle.std.specs.Prelude.{◌≡◌, ◌≢◌, ◌<◌, ◌≤◌, [], length, Err, IfOk, OnErr, None, false};
     ghost use Rattle.storage.specs.State.{IsSettled};
     ghost use Rattle.linkcalls.specs.declared.TheConstants.{MAX_LEAVES};
     ghost use Rattle.protocol.specs.Journals.{leaf_meaning};
@@ -78,11 +84,17 @@ impl<D: Disk> LeafLink<D> {
         requires few { leaves ≤ MAX_LEAVES }
         ensures row { Creates D.state first second number leaves no_loose new_leaf.kept result }
     {
+        let Ok(waiting) = VecDeque::with_capacity(alloc, MAX_ASKS) else {
+            return Err(Returned {
+                error: Failure::NoMemory,
+                disks: Disks { first, second },
+            });
+        };
         match Kept::create(alloc, first, second, number) {
             Ok(kept) => Ok(LeafLink {
                 leaves,
                 kept,
-                waiting: VecDeque::new(alloc),
+                waiting,
                 parts: None,
             }),
             Err(returned) => Err(returned),
@@ -93,7 +105,8 @@ impl<D: Disk> LeafLink<D> {
     ///
     /// # Errors
     /// With the disks, which hold what they held: `DiskFault` where a read failed; `NotAJournal` where the disks hold no
-    /// journal, or one that no leaf of this number writes; `NoMemory` where room for what they hold is refused.
+    /// journal, or one that no leaf of this number writes; `NoMemory` where room for what they hold, or for the asks, is
+    /// refused.
     pub fn open(
         alloc: Global,
         first: D,
@@ -107,11 +120,17 @@ impl<D: Disk> LeafLink<D> {
         requires few { leaves ≤ MAX_LEAVES }
         ensures row { Opens D.state first second number leaves no_loose (leaf_meaning number) result }
     {
+        let Ok(waiting) = VecDeque::with_capacity(alloc, MAX_ASKS) else {
+            return Err(Returned {
+                error: Failure::NoMemory,
+                disks: Disks { first, second },
+            });
+        };
         match Kept::open(alloc, first, second, number) {
             Ok(kept) => Ok(LeafLink {
                 leaves,
                 kept,
-                waiting: VecDeque::new(alloc),
+                waiting,
                 parts: None,
             }),
             Err(returned) => Err(returned),
@@ -157,17 +176,17 @@ impl<D: Disk> LeafLink<D> {
         self.waiting.truncate(count);
     }
 
-    /// Lets a change wait for a pump: `Queued`.
+    /// Lets a change wait for a pump: `Queued`. Takes no memory.
     ///
     /// # Errors
-    /// `Down`, then `BadChange` for a bad shape, then `AsksFull` where 64 asks wait, then `NoMemory`; each leaves the
-    /// leaf as it was.
+    /// `Down`, then `BadChange` for a bad shape, then `AsksFull` where 64 asks wait; each leaves the leaf as it was.
     pub fn ask(&mut self, alloc: Global, change: Change) -> Result<Answer, LinkError>
         ensures row { Calls self.old (asked self.old change) result self.new }
         ensures few { IfOk result (λ answer. answer.packets ≡ []) }
         // No disk is used, and a refusal leaves all as it was.
         ensures quiet { self.new.failures ≡ self.old.failures }
         ensures stays { OnErr result (self.new ≡ self.old) }
+        ensures memory { result ≢ Err no_memory }
     {
         if self.kept.is_down() {
             return Err(Failure::Refused(LinkFault::Down));
@@ -179,7 +198,7 @@ impl<D: Disk> LeafLink<D> {
             return Err(Failure::Refused(LinkFault::AsksFull));
         }
         know_change(&change);
-        self.waiting.push_back(change)?;
+        self.waiting.push_back_reserved(change);
         Ok(Answer::only(alloc, Note::Queued))
     }
 

@@ -1,11 +1,10 @@
 //! One turn of a bot that is a process: what was heard becomes its steps, and what they report is told.
 //!
-//! A process waits, reads its streams, and hands all that they gave to [`take_turn`], which is everything between
-//! reading and writing. It first makes the list of the turn's events: a connection that began, each line that was
-//! ended, the reading of the clock, the packets of the other bots, the changes that commands ask for, a pump and a
-//! compaction. Then it makes a step of each, in this order, and keeps each report. What is told is these reports and
-//! nothing else, so that whoever asked for a change finds its note, and the lines and packets of a step go out in its
-//! place.
+//! A process waits, reads its streams, and hands what they gave to [`take_turn`]. It first makes the list of the turn's
+//! events: a connection that began, each line that was ended, the reading of the clock, the packets of the other bots,
+//! the changes that commands ask for, a pump and a compaction. Then it makes a step of each, in this order, and keeps
+//! each report. What is told is these reports and nothing else, so that whoever asked for a change finds its note, and
+//! the lines and packets of a step go out in its place.
 //!
 //! Packets of many streams wait in an [`Inbox`], which bounds how many of them a turn takes, and goes round from stream
 //! to stream. [`is_said_by`] is false of a packet that a leaf's connection must not bring.

@@ -1,34 +1,15 @@
-// The procs of this program, and what they promise.
-ghost use Rattle.std.specs.Prelude.{◌≡◌, codes, IfOk};
-ghost use Rattle.eggnet.specs.Procs.{arg_at, asked_by_adduser, asked_by_echo, asked_by_tick, asked_by_tell, echoed, is_command};
-ghost use Rattle.eggnet.specs.Procs.{last_of, place_of, plain, reply_of_adduser, reply_of_echo, reply_of_tick, reply_of_tell, Keeps};
+// What the procs answer.
+ghost use Rattle.std.specs.Prelude.{◌≡◌, IfOk};
+ghost use Rattle.eggprocs.specs.Procs.{arg_at, asked_by_adduser, asked_by_echo, asked_by_tick, asked_by_tell, echoed, is_command};
+ghost use Rattle.eggprocs.specs.Procs.{last_of, place_of, plain, reply_of_adduser, reply_of_echo, reply_of_tick, reply_of_tell};
 
 use bytetext::{NoMemory, Text};
 use outqueue::Queue;
-use procstore::{
-    Action, Actions, BotWish, Call, Code, Kind, Proc, ProcStore, Promise, PutWish, Reply, Run,
-    TimerWish,
-};
+use procstore::{Action, Actions, BotWish, Call, Code, Kind, PutWish, Reply, TimerWish};
 use std::alloc::Global;
 use userfile::Change;
 
-/// What the procs of this program promise: `quiet` answers 0 and asks for nothing, and `stop` answers 1 and asks for
-/// nothing. `adduser` answers 0 and asks for a user where it is called as a command; `tick` answers 0 and asks for a
-/// call of `quiet` ten seconds on; `tell` answers 0 and tells the hub a text where it is called as a command; `echo`
-/// answers 0 and says again what was said on a channel or privately. Any of them may lack memory.
-#[derive(Drop)]
-pub struct Ours;
-
-impl Promise for Ours {
-    ghost use Rattle.std.specs.Prelude.{◌≡◌};
-    ghost use Rattle.eggnet.specs.Procs.{code_of, actions_of};
-
-    ghost code_of = { code_of };
-
-    ghost may = { λ name call actions. actions ≡ actions_of name call };
-}
-
-/// An answer that asks for nothing. Takes no memory.
+/// An answer that asks for nothing, as `quiet` and `stop` give. Takes no memory.
 pub fn plain(alloc: Global, code: Code) -> Reply
     ensures { result ≡ plain code }
 {
@@ -208,58 +189,5 @@ fn last_of(args: &[Text]) -> &[u8]
     match args.last() {
         Some(last) => last.as_bytes(),
         None => b"",
-    }
-}
-
-/// A store of these bodies under the names of their procs.
-///
-/// # Errors
-/// `NoMemory` where room is refused.
-pub fn store_of<B: Run>(
-    alloc: Global,
-    quiet: B,
-    stop: B,
-    adduser: B,
-    tick: B,
-    tell: B,
-    echo: B,
-) -> Result<ProcStore<Ours, B>, NoMemory>
-    requires quiet_runs { B.can_run quiet }
-    requires quiet_keeps { Keeps (codes "quiet") (B.answers quiet) }
-    requires stop_runs { B.can_run stop }
-    requires stop_keeps { Keeps (codes "stop") (B.answers stop) }
-    requires adduser_runs { B.can_run adduser }
-    requires adduser_keeps { Keeps (codes "adduser") (B.answers adduser) }
-    requires tick_runs { B.can_run tick }
-    requires tick_keeps { Keeps (codes "tick") (B.answers tick) }
-    requires tell_runs { B.can_run tell }
-    requires tell_keeps { Keeps (codes "tell") (B.answers tell) }
-    requires echo_runs { B.can_run echo }
-    requires echo_keeps { Keeps (codes "echo") (B.answers echo) }
-{
-    let mut store = ProcStore::new(alloc);
-    add(alloc, &mut store, b"quiet", quiet)?;
-    add(alloc, &mut store, b"stop", stop)?;
-    add(alloc, &mut store, b"adduser", adduser)?;
-    add(alloc, &mut store, b"tick", tick)?;
-    add(alloc, &mut store, b"tell", tell)?;
-    add(alloc, &mut store, b"echo", echo)?;
-    Ok(store)
-}
-
-// Adds a proc. There are few, and their names differ, so that only memory can be lacking.
-fn add<B: Run>(
-    alloc: Global,
-    store: &mut ProcStore<Ours, B>,
-    name: &[u8],
-    body: B,
-) -> Result<(), NoMemory>
-    requires runs { B.can_run body }
-    requires keeps { Keeps name.now (B.answers body) }
-{
-    let name = Text::from_slice(alloc, name)?;
-    match store.add(alloc, Proc::new(name, body)) {
-        Ok(()) => Ok(()),
-        Err(_) => Err(NoMemory),
     }
 }

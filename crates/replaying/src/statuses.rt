@@ -1,4 +1,4 @@
-// The statuses that the program ends with.
+// The statuses that the programs end with.
 /// The status where a file's text, or what a bot is told, breaks a rule.
 pub const FAULT: u8 = 1;
 
@@ -20,5 +20,13 @@ pub fn out_of_memory<R: Eprint>(rt: &R) -> u8 {
 /// Tells that standard output takes no more.
 pub fn not_written<R: Eprint>(rt: &R) -> u8 {
     let _told = eprintln!(rt; "eggnet: write fault");
+    STREAM_FAULT
+}
+
+/// Tells that a script can't be read.
+pub(crate) fn not_read<R: Eprint>(rt: &R, file: &str) -> u8 {
+    let _told = eprintln!(rt;
+        "eggnet: {file} can't be read: give a script that this user may read"
+    );
     STREAM_FAULT
 }

@@ -1,37 +1,32 @@
 // Scripts, drawn.
-use crate::procs::Ours;
-use crate::statuses::{FAULT, STREAM_FAULT, out_of_memory};
+use crate::statuses::{FAULT, STREAM_FAULT, not_read, out_of_memory};
 use picture::{DrawError, draw};
-use procstore::{ProcStore, Run};
+use procstore::{ProcStore, Promise, Run};
 use std::fs::File;
 use std::io;
 use std::rt::Files;
 use streams::{Duplex, Stream};
 
-/// Draws the run of the script in this file, or on standard input where none is named.
-pub fn picture_script<R: Input + Print + Eprint + AllocGlobal + Files<File = File>, B: Run>(
-    rt: &R,
-    store: ProcStore<Ours, B>,
-    file: Option<&str>,
-) -> u8 {
+/// Draws the run of the script in this file, or on standard input where none is named, as SVG on standard output.
+/// Standard error says why where it ends early; the status says it too.
+pub fn picture_script<
+    R: Input + Print + Eprint + AllocGlobal + Files<File = File>,
+    P: Promise,
+    B: Run,
+>(rt: &R, store: ProcStore<P, B>, file: Option<&str>) -> u8 {
     let Some(file) = file else {
         return drawn(rt, store, &mut Duplex::new(rt.reader(), io::writer(rt)));
     };
     match File::open(rt, file) {
         Ok(script) => drawn(rt, store, &mut Duplex::new(script, io::writer(rt))),
-        Err(_) => {
-            let _told = eprintln!(rt;
-                "eggnet: {file} can't be read: give a script that this user may read"
-            );
-            STREAM_FAULT
-        }
+        Err(_) => not_read(rt, file),
     }
 }
 
 // Draws the run of the script that a stream gives.
-fn drawn<R: Eprint + AllocGlobal, B: Run, S: Stream>(
+fn drawn<R: Eprint + AllocGlobal, P: Promise, B: Run, S: Stream>(
     rt: &R,
-    store: ProcStore<Ours, B>,
+    store: ProcStore<P, B>,
     stream: &mut S,
 ) -> u8 {
     let error = match draw(rt.alloc(), store, stream) {

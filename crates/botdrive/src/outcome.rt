@@ -1,0 +1,30 @@
+// What a step tells beside what it has to send.
+use botcalls::MadeCalls;
+use botcore::{Faults, Note};
+use bytetext::Seq;
+
+/// What came of a step, beside what it has to send.
+#[derive(Drop)]
+pub struct Outcome {
+    /// Of a line that is no message, which rule it breaks. A message and a reading of the clock have none.
+    pub note: Option<Note>,
+    /// The calls that were made, in order.
+    pub calls: MadeCalls,
+    /// What was left out or refused, in the order of [`Report`](botcore::Report).
+    pub faults: Faults,
+}
+
+impl Outcome {
+    ghost use Rattle.std.specs.Prelude.{◌≡◌};
+    ghost use Rattle.botdrive.specs.Driving.{is_silent};
+
+    // Whether there is nothing to tell.
+    pub(crate) fn is_silent(&self) -> bool
+        ensures { result ≡ is_silent self.now }
+    {
+        self.note.is_none() && self.calls.is_empty() && self.faults.is_empty()
+    }
+}
+
+/// What came of steps, in order.
+pub type Outcomes = Seq<Outcome>;

@@ -1,0 +1,4 @@
+pub mod Hellos
+pub mod Joining
+pub mod Speakers
+pub mod Streams

@@ -1,0 +1,62 @@
+// Why another bot's connection is let go.
+use handshake::HandshakeFault;
+use sharewire::WireFault;
+use std::fmt;
+use std::fmt::Display;
+
+// Why a connection is let go.
+#[derive(Clone, Copy)]
+pub(crate) enum Gone {
+    // Its other end has ended it, or it never was one.
+    Ended,
+    // More than 256 KB would wait for it.
+    TooSlow,
+    // Before the first frame.
+    Handshake(HandshakeFault),
+    // What it sends are no frames.
+    NoFrames(WireFault),
+    // It speaks for another leaf, or for the hub.
+    OtherSpeaker,
+    // The same leaf has connected again.
+    Replaced,
+    // So many others wait that have not shown a code.
+    Crowded,
+}
+
+impl Gone {
+    // Whether it knows the secret, and is of another net.
+    pub(crate) fn is_of_other_net(self) -> bool {
+        match self {
+            Gone::Handshake(fault) => fault == HandshakeFault::OtherNet,
+            Gone::Ended
+            | Gone::TooSlow
+            | Gone::NoFrames(_)
+            | Gone::OtherSpeaker
+            | Gone::Replaced
+            | Gone::Crowded => false,
+        }
+    }
+}
+
+impl Display for Gone {
+    fn fmt<W: fmt::Write>(&self, f: &mut fmt::Formatter<W>) -> fmt::Result {
+        match *self {
+            Gone::Handshake(fault) => write!(f, "{fault}"),
+            Gone::NoFrames(fault) => write!(f, "it sends no frames: {fault}"),
+            Gone::Ended | Gone::TooSlow | Gone::OtherSpeaker | Gone::Replaced | Gone::Crowded =>
+                write!(f, "{}", sentence(*self)),
+        }
+    }
+}
+
+// The text of one without parts; empty for the others.
+fn sentence(gone: Gone) -> &'static str {
+    match gone {
+        Gone::Ended => "the connection ended",
+        Gone::TooSlow => "it takes too little: 262144 bytes wait for it",
+        Gone::OtherSpeaker => "it sends a packet that is not its own",
+        Gone::Replaced => "it has connected again",
+        Gone::Crowded => "64 others wait that have shown no code",
+        Gone::Handshake(_) | Gone::NoFrames(_) => "",
+    }
+}

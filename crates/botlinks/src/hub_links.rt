@@ -1,0 +1,301 @@
+// The hub's connections to its leaves.
+ghost use Rattle.std.specs.Prelude.{◌<◌, IfOk, IfSome, length};
+ghost use Rattle.std.specs.List.{AllByRecursion};
+ghost use Rattle.linkcalls.specs.Shapes.{HasGoodRecords};
+
+use crate::entry::Entry;
+use crate::gone::Gone;
+use crate::guest::Guest;
+use crate::link_wire::LinkWire;
+use crate::links::FIRST_TOKEN;
+use crate::log::log;
+use crate::seat::Seat;
+use bytetext::NoMemory;
+use handshake::{HubSide, Key, NetNumber, Nonce};
+use sharewire::Packet;
+use sockets::{DoorFault, Registry, TcpDoor, TcpSocket};
+use std::alloc::Global;
+use std::net::{Net, SocketAddr};
+use std::random::RandomSource;
+use turns::Inbox;
+
+/// The most connections that have not shown a code.
+pub const MAX_GUESTS: usize = 64;
+
+// Under which the door is watched.
+const DOOR: usize = 4;
+
+// Whom a token names.
+#[derive(Clone, Copy)]
+pub(crate) enum Who {
+    Guest,
+    Leaf(u16),
+}
+
+/// The hub's connections: a seat for each leaf, and those that have not shown a code.
+pub struct HubLinks {
+    door: TcpDoor,
+    key: Key,
+    net: NetNumber,
+    pub(crate) leaves: u16,
+    // In the order in which they came.
+    pub(crate) guests: Vec<Guest>,
+    // By number; none has the number 0.
+    pub(crate) seats: Vec<Option<Seat>>,
+    // By token.
+    pub(crate) slots: Vec<Option<Who>>,
+    // By number.
+    pub(crate) inbox: Inbox,
+    // The last second at which the log told of a guest.
+    pub(crate) told: u64,
+}
+
+// By hand, so that this is proved once, and not in each function in which they end.
+impl Drop for HubLinks {
+    fn drop(self) {
+        let HubLinks {
+            door: _,
+            key: _,
+            net: _,
+            leaves: _,
+            guests: _,
+            seats: _,
+            slots: _,
+            inbox: _,
+            told: _,
+        } = self;
+    }
+}
+
+/// Why nobody is listened to.
+#[derive(Clone, Copy, Debug, PartialEq, Eq)]
+pub enum ListenFault {
+    /// The system refuses.
+    Door(DoorFault),
+    /// A growth was refused.
+    NoMemory,
+}
+
+impl From<NoMemory> for ListenFault {
+    fn from(_refused: NoMemory) -> ListenFault {
+        ListenFault::NoMemory
+    }
+}
+
+impl HubLinks {
+    /// Listens at an address for so many leaves of this net.
+    ///
+    /// # Errors
+    /// `Door` where the system refuses, and `NoMemory` where a growth is.
+    pub fn open<R: AllocGlobal + Net>(
+        rt: &R,
+        registry: &Registry,
+        address: SocketAddr,
+        leaves: u16,
+        key: Key,
+        net: NetNumber,
+    ) -> Result<HubLinks, ListenFault> {
+        let alloc = rt.alloc();
+        let places = usize::from(leaves) + 1;
+        let seats = no_seats(alloc, places)?;
+        let slots = no_slots(alloc, places + MAX_GUESTS)?;
+        let inbox = Inbox::new(alloc, places)?;
+        match TcpDoor::open(rt, registry, DOOR, address) {
+            Ok(door) => Ok(HubLinks {
+                door,
+                key,
+                net,
+                leaves,
+                guests: Vec::new(alloc),
+                seats,
+                slots,
+                inbox,
+                told: 0,
+            }),
+            Err(fault) => Err(ListenFault::Door(fault)),
+        }
+    }
+
+    /// The one that a token names may have something to give.
+    pub fn wake(&mut self, slot: usize) {
+        let Some(Some(who)) = self.slots.get(slot) else {
+            return;
+        };
+        match *who {
+            Who::Guest => self.wake_guest(slot),
+            Who::Leaf(leaf) => {
+                if let Some(Some(seat)) = self.seats.get_mut(usize::from(leaf)) {
+                    seat.wire.wake();
+                }
+            }
+        }
+    }
+
+    fn wake_guest(&mut self, slot: usize) {
+        for guest in self.guests.iter_mut() {
+            if guest.slot == slot {
+                guest.wire.wake();
+            }
+        }
+    }
+
+    /// Lets in who waits. Where 64 have not shown a code, the oldest of them gives way.
+    ///
+    /// # Errors
+    /// `NoMemory` where a growth is refused.
+    pub fn let_in<R: AllocGlobal + Net + Print + RandomSource>(
+        &mut self,
+        rt: &R,
+        registry: &Registry,
+        now: u64,
+    ) -> Result<(), NoMemory> {
+        for _guest in 0..MAX_GUESTS {
+            let Some(slot) = free_slot(self.slots.as_slice()) else {
+                return Ok(());
+            };
+            let Some(socket) = self.door.let_in(registry, FIRST_TOKEN.saturating_add(slot)) else {
+                return Ok(());
+            };
+            self.make_way(rt, now);
+            self.greet(rt, socket, slot, now)?;
+        }
+        Ok(())
+    }
+
+    // Greets who has come. Where the system draws nothing, it is let go.
+    fn greet<R: AllocGlobal + RandomSource>(
+        &mut self,
+        rt: &R,
+        socket: TcpSocket,
+        slot: usize,
+        now: u64,
+    ) -> Result<(), NoMemory> {
+        let Ok(nonce) = Nonce::draw(rt) else {
+            return Ok(());
+        };
+        let side = HubSide {
+            key: self.key,
+            net: self.net,
+            leaves: self.leaves,
+            nonce,
+        };
+        let mut wire = LinkWire::new(rt.alloc(), socket);
+        wire.tell(side.greeting().as_bytes())?;
+        self.guests.push(Guest {
+            wire,
+            side,
+            began: now,
+            slot,
+        })?;
+        self.name(slot, Some(Who::Guest));
+        Ok(())
+    }
+
+    // Where there is no room for a guest, the oldest is let go.
+    fn make_way<R: Print>(&mut self, rt: &R, now: u64) {
+        if self.guests.len() >= MAX_GUESTS {
+            self.drop_guest(rt, 0, Gone::Crowded, now);
+        }
+    }
+
+    // Lets the guest at a place go. The log tells of one a second, so that nobody fills it, and of each that knows the
+    // secret and is of another net.
+    pub(crate) fn drop_guest<R: Print>(&mut self, rt: &R, place: usize, gone: Gone, now: u64) {
+        if place >= self.guests.len() {
+            return;
+        }
+        let guest = self.guests.remove(place);
+        self.name(guest.slot, None);
+        if self.told != now || gone.is_of_other_net() {
+            self.told = now;
+            log(rt, now, &Entry::GuestGone(gone));
+        }
+    }
+
+    // A token names another from now on, or nobody.
+    pub(crate) fn name(&mut self, slot: usize, who: Option<Who>) {
+        if let Some(named) = self.slots.get_mut(slot) {
+            *named = who;
+        }
+    }
+
+    /// The packets of one turn, as [`Inbox::take`] gives them.
+    ///
+    /// # Errors
+    /// `NoMemory` where room for them is refused.
+    pub fn take_packets(&mut self, alloc: Global) -> Result<Vec<Packet>, NoMemory>
+        ensures good { IfOk result (λ packets. AllByRecursion HasGoodRecords packets.items) }
+    {
+        self.inbox.take(alloc)
+    }
+
+    /// Leaves a packet for a leaf. Where it is not linked, the packet is lost.
+    ///
+    /// # Errors
+    /// `NoMemory` where a growth is refused.
+    pub fn tell(&mut self, alloc: Global, leaf: u16, packet: &Packet) -> Result<(), NoMemory>
+        requires good { HasGoodRecords packet.now }
+    {
+        match self.seats.get_mut(usize::from(leaf)) {
+            Some(Some(seat)) => seat.tell(alloc, packet),
+            Some(None) | None => Ok(()),
+        }
+    }
+
+    /// Offers each what is unsent. Whether one took a byte.
+    pub fn send(&mut self) -> bool {
+        let guests = send_guests(self.guests.as_mut_slice());
+        let seats = send_seats(self.seats.as_mut_slice());
+        guests || seats
+    }
+
+    /// How many leaves are linked.
+    pub fn linked(&self) -> usize {
+        self.seats.iter().filter(|seat| seat.is_some()).count()
+    }
+}
+
+// The first token that names nobody.
+fn free_slot(slots: &[Option<Who>]) -> Option<usize> {
+    slots.iter().position(|who| who.is_none())
+}
+
+// Nobody is there.
+fn no_seats(alloc: Global, places: usize) -> Result<Vec<Option<Seat>>, NoMemory> {
+    let mut seats = Vec::new(alloc);
+    for _place in 0..places {
+        seats.push(None)?;
+    }
+    Ok(seats)
+}
+
+// No token names anybody.
+fn no_slots(alloc: Global, places: usize) -> Result<Vec<Option<Who>>, NoMemory> {
+    let mut slots = Vec::new(alloc);
+    for _place in 0..places {
+        slots.push(None)?;
+    }
+    Ok(slots)
+}
+
+fn send_guests(guests: &mut [Guest]) -> bool {
+    let mut moved = false;
+    for guest in guests.iter_mut() {
+        if guest.wire.send() {
+            moved = true;
+        }
+    }
+    moved
+}
+
+fn send_seats(seats: &mut [Option<Seat>]) -> bool {
+    let mut moved = false;
+    for place in seats.iter_mut() {
+        if let Some(seat) = place {
+            if seat.wire.send() {
+                moved = true;
+            }
+        }
+    }
+    moved
+}

@@ -1,0 +1,131 @@
+// One connection of a leaf to its hub.
+ghost use Rattle.std.specs.Prelude.{IfOk};
+ghost use Rattle.std.specs.List.{AllByRecursion};
+ghost use Rattle.linkcalls.specs.Shapes.{HasGoodRecords};
+
+use crate::frames::{FrameReader, frame_of};
+use crate::gone::Gone;
+use crate::link_wire::LinkWire;
+use bytetext::NoMemory;
+use handshake::{HandshakeFault, LeafHears, LeafSide, NetNumber, is_late};
+use sharewire::Packet;
+use std::alloc::Global;
+
+// How far a connection to the hub is.
+#[derive(Clone, Copy)]
+pub(crate) enum Stage {
+    // The hub has still to show its code.
+    Meets,
+    // It has shown it, and is of this net.
+    Knows(NetNumber),
+    // Packets go both ways.
+    Linked,
+}
+
+// A connection to the hub.
+pub(crate) struct Hub {
+    pub(crate) wire: LinkWire,
+    side: LeafSide,
+    reader: FrameReader,
+    pub(crate) stage: Stage,
+    // The second at which it began.
+    began: u64,
+}
+
+// By hand, so that this is proved once, and not in each function in which one ends.
+impl Drop for Hub {
+    fn drop(self) {
+        let Hub {
+            wire: _,
+            side: _,
+            reader: _,
+            stage: _,
+            began: _,
+        } = self;
+    }
+}
+
+impl Hub {
+    // A connection that begins at this second. Takes no memory.
+    pub(crate) fn new(alloc: Global, wire: LinkWire, side: LeafSide, now: u64) -> Hub {
+        Hub {
+            wire,
+            side,
+            reader: FrameReader::new(alloc),
+            stage: Stage::Meets,
+            began: now,
+        }
+    }
+
+    // Hears the hub before its first frame, and answers it. Whether a byte came.
+    pub(crate) fn meet(&mut self, now: u64) -> Result<bool, NoMemory> {
+        let came = self.wire.read()?;
+        for _line in 0..2 {
+            if !self.meet_line(now)? {
+                break;
+            }
+        }
+        Ok(came)
+    }
+
+    // Hears a line of the hub's. Whether there may be another.
+    fn meet_line(&mut self, now: u64) -> Result<bool, NoMemory> {
+        match self.side.hear(self.wire.heard()) {
+            LeafHears::More => {
+                if is_late(self.began, now) {
+                    self.wire.end(Gone::Handshake(HandshakeFault::TooLate));
+                }
+                Ok(false)
+            }
+            LeafHears::Answers { used, line } => {
+                self.wire.take_front(used);
+                self.wire.tell(line.as_bytes())?;
+                Ok(true)
+            }
+            LeafHears::Joined { used, net } => {
+                self.wire.take_front(used);
+                self.stage = Stage::Knows(net);
+                Ok(false)
+            }
+            LeafHears::Refused(fault) => {
+                self.wire.end(Gone::Handshake(fault));
+                Ok(false)
+            }
+        }
+    }
+
+    // Hears a piece. The packets that are whole now. Bytes that are no frames end the connection.
+    pub(crate) fn hear(&mut self, alloc: Global) -> Result<Vec<Packet>, NoMemory>
+        ensures good { IfOk result (λ packets. AllByRecursion HasGoodRecords packets.items) }
+    {
+        let _came = self.wire.read()?;
+        let bytes = self.wire.take_heard(alloc);
+        if bytes.is_empty() {
+            return Ok(Vec::new(alloc));
+        }
+        let feed = self.reader.feed(alloc, bytes.as_slice())?;
+        if let Some(fault) = feed.fault {
+            self.wire.end(Gone::NoFrames(fault));
+        }
+        Ok(feed.packets.into_vec())
+    }
+
+    // Whether it may have more at once.
+    pub(crate) fn is_busy(&self) -> bool {
+        self.wire.may_give() && self.wire.gone().is_none()
+    }
+
+    // Leaves a packet for the hub, as its frame, where packets go. One that has no frame is lost.
+    pub(crate) fn tell(&mut self, alloc: Global, packet: &Packet) -> Result<(), NoMemory>
+        requires good { HasGoodRecords packet.now }
+    {
+        match self.stage {
+            Stage::Linked => {}
+            Stage::Meets | Stage::Knows(_) => return Ok(()),
+        }
+        match frame_of(alloc, packet)? {
+            Some(frame) => self.wire.tell(frame.as_slice()),
+            None => Ok(()),
+        }
+    }
+}

@@ -1,0 +1,114 @@
+// A leaf that is linked to the hub.
+ghost use Rattle.std.specs.Prelude.{◌≡◌, true, IfOk};
+ghost use Rattle.std.specs.List.{AllByRecursion, list_all};
+ghost use Rattle.botlinks.specs.Speakers.{is_own};
+ghost use Rattle.linkcalls.specs.Shapes.{HasGoodRecords};
+
+use crate::frames::{FrameReader, frame_of};
+use crate::gone::Gone;
+use crate::link_wire::LinkWire;
+use bytetext::NoMemory;
+use sharewire::Packet;
+use std::alloc::Global;
+use turns::is_said_by;
+
+// A leaf that is linked.
+pub(crate) struct Seat {
+    pub(crate) wire: LinkWire,
+    reader: FrameReader,
+    leaf: u16,
+    // The version of its last hello.
+    pub(crate) version: u32,
+    // Which of the hub's tokens names it.
+    pub(crate) slot: usize,
+}
+
+// By hand, so that this is proved once, and not in each function in which a seat is left.
+impl Drop for Seat {
+    fn drop(self) {
+        let Seat {
+            wire: _,
+            reader: _,
+            leaf: _,
+            version: _,
+            slot: _,
+        } = self;
+    }
+}
+
+impl Seat {
+    // A leaf that has shown its code on this connection. Takes no memory.
+    pub(crate) fn new(alloc: Global, wire: LinkWire, leaf: u16, slot: usize) -> Seat {
+        Seat {
+            wire,
+            reader: FrameReader::new(alloc),
+            leaf,
+            version: 0,
+            slot,
+        }
+    }
+
+    // Hears a piece, unless too much waits for it. The packets that are whole now. Bytes that are no frames, and a
+    // packet that this leaf does not say, end the connection; then there are none.
+    pub(crate) fn hear(&mut self, alloc: Global) -> Result<Vec<Packet>, NoMemory>
+        ensures good { IfOk result (λ packets. AllByRecursion HasGoodRecords packets.items) }
+        // A leaf speaks for itself alone.
+        ensures own { IfOk result (λ packets. list_all (is_own self.old.leaf) packets.items ≡ true) }
+    {
+        if self.wire.is_slow() || self.wire.gone().is_some() {
+            return Ok(Vec::new(alloc));
+        }
+        let _came = self.wire.read()?;
+        let bytes = self.wire.take_heard(alloc);
+        if bytes.is_empty() {
+            return Ok(Vec::new(alloc));
+        }
+        let feed = self.reader.feed(alloc, bytes.as_slice())?;
+        if let Some(fault) = feed.fault {
+            self.wire.end(Gone::NoFrames(fault));
+        }
+        if !are_said_by(feed.packets.as_slice(), self.leaf) {
+            self.wire.end(Gone::OtherSpeaker);
+            return Ok(Vec::new(alloc));
+        }
+        self.note_version(feed.packets.as_slice());
+        Ok(feed.packets.into_vec())
+    }
+
+    // Whether it may have more at once.
+    pub(crate) fn is_busy(&self) -> bool {
+        self.wire.may_give() && !self.wire.is_slow() && self.wire.gone().is_none()
+    }
+
+    // Notes the version of the last hello.
+    fn note_version(&mut self, packets: &[Packet]) {
+        for packet in packets {
+            if let Packet::Hello { version, .. } = packet {
+                self.version = *version;
+            }
+        }
+    }
+
+    // Leaves a packet for it, as its frame. One that has no frame is lost.
+    pub(crate) fn tell(&mut self, alloc: Global, packet: &Packet) -> Result<(), NoMemory>
+        requires good { HasGoodRecords packet.now }
+    {
+        match frame_of(alloc, packet)? {
+            Some(frame) => self.wire.tell(frame.as_slice()),
+            None => Ok(()),
+        }
+    }
+}
+
+// Whether all of these name this leaf as the one that says them.
+fn are_said_by(packets: &[Packet], leaf: u16) -> bool
+    ensures { result ≡ list_all (is_own leaf) packets.now }
+{
+    packets.iter().all(|packet| is_own(packet, leaf))
+}
+
+fn is_own(packet: &Packet, leaf: u16) -> bool
+    ensures { result ≡ is_own leaf packet.now }
+{
+    is_said_by(packet, leaf)
+}

@@ -1,0 +1,126 @@
+// How the hub hears its leaves, and who takes which seat.
+use crate::entry::Entry;
+use crate::gone::Gone;
+use crate::guest::Heeded;
+use crate::hub_links::{HubLinks, Who};
+use crate::log::log;
+use crate::seat::Seat;
+use bytetext::NoMemory;
+use std::alloc::Global;
+
+impl HubLinks {
+    /// Hears each that may have something to give. Whether there may be more at once.
+    ///
+    /// # Errors
+    /// `NoMemory` where a growth is refused.
+    pub fn read<R: AllocGlobal + Print>(&mut self, rt: &R, now: u64) -> Result<bool, NoMemory> {
+        let guests = self.heed_guests(rt, now)?;
+        let leaves = self.hear_leaves(rt.alloc())?;
+        Ok(guests || leaves)
+    }
+
+    // Hears each guest. Whether one has said anything.
+    fn heed_guests<R: AllocGlobal + Print>(&mut self, rt: &R, now: u64) -> Result<bool, NoMemory> {
+        let mut came = false;
+        for back in 0..self.guests.len() {
+            // From the last on, since one that joins or goes leaves the others before it in their places.
+            let place = self.guests.len().saturating_sub(back + 1);
+            if self.heed_guest(rt, place, now)? {
+                came = true;
+            }
+        }
+        Ok(came)
+    }
+
+    fn heed_guest<R: AllocGlobal + Print>(
+        &mut self,
+        rt: &R,
+        place: usize,
+        now: u64,
+    ) -> Result<bool, NoMemory> {
+        let Some(guest) = self.guests.get_mut(place) else {
+            return Ok(false);
+        };
+        match guest.heed(now)? {
+            Heeded::Waits(came) => Ok(came),
+            Heeded::Joins(leaf) => {
+                self.seat(rt, place, leaf, now);
+                Ok(true)
+            }
+            Heeded::Goes(gone) => {
+                self.drop_guest(rt, place, gone, now);
+                Ok(true)
+            }
+        }
+    }
+
+    // The guest at a place is this leaf, and takes its seat. Who has it goes.
+    fn seat<R: AllocGlobal + Print>(&mut self, rt: &R, place: usize, leaf: u16, now: u64) {
+        if place >= self.guests.len() {
+            return;
+        }
+        let (wire, slot) = self.guests.remove(place).into_parts();
+        self.unseat(rt, leaf, Gone::Replaced, now);
+        self.name(slot, Some(Who::Leaf(leaf)));
+        if let Some(seat) = self.seats.get_mut(usize::from(leaf)) {
+            *seat = Some(Seat::new(rt.alloc(), wire, leaf, slot));
+            log(rt, now, &Entry::Joined(leaf));
+        }
+    }
+
+    // Lets a leaf go, if it is there, and forgets what waits of it.
+    fn unseat<R: Print>(&mut self, rt: &R, leaf: u16, gone: Gone, now: u64) {
+        let Some(place) = self.seats.get_mut(usize::from(leaf)) else {
+            return;
+        };
+        let Some(seat) = place.take() else {
+            return;
+        };
+        self.name(seat.slot, None);
+        if usize::from(leaf) < self.inbox.stream_count() {
+            self.inbox.forget(usize::from(leaf));
+        }
+        log(rt, now, &Entry::LeafGone(leaf, gone));
+    }
+
+    // Hears each leaf of which no packets wait. Whether one may have more at once.
+    fn hear_leaves(&mut self, alloc: Global) -> Result<bool, NoMemory> {
+        let mut came = false;
+        for leaf in 1..self.seats.len() {
+            if self.hear_leaf(alloc, leaf)? {
+                came = true;
+            }
+        }
+        Ok(came)
+    }
+
+    fn hear_leaf(&mut self, alloc: Global, leaf: usize) -> Result<bool, NoMemory> {
+        if leaf >= self.inbox.stream_count() || self.inbox.count(leaf) > 0 {
+            return Ok(false);
+        }
+        let Some(Some(seat)) = self.seats.get_mut(leaf) else {
+            return Ok(false);
+        };
+        let packets = seat.hear(alloc)?;
+        let busy = seat.is_busy();
+        self.inbox.put(leaf, packets)?;
+        Ok(busy)
+    }
+
+    /// Lets each leaf go whose connection is over.
+    pub fn let_go<R: Print>(&mut self, rt: &R, now: u64) {
+        for leaf in 1..self.leaves.saturating_add(1) {
+            if let Some(gone) = self.gone_of(usize::from(leaf)) {
+                self.unseat(rt, leaf, gone, now);
+            }
+        }
+    }
+
+    // Why a leaf is to be let go, if it is there and is to be.
+    fn gone_of(&self, leaf: usize) -> Option<Gone> {
+        match self.seats.get(leaf) {
+            Some(Some(seat)) => seat.wire.gone(),
+            Some(None) | None => None,
+        }
+    }
+}

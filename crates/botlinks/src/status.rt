@@ -1,0 +1,60 @@
+// How a bot's connections to the others are, as lines.
+use crate::hub_links::HubLinks;
+use crate::leaf_link::LeafLink;
+use crate::links::Links;
+use crate::seat::Seat;
+use bytetext::NoMemory;
+use itoa::Buffer;
+
+/// Puts the lines that tell who is linked after a text: at a hub how many leaves are, and each of them with the version
+/// of its last hello and how many bytes wait for it; at a leaf whether the hub is, or when the next try is.
+///
+/// # Errors
+/// `NoMemory` where room is refused.
+pub fn put_status(text: &mut Vec<u8>, links: &Links) -> Result<(), NoMemory> {
+    match links {
+        Links::Alone => Ok(()),
+        Links::Hub(hub) => put_hub(text, hub),
+        Links::Leaf(leaf) => put_leaf(text, leaf),
+    }
+}
+
+fn put_hub(text: &mut Vec<u8>, hub: &HubLinks) -> Result<(), NoMemory> {
+    put_count(text, b"linked leaves ", hub.linked() as u64)?;
+    put(text, b"\n")?;
+    for (leaf, place) in hub.seats.iter().enumerate() {
+        if let Some(seat) = place {
+            put_seat(text, leaf, seat)?;
+        }
+    }
+    Ok(())
+}
+
+fn put_seat(text: &mut Vec<u8>, leaf: usize, seat: &Seat) -> Result<(), NoMemory> {
+    put_count(text, b"leaf ", leaf as u64)?;
+    put_count(text, b" version ", u64::from(seat.version))?;
+    put_count(text, b" unsent ", seat.wire.unsent() as u64)?;
+    put(text, b"\n")
+}
+
+fn put_leaf(text: &mut Vec<u8>, leaf: &LeafLink) -> Result<(), NoMemory> {
+    if leaf.is_linked() {
+        put_count(text, b"linked to the hub, unsent ", leaf.unsent() as u64)?;
+    } else if leaf.hub.is_some() {
+        put(text, b"connecting to the hub")?;
+    } else {
+        put_count(text, b"no hub, next try at ", leaf.due())?;
+    }
+    put(text, b"\n")
+}
+
+fn put_count(text: &mut Vec<u8>, word: &[u8], count: u64) -> Result<(), NoMemory> {
+    let mut buffer = Buffer::new();
+    put(text, word)?;
+    put(text, buffer.format(count).as_bytes())
+}
+
+fn put(text: &mut Vec<u8>, bytes: &[u8]) -> Result<(), NoMemory> {
+    text.extend_from_slice(bytes)?;
+    Ok(())
+}

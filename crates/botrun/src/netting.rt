@@ -1,0 +1,165 @@
+// Of which net a bot is, and how it is connected to the others.
+ghost use Rattle.std.specs.Prelude.{◌≡◌, ◌<◌, IfOk};
+ghost use Rattle.botrun.specs.Stations.{IsKnownWhereWanted, IsLinkedAs};
+
+use crate::ending::{RunError, of_folder};
+use botcore::{Bot, End, Event, Note};
+use botfolder::BotFolder;
+use botlinks::{HubLinks, LeafLink, Links, ListenFault, SecretFault, key_of};
+use dialling::literal;
+use disks::FileDisk;
+use handshake::{Key, NetNumber};
+use procstore::{ProcStore, Promise, Run};
+use settings::Settings;
+use sockets::{DoorFault, Registry};
+use std::alloc::Global;
+use std::fs::File;
+use std::net::{Net, SocketAddr};
+use std::random::RandomSource;
+use std::rt::Files;
+use std::str;
+
+// A bot is made in this folder: a hub draws the number of its net, and a leaf forgets the one before.
+pub(crate) fn begin_net<R: AllocGlobal + Files<File = File> + RandomSource>(
+    rt: &R,
+    folder: &BotFolder,
+    settings: &Settings,
+) -> Result<(), RunError> {
+    if settings.station.number > 0 {
+        return match folder.forget_net(rt) {
+            Ok(()) => Ok(()),
+            Err(error) => Err(of_folder(error)),
+        };
+    }
+    match NetNumber::draw(rt) {
+        Ok(net) => keep_net(rt, folder, &net),
+        Err(_) => Err(RunError::System),
+    }
+}
+
+// Keeps the number of the net.
+pub(crate) fn keep_net<R: AllocGlobal + Files<File = File>>(
+    rt: &R,
+    folder: &BotFolder,
+    net: &NetNumber,
+) -> Result<(), RunError> {
+    match folder.keep_net(rt, net.as_bytes()) {
+        Ok(()) => Ok(()),
+        Err(error) => Err(of_folder(error)),
+    }
+}
+
+// The number of the net that a bot keeps, if it keeps one.
+fn net_of<R: AllocGlobal + Files<File = File>>(
+    rt: &R,
+    folder: &BotFolder,
+) -> Result<Option<NetNumber>, RunError> {
+    match folder.net(rt) {
+        Ok(Some(digits)) => match NetNumber::read(&digits) {
+            Some(net) => Ok(Some(net)),
+            None => Err(RunError::NoNet),
+        },
+        Ok(None) => Ok(None),
+        Err(error) => Err(of_folder(error)),
+    }
+}
+
+// What both ends of a link know; none where the bot is alone.
+pub(crate) fn secret_of<R: Files<File = File>>(
+    rt: &R,
+    settings: &Settings,
+) -> Result<Option<Key>, RunError>
+    ensures known { IfOk result (IsKnownWhereWanted settings.now.station) }
+{
+    if settings.station.leaves == 0 {
+        return Ok(None);
+    }
+    let path = match &settings.secret {
+        Some(path) => path.as_bytes(),
+        None => b"",
+    };
+    let Ok(path) = str::from_utf8(path) else {
+        return Err(RunError::Secret(SecretFault::Unreadable));
+    };
+    match key_of(rt, path) {
+        Ok(key) => Ok(Some(key)),
+        Err(fault) => Err(RunError::Secret(fault)),
+    }
+}
+
+// A bot's connections to the others, to whom it is not connected yet. `version` is the one of its records.
+pub(crate) fn links_of<R: AllocGlobal + Net + Files<File = File>>(
+    rt: &R,
+    registry: &Registry,
+    folder: &BotFolder,
+    settings: &Settings,
+    key: Option<Key>,
+    version: u32,
+) -> Result<Links, RunError>
+    requires known { IsKnownWhereWanted settings.now.station key }
+    // It is alone, the hub or a leaf, as its number and the number of leaves say.
+    ensures station { IfOk result (IsLinkedAs settings.now.station) }
+{
+    let Some(key) = key else {
+        return Ok(Links::Alone);
+    };
+    let net = net_of(rt, folder)?;
+    let number = settings.station.number;
+    match net {
+        Some(net) if number == 0 => open_hub(rt, registry, settings, key, net),
+        // The hub has one, and so has a leaf that holds what a hub has sent.
+        None if number == 0 || version > 0 => Err(RunError::NoNet),
+        Some(_) | None => Ok(Links::Leaf(LeafLink::new(rt.alloc(), number, key, net)?)),
+    }
+}
+
+// The hub's connections.
+fn open_hub<R: AllocGlobal + Net>(
+    rt: &R,
+    registry: &Registry,
+    settings: &Settings,
+    key: Key,
+    net: NetNumber,
+) -> Result<Links, RunError>
+    requires hub { settings.now.station.number ≡ 0 }
+    requires others { 0 < settings.now.station.leaves }
+    ensures station { IfOk result (IsLinkedAs settings.now.station) }
+{
+    let Some(address) = listen_address(settings) else {
+        return Err(RunError::Listen(DoorFault::NotHere));
+    };
+    match HubLinks::open(rt, registry, address, settings.station.leaves, key, net) {
+        Ok(hub) => Ok(Links::Hub(hub)),
+        Err(ListenFault::Door(fault)) => Err(RunError::Listen(fault)),
+        Err(ListenFault::NoMemory) => Err(RunError::NoMemory),
+    }
+}
+
+// Where the hub listens, if the configuration has an address of a machine.
+fn listen_address(settings: &Settings) -> Option<SocketAddr> {
+    match &settings.listen {
+        Some(address) => literal(address.host.as_bytes(), address.port),
+        None => None,
+    }
+}
+
+// Whether a change of an earlier run of the bot is out, whose answer is still to come.
+pub(crate) fn is_out<P: Promise, B: Run>(
+    alloc: Global,
+    bot: &mut Bot<FileDisk>,
+    store: &ProcStore<P, B>,
+) -> Result<bool, RunError> {
+    let report = bot.step(alloc, store, Event::Pump);
+    match report.end {
+        End::NoMemory => Err(RunError::NoMemory),
+        End::Done | End::Refused(_) => Ok(is_sent(&report.note)),
+    }
+}
+
+// Whether a pump had a request go out.
+fn is_sent(note: &Option<Note>) -> bool {
+    match note {
+        Some(Note::Link(linkcalls::Note::Sent(_))) => true,
+        Some(Note::Link(_) | Note::Bound(_) | Note::Unbound(_) | Note::Bad(_)) | None => false,
+    }
+}

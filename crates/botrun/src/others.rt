@@ -1,0 +1,58 @@
+// The other bots, and who has asked for the changes that wait at a leaf.
+ghost use Rattle.std.specs.Prelude.{◌≡◌, [], IfOk};
+ghost use Rattle.std.specs.List.{AllByRecursion};
+ghost use Rattle.linkcalls.specs.Shapes.{HasGoodRecords};
+
+use crate::asks::Asks;
+use botlinks::Links;
+use bytetext::NoMemory;
+use std::alloc::Global;
+use turns::Heard;
+
+// The connections to the other bots, and who has asked for what waits here.
+pub(crate) struct Others {
+    pub(crate) links: Links,
+    pub(crate) asks: Asks,
+}
+
+// By hand, so that this is proved once, and not in each function in which they end.
+impl Drop for Others {
+    fn drop(self) {
+        let Others { links: _, asks: _ } = self;
+    }
+}
+
+impl Others {
+    // Nobody has asked for anything yet. Takes no memory.
+    pub(crate) fn new(alloc: Global, links: Links) -> Others
+        ensures links { result.links ≡ links }
+        ensures nobody { result.asks.askers.items ≡ [] }
+    {
+        Others {
+            links,
+            asks: Asks::new(alloc),
+        }
+    }
+
+    // What is heard in a turn, of the server and of the other bots.
+    pub(crate) fn hear(
+        &mut self,
+        alloc: Global,
+        connected: bool,
+        bytes: Vec<u8>,
+        now: u64,
+    ) -> Result<Heard, NoMemory>
+        ensures good { IfOk result (λ heard. AllByRecursion HasGoodRecords heard.packets.items) }
+    {
+        let packets = self.links.take_packets(alloc)?;
+        Ok(Heard {
+            connected,
+            bytes,
+            packets,
+            changes: Vec::new(alloc),
+            now,
+            pump: self.links.is_pump_due(now),
+            compact: false,
+        })
+    }
+}

@@ -1,0 +1,48 @@
+// Scripts, replayed.
+use crate::statuses::{FAULT, STREAM_FAULT, not_read, out_of_memory};
+use procstore::{ProcStore, Promise, Run};
+use replay::{ReplayError, replay};
+use std::fs::File;
+use std::io;
+use std::rt::Files;
+use streams::Duplex;
+
+/// Replays the script on standard input, with its transcript on standard output. Standard error says why where it ends
+/// early; the status says it too.
+pub fn replay_input<R: Input + Print + Eprint + AllocGlobal, P: Promise, B: Run>(
+    rt: &R,
+    store: ProcStore<P, B>,
+) -> u8 {
+    let mut stream = Duplex::new(rt.reader(), io::writer(rt));
+    match replay(rt.alloc(), store, &mut stream) {
+        Ok(()) => 0,
+        Err(error) => replay_told(rt, error),
+    }
+}
+
+/// Replays the script in a file, as [`replay_input`] does that on standard input.
+pub fn replay_file<R: Print + Eprint + AllocGlobal + Files<File = File>, P: Promise, B: Run>(
+    rt: &R,
+    store: ProcStore<P, B>,
+    file: &str,
+) -> u8 {
+    let Ok(script) = File::open(rt, file) else {
+        return not_read(rt, file);
+    };
+    let mut stream = Duplex::new(script, io::writer(rt));
+    match replay(rt.alloc(), store, &mut stream) {
+        Ok(()) => 0,
+        Err(error) => replay_told(rt, error),
+    }
+}
+
+// Tells why a replay ended early.
+fn replay_told<R: Eprint>(rt: &R, error: ReplayError) -> u8 {
+    let status = match error {
+        ReplayError::Script(_) => FAULT,
+        ReplayError::Read | ReplayError::Write => STREAM_FAULT,
+        ReplayError::NoMemory => return out_of_memory(rt),
+    };
+    let _told = eprintln!(rt; "eggnet: {error}");
+    status
+}
