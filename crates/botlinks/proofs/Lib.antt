@@ -1,3 +1,2 @@
 pub mod JoiningLemmas
 pub mod SpeakerLemmas
-pub mod StreamLemmas

@@ -1,4 +1,3 @@
 pub mod Hellos
 pub mod Joining
 pub mod Speakers
-pub mod Streams

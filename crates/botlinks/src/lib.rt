@@ -1,7 +1,7 @@
 //! The connections between the bots of a net: the hub's to its leaves, and a leaf's to its hub.
 //!
 //! A hub listens, and each leaf connects to it. First both show that they know one secret ([`handshake`]), and that
-//! they are of one net; then packets go both ways as frames ([`sharewire`]). A [`HubLinks`] has a seat for each leaf: a
+//! they are of one net; then packets go both ways as frames ([`linkframes`]). A [`HubLinks`] has a seat for each leaf: a
 //! second connection with the right code takes the seat of the first. A leaf speaks for itself alone: a packet that
 //! names another ends its connection. A [`LeafLink`] connects again whenever its connection is lost, and says when the
 //! leaf is to say hello ([`Pumps`]). [`Links`] is either of them, or neither where a bot is alone.
@@ -26,7 +26,6 @@
 #![tactic(auto)]
 
 mod entry;
-mod frames;
 mod gone;
 mod guest;
 mod hub_links;
@@ -41,7 +40,6 @@ mod seating;
 mod secret;
 mod status;
 
-pub use crate::frames::{FrameReader, frame_of};
 pub use crate::hub_links::{HubLinks, ListenFault, MAX_GUESTS};
 pub use crate::leaf_link::{LONGEST_WAIT, LeafLink};
 pub use crate::links::{FIRST_TOKEN, Links};

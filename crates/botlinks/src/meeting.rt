@@ -3,11 +3,11 @@ ghost use Rattle.std.specs.Prelude.{IfOk};
 ghost use Rattle.std.specs.List.{AllByRecursion};
 ghost use Rattle.linkcalls.specs.Shapes.{HasGoodRecords};
 
-use crate::frames::{FrameReader, frame_of};
 use crate::gone::Gone;
 use crate::link_wire::LinkWire;
 use bytetext::NoMemory;
 use handshake::{HandshakeFault, LeafHears, LeafSide, NetNumber, is_late};
+use linkframes::{FrameReader, frame_of};
 use sharewire::Packet;
 use std::alloc::Global;
 

@@ -4,10 +4,10 @@ ghost use Rattle.std.specs.List.{AllByRecursion, list_all};
 ghost use Rattle.botlinks.specs.Speakers.{is_own};
 ghost use Rattle.linkcalls.specs.Shapes.{HasGoodRecords};
 
-use crate::frames::{FrameReader, frame_of};
 use crate::gone::Gone;
 use crate::link_wire::LinkWire;
 use bytetext::NoMemory;
+use linkframes::{FrameReader, frame_of};
 use sharewire::Packet;
 use std::alloc::Global;
 use turns::is_said_by;

@@ -1,15 +1,10 @@
 // Packets over a connection.
-ghost use Rattle.std.specs.Prelude.{◌≡◌, true};
-ghost use Rattle.sharewire.specs.Frames.{CanBeWritten};
-ghost use Rattle.linkcalls.specs.Shapes.{HasGoodRecords};
-
-use crate::frame_reader::FrameReader;
 use crate::peer::Peer;
 use bytetext::NoMemory;
+use linkframes::{FrameReader, frame_of};
 use mio::net::TcpStream;
-use sharewire::{MAX_PART_RECORDS, Packet, is_bot_text, write_packet};
+use sharewire::Packet;
 use std::alloc::Global;
-use userfile::shape;
 
 /// A connection over which packets go as frames.
 #[derive(Drop)]
@@ -61,31 +56,5 @@ impl FramePeer {
             Some(frame) => self.peer.tell(frame.as_slice()),
             None => Ok(()),
         }
-    }
-}
-
-/// The frame of a packet; none where it has none.
-///
-/// # Errors
-/// `NoMemory` where room for it is refused.
-pub fn frame_of(alloc: Global, packet: &Packet) -> Result<Option<Vec<u8>>, NoMemory>
-    requires good { HasGoodRecords packet.now }
-{
-    if !has_frame(packet) {
-        return Ok(None);
-    }
-    Ok(Some(write_packet(alloc, packet)?))
-}
-
-// Whether a packet can be written: its change is of good shape, its records are few, and its text is one that may be told.
-fn has_frame(packet: &Packet) -> bool
-    requires good { HasGoodRecords packet.now }
-    ensures { result ≡ true → CanBeWritten packet.now }
-{
-    match packet {
-        Packet::Change { change, .. } | Packet::Request { change, .. } => shape(change).is_none(),
-        Packet::Part { records, .. } => records.len() <= MAX_PART_RECORDS,
-        Packet::BotText { text, .. } => is_bot_text(text.as_bytes()),
-        Packet::Hello { .. } | Packet::Accepted { .. } | Packet::Refused { .. } => true,
     }
 }

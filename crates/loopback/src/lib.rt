@@ -2,7 +2,7 @@
 //!
 //! A [`Peer`] is a connection with the bytes that were read and those that are still to be written. [`House`] is the
 //! server of [`miniircd`] on a port, with those who are connected to it and guests that are held in memory. Over a
-//! [`FramePeer`] packets go as frames of [`sharewire`]; a [`LinkHouse`] is the hub's side of the link, with its listener,
+//! [`FramePeer`] packets go as frames ([`linkframes`]); a [`LinkHouse`] is the hub's side of the link, with its listener,
 //! and an [`Uplink`] a leaf's.
 //!
 //! Each of them is driven by turns: let in who waits, read what has come, take it, and send what waits. No call waits for
@@ -15,7 +15,6 @@
 
 mod addresses;
 mod caller;
-mod frame_reader;
 mod frames;
 mod guest;
 mod house;
@@ -26,7 +25,7 @@ mod uplink;
 mod waiting;
 
 pub use crate::addresses::local;
-pub use crate::frames::{FramePeer, frame_of};
+pub use crate::frames::FramePeer;
 pub use crate::house::House;
 pub use crate::link::LinkHouse;
 pub use crate::peer::Peer;

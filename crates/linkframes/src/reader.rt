@@ -1,13 +1,8 @@
-// Packets as frames.
-ghost use Rattle.std.specs.Prelude.{◌≡◌, true};
-ghost use Rattle.sharewire.specs.Frames.{CanBeWritten};
-ghost use Rattle.linkcalls.specs.Shapes.{HasGoodRecords};
-
+// Packets from the frames of a connection.
 use bytetext::NoMemory;
-use sharewire::{Feed, MAX_PART_RECORDS, Packet, WireReader, is_bot_text, write_packet};
+use sharewire::{Feed, WireReader};
 use std::alloc::Global;
 use std::marker::Model;
-use userfile::shape;
 
 /// Reads the frames of a connection from its first byte on: so each packet that it answers has a frame.
 pub struct FrameReader {
@@ -23,7 +18,7 @@ impl Drop for FrameReader {
 
 impl Model for FrameReader {
     ghost use Rattle.sharewire.specs.Streams.{Ending};
-    ghost use Rattle.botlinks.specs.Streams.{IsRead};
+    ghost use Rattle.linkframes.specs.Streams.{IsRead};
 
     ghost Value = { Ending };
 
@@ -52,32 +47,5 @@ impl FrameReader {
         ensures good { IfOk result (λ feed. AllByRecursion HasGoodRecords feed.packets) }
     {
         self.reader.feed(alloc, bytes)
-    }
-}
-
-/// The frame of a packet; none where it has none.
-///
-/// # Errors
-/// `NoMemory` where room for it is refused.
-pub fn frame_of(alloc: Global, packet: &Packet) -> Result<Option<Vec<u8>>, NoMemory>
-    requires good { HasGoodRecords packet.now }
-{
-    if !has_frame(packet) {
-        return Ok(None);
-    }
-    Ok(Some(write_packet(alloc, packet)?))
-}
-
-// Whether a packet can be written: its change is of good shape, its records are few, and its text is one that may be
-// told.
-fn has_frame(packet: &Packet) -> bool
-    requires good { HasGoodRecords packet.now }
-    ensures { result ≡ true → CanBeWritten packet.now }
-{
-    match packet {
-        Packet::Change { change, .. } | Packet::Request { change, .. } => shape(change).is_none(),
-        Packet::Part { records, .. } => records.len() <= MAX_PART_RECORDS,
-        Packet::BotText { text, .. } => is_bot_text(text.as_bytes()),
-        Packet::Hello { .. } | Packet::Accepted { .. } | Packet::Refused { .. } => true,
     }
 }

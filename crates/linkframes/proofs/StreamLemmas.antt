@@ -8,7 +8,7 @@ use Rattle.sharewire.specs.declared.packet.Packet.TheVariants.{Hello, Change, Pa
 use Rattle.sharewire.specs.Frames.{IsGoodPacket}
 use Rattle.sharewire.specs.Streams.{Ending, Tells}
 use Rattle.linkcalls.specs.Shapes.{HasGoodRecords}
-use Rattle.loopback.specs.Streams.{IsRead}
+use Rattle.linkframes.specs.Streams.{IsRead}
 
 -- ---- packets that have frames
 

@@ -1,5 +1,5 @@
-use Rattle.botlinks.proofs.StreamLemmas.{fed_good, fed_read}
-use Rattle.botlinks.proofs.frames.FrameReader.feed.Goals as goal
+use Rattle.linkframes.proofs.StreamLemmas.{fed_good, fed_read}
+use Rattle.linkframes.proofs.reader.FrameReader.feed.Goals as goal
 
 pub invariant_of-self : goal.invariant_of-self
 invariant_of-self c = fed_read c.args.bytes.now _ _ c.feed.result c.self.invariant c.feed.ensures.told c.feed.ensures.unchanged

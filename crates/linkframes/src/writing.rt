@@ -1,0 +1,36 @@
+// Packets as frames.
+ghost use Rattle.std.specs.Prelude.{◌≡◌, true};
+ghost use Rattle.sharewire.specs.Frames.{CanBeWritten};
+ghost use Rattle.linkcalls.specs.Shapes.{HasGoodRecords};
+
+use bytetext::NoMemory;
+use sharewire::{MAX_PART_RECORDS, Packet, is_bot_text, write_packet};
+use std::alloc::Global;
+use userfile::shape;
+
+/// The frame of a packet; none where it has none.
+///
+/// # Errors
+/// `NoMemory` where room for it is refused.
+pub fn frame_of(alloc: Global, packet: &Packet) -> Result<Option<Vec<u8>>, NoMemory>
+    requires good { HasGoodRecords packet.now }
+{
+    if !has_frame(packet) {
+        return Ok(None);
+    }
+    Ok(Some(write_packet(alloc, packet)?))
+}
+
+// Whether a packet can be written: its change is of good shape, its records are few, and its text is one that may be
+// told.
+fn has_frame(packet: &Packet) -> bool
+    requires good { HasGoodRecords packet.now }
+    ensures { result ≡ true → CanBeWritten packet.now }
+{
+    match packet {
+        Packet::Change { change, .. } | Packet::Request { change, .. } => shape(change).is_none(),
+        Packet::Part { records, .. } => records.len() <= MAX_PART_RECORDS,
+        Packet::BotText { text, .. } => is_bot_text(text.as_bytes()),
+        Packet::Hello { .. } | Packet::Accepted { .. } | Packet::Refused { .. } => true,
+    }
+}

@@ -1,8 +1,0 @@
-use Rattle.loopback.proofs.StreamLemmas.{fed_good, fed_read}
-use Rattle.loopback.proofs.frame_reader.FrameReader.feed.Goals as goal
-
-pub invariant_of-self : goal.invariant_of-self
-invariant_of-self c = fed_read c.args.bytes.now _ _ c.feed.result c.self.invariant c.feed.ensures.told c.feed.ensures.unchanged
-
-pub returns : goal.returns
-returns c = record { good = fed_good c.args.bytes.now _ _ c.feed.result c.self.invariant c.feed.ensures.told }
