@@ -9,6 +9,7 @@ use crate::heard::{call_by, kind_of, person_of};
 use crate::made_call::{MadeCall, MadeCalls, Unbound};
 use crate::next::{Next, is_word, next_of};
 use crate::occasion::{Occasion, cron_call, due_call, said_call, time_call};
+use crate::people::People;
 use crate::scene::Scene;
 use crate::words::first_word;
 use bindtable::{Bind, BindKind, Called, Event as Occurrence};
@@ -255,14 +256,17 @@ impl Dispatch {
         &mut self,
         alloc: Global,
         scene: &Scene<'_, P, B>,
+        people: &mut People<'_>,
         event: &Event,
     ) -> Result<(), NoMemory>
+        requires { people.old ≡ scene.now.userfile.now.users }
         ensures ok { OnOk result (Adds P.code_of P.may self.old
             (told_heard (setting_in P.code_of scene.now) event.now) self.new) }
         ensures err { OnErr result (AddsFront P.code_of P.may self.old
             (told_heard (setting_in P.code_of scene.now) event.now) self.new) }
+        ensures people { people.new ≡ people.old }
     {
-        let person = match person_of(alloc, scene.userfile, event) {
+        let person = match person_of(alloc, people, event) {
             Ok(person) => person,
             Err(NoMemory) => return Err(NoMemory),
         };
@@ -290,15 +294,18 @@ impl Dispatch {
         &mut self,
         alloc: Global,
         scene: &Scene<'_, P, B>,
+        people: &mut People<'_>,
         occasion: &Occasion,
     ) -> Result<(), NoMemory>
+        requires { people.old ≡ scene.now.userfile.now.users }
         ensures ok { OnOk result (Adds P.code_of P.may self.old
             (told_alone (setting_in P.code_of scene.now) occasion.now) self.new) }
         ensures err { OnErr result (AddsFront P.code_of P.may self.old
             (told_alone (setting_in P.code_of scene.now) occasion.now) self.new) }
+        ensures people { people.new ≡ people.old }
     {
         match occasion {
-            Occasion::Heard(event) => self.call_heard(alloc, scene, event),
+            Occasion::Heard(event) => self.call_heard(alloc, scene, people, event),
             Occasion::Due(proc) => self.call_due(alloc, scene, proc),
             Occasion::Time(minute) => self.call_time(alloc, scene, minute),
             Occasion::Cron(minute) => self.call_cron(alloc, scene, minute),
@@ -311,18 +318,21 @@ impl Dispatch {
         &mut self,
         alloc: Global,
         scene: &Scene<'_, P, B>,
+        people: &mut People<'_>,
         occasion: &Occasion,
         taken: bool,
     ) -> Result<(), NoMemory>
+        requires { people.old ≡ scene.now.userfile.now.users }
         ensures ok { OnOk result (Adds P.code_of P.may self.old
             (told (setting_in P.code_of scene.now) taken occasion.now) self.new) }
         ensures err { OnErr result (AddsFront P.code_of P.may self.old
             (told (setting_in P.code_of scene.now) taken occasion.now) self.new) }
+        ensures people { people.new ≡ people.old }
     {
         if is_silent(scene.exclusive, taken, occasion.kind()) {
             return Ok(());
         }
-        match self.call_alone(alloc, scene, occasion) {
+        match self.call_alone(alloc, scene, people, occasion) {
             Ok(()) => Ok(()),
             Err(NoMemory) => Err(NoMemory),
         }
@@ -333,16 +343,19 @@ impl Dispatch {
         &mut self,
         alloc: Global,
         scene: &Scene<'_, P, B>,
+        people: &mut People<'_>,
         occasion: &Occasion,
         taken: bool,
     ) -> Result<Next, NoMemory>
+        requires { people.old ≡ scene.now.userfile.now.users }
         ensures ok { IfOk result (λ next.
             AddsOccasion (setting_in P.code_of scene.now) P.may self.old taken occasion.now next self.new) }
         ensures err { OnErr result (AddsFront P.code_of P.may self.old
             (told (setting_in P.code_of scene.now) taken occasion.now) self.new) }
+        ensures people { people.new ≡ people.old }
     {
         let before = self.call_count();
-        match self.call_unless_taken(alloc, scene, occasion, taken) {
+        match self.call_unless_taken(alloc, scene, people, occasion, taken) {
             Ok(()) => Ok(next_of(occasion.kind(), self.calls_since(before))),
             Err(NoMemory) => Err(NoMemory),
         }
@@ -382,12 +395,19 @@ pub fn call_procs<P: Promise, B: Run>(
     ensures { IsDispatched (setting_in P.code_of scene.now) P.may occasions.now result }
 {
     let mut made = Dispatch::new(alloc);
+    let mut people = People::new(scene.userfile);
     let mut next = Next::Go { taken: false };
     let mut rest = occasions;
     while let Some((occasion, behind)) = rest.split_first() {
         match next {
             Next::Stop => return Ok(made),
-            Next::Go { taken } => match made.call_occasion(alloc, scene, occasion, taken) {
+            Next::Go { taken } => match made.call_occasion(
+                alloc,
+                scene,
+                &mut people,
+                occasion,
+                taken,
+            ) {
                 Ok(after) => next = after,
                 Err(NoMemory) => return Err(made),
             },

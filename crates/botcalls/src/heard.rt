@@ -1,15 +1,15 @@
 // What binds and procs see of an event of a message.
 ghost use Rattle.std.specs.Prelude.{◌≡◌, [], IfOk};
-ghost use Rattle.std.specs.Option.{option_copied};
-ghost use Rattle.botcalls.specs.Heard.{kind_of, is_personal, text_at, who_of, flags_on, person_of, call_by};
+ghost use Rattle.botcalls.specs.Heard.{kind_of, is_personal, text_at, who_of, person_of, call_by};
 
+use crate::people::People;
 use bindtable::BindKind;
 use bytetext::{NoMemory, Text, Texts, copies_of};
 use chanstate::{Event, Kind as EventKind};
 use flagexpr::Flags;
 use procstore::Call;
 use std::alloc::Global;
-use userfile::{PersonFlags, Userfile};
+use userfile::PersonFlags;
 
 // Whom an event is by, as far as the userfile knows.
 #[derive(Clone, Copy)]
@@ -64,19 +64,20 @@ fn is_personal(kind: EventKind) -> bool
 // Whom an event is by.
 pub(crate) fn person_of<'a>(
     alloc: Global,
-    userfile: &'a Userfile,
+    people: &mut People<'a>,
     event: &Event,
 ) -> Result<Person<'a>, NoMemory>
-    ensures handle { IfOk result (λ person. person.handle.now ≡ (person_of userfile.now.users event.now).handle) }
-    ensures flags { IfOk result (λ person. person.flags ≡ (person_of userfile.now.users event.now).flags) }
+    ensures handle { IfOk result (λ person. person.handle.now ≡ (person_of people.old event.now).handle) }
+    ensures flags { IfOk result (λ person. person.flags ≡ (person_of people.old event.now).flags) }
+    ensures users { people.new ≡ people.old }
 {
     if !is_personal(event.kind) {
         return Ok(nobody());
     }
     let who = who_of(alloc, event.arguments.as_slice())?;
-    let handle = userfile.handle_of(who.as_bytes());
+    let handle = people.handle_of(who);
     let channel = event.channel.as_ref().map(|name| name.as_bytes());
-    let flags = flags_on(userfile, handle, channel);
+    let flags = people.flags_on(handle, channel);
     Ok(Person { handle, flags })
 }
 
@@ -111,23 +112,6 @@ fn who_of(alloc: Global, arguments: &[Text]) -> Result<Text, NoMemory>
     who.push(b'!')?;
     who.extend_from_slice(text_at(arguments, 1))?;
     Ok(Text::new(who))
-}
-
-// The flags of a handle where an event is on this channel, or on none.
-fn flags_on(userfile: &Userfile, handle: &[u8], channel: Option<&[u8]>) -> PersonFlags
-    ensures { result ≡ flags_on userfile.now.users handle.now (option_copied channel.entry) }
-{
-    match channel {
-        Some(channel) => userfile.flags_of(handle, channel),
-        None => {
-            let flags = userfile.flags_of(handle, b"");
-            PersonFlags {
-                global: flags.global,
-                chan: Flags::empty(),
-                bot: flags.bot,
-            }
-        }
-    }
 }
 
 // What procs are called with for an event by this handle.

@@ -18,6 +18,7 @@ mod heard;
 mod made_call;
 mod next;
 mod occasion;
+mod people;
 mod scene;
 mod words;
 

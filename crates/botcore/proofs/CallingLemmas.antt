@@ -9,7 +9,6 @@ use Rattle.procstore.specs.declared.reply.Code.{Code}
 use Rattle.botcalls.specs.declared.made_call.MadeCall.{MadeCall}
 use Rattle.bytetext.specs.declared.memory.NoMemory.{NoMemory}
 use Rattle.outqueue.specs.Sending.{sent, after as after_sending}
-use Rattle.botcore.specs.declared.report.End.{End}
 use Rattle.botcore.specs.declared.report.End.TheVariants.{Done, NoMemory as ends_no_memory}
 use Rattle.botcore.specs.declared.report.Note.{Note}
 use Rattle.botcore.specs.declared.report.Report.{Report}

@@ -16,7 +16,7 @@ use Rattle.linkcalls.specs.Meets.{how_of}
 use Rattle.linknet.specs.Ends.{End}
 use Rattle.botlink.specs.Links.{BotEnd, Calls, took}
 use Rattle.botcore.specs.declared.report.Report.{Report}
-use Rattle.botcore.specs.Bots.{Bot, bot_setting, with_failures}
+use Rattle.botcore.specs.Bots.{Bot, bot_setting, with_device}
 use Rattle.botcalls.specs.Calls.{calls_in}
 use Rattle.botcalls.specs.Dispatching.{told_of}
 use Rattle.botcore.specs.Happenings.{Saying, saying_in, saying_of}
@@ -25,9 +25,9 @@ use Rattle.botcore.specs.Steps.{TakesPacket, TakesText, GivesRow, said_occasions
 use Rattle.botcore.proofs.AskLemmas.{fault_is}
 use Rattle.botcore.proofs.SilentLemmas.{end_text}
 
--- the same end of the link, but for how often the disks have failed
+-- the same end of the link, but for what happened to its disks
 link_is : (old link : BotEnd) → link.number ≡ old.number → link.leaves ≡ old.leaves → link.end ≡ old.end
-    → link ≡ record old { failures = link.failures }
+    → link ≡ record old { device = link.device }
 link_is old link number leaves end =
     ap (λ (n : ℕ). record link { number = n }) number
     ∙ ap (λ (n : ℕ). record link { number = old.number; leaves = n }) leaves
@@ -36,7 +36,7 @@ link_is old link number leaves end =
 -- a packet that brings a text leaves the end of the link so
 text_leaves : (old link : BotEnd) (packet : Packet) (answer : Answer) (saying : Saying)
     → Calls old (took old packet) (Ok answer) link → saying_of (took old packet Works).told ≡ Some saying
-    → link ≡ record old { failures = link.failures }
+    → link ≡ record old { device = link.device }
 text_leaves old link packet answer saying calls is =
     link_is old link calls.number calls.leaves
     (calls.row.after ∙ (end_text old.leaves old.number old.end (from_wire packet) saying is).0)
@@ -65,7 +65,8 @@ module _ (code_of : List ℕ → Call → Code) (may : List ℕ → Call → Lis
 
       by : (s : Option Saying) → saying_in (note_of answer.note) ≡ s → TakesPacket s code_of may names old packet report new
       by (Some saying) e = (
-        link.failures,
+        link.device,
+        calls.moments,
         subst (λ (l : BotEnd). TakesText code_of may names (record old { link = l }) saying report new)
             (text_leaves old.link link packet answer saying calls (told ∙ e)) (texts saying e),
       )
@@ -102,15 +103,16 @@ module _ (code_of : List ℕ → Call → Code) (may : List ℕ → Call → Lis
   failed old new link packet NoMemory report calls after reported =
       by (saying_of (took old.link packet Works).told)
     where
-      same : new ≡ with_failures old link.failures
+      same : new ≡ with_device old link.device
       same = after ∙ ap (λ (l : BotEnd). record old { link = l }) (link_is old.link link calls.number calls.leaves calls.row.1)
 
       by : (s : Option Saying) → TakesPacket s code_of may names old packet report new
       by None = GivesRow-err old new link packet NoMemory report calls after reported
       by (Some saying) = (
-        link.failures,
-        subst (λ (r : Report). TakesText code_of may names (with_failures old link.failures) saying r new) (sym reported) (record {
-          rest = calls_in (told_of (bot_setting code_of names (with_failures old link.failures)) (said_occasions saying));
+        link.device,
+        calls.moments,
+        subst (λ (r : Report). TakesText code_of may names (with_device old link.device) saying r new) (sym reported) (record {
+          rest = calls_in (told_of (bot_setting code_of names (with_device old link.device)) (said_occasions saying));
           calls = refl;
           kept = tt;
           note = refl;

@@ -1,7 +1,7 @@
 -- What a bot is to a contract.
 use Rattle.std.specs.Prelude.{ℕ, Bool, false, List, [], Option, None}
 use Rattle.bottimers.specs.Held.{Held}
-use Rattle.botjournal.specs.Ledger.{Failures}
+use Rattle.botjournal.specs.Ledger.{Device}
 use Rattle.botlink.specs.Links.{BotEnd, new_bot_end}
 use Rattle.chanstate.specs.declared.state.ChanState.{ChanState}
 use Rattle.chanstate.specs.Views.{connected}
@@ -43,17 +43,17 @@ begun config link =
       welcomed = false;
     }
 
--- a bot before its first step, on disks that have failed so often
-abbrev pub new_bot : Config → Failures → Bot
-new_bot config failures = begun config (new_bot_end config.number config.leaves failures)
+-- a bot before its first step, on these disks
+abbrev pub new_bot : Config → Device → Bot
+new_bot config device = begun config (new_bot_end config.number config.leaves device)
 
 -- what a restart leaves of a bot whose journal was opened again: its binds, and the end of the link that the journal has
 abbrev pub restarted : Bot → BotEnd → Bot
 restarted old link = record (begun old.config link) { binds = old.binds }
 
--- the same bot, on disks that have failed so often
-abbrev pub with_failures : Bot → Failures → Bot
-with_failures bot failures = record bot { link = record bot.link { failures = failures } }
+-- the same bot, on these disks
+abbrev pub with_device : Bot → Device → Bot
+with_device bot device = record bot { link = record bot.link { device = device } }
 
 -- what the calls of a bot depend on, with a store of these names
 abbrev pub bot_setting : (List ℕ → Call → Code) → List (List ℕ) → Bot → Setting

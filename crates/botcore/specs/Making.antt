@@ -37,7 +37,7 @@ module _ {D : Type 0} (state : D → State) (config : Config) (first second : D)
 
   -- Making a bot, by cases on the answer.
   abbrev pub Makes : Result Bot (Returned D) → Type 0
-  Makes (Ok bot) = IsGood config × (bot ≡ new_bot config bot.link.failures)
+  Makes (Ok bot) = IsGood config × (bot ≡ new_bot config bot.link.device)
   Makes (Err returned) = NotMade returned.error returned.disks.first returned.disks.second
 
   -- ---- finding
@@ -56,7 +56,7 @@ module _ {D : Type 0} (state : D → State) (config : Config) (first second : D)
   -- the end of the link that the disks hold, of a bot with this configuration
   abbrev pub IsOnDisks : BotEnd → Type 0
   IsOnDisks link = IsFound state config.number config.leaves first second link.end
-      × (link ≡ record { number = config.number; leaves = config.leaves; end = link.end; failures = link.failures })
+      × (link ≡ record { number = config.number; leaves = config.leaves; end = link.end; device = link.device })
 
   -- Finding a bot, by cases on the answer.
   abbrev pub Finds : Result Bot (Returned D) → Type 0

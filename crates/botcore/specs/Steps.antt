@@ -1,5 +1,5 @@
 -- One step of a bot: what one event makes it report, and the bot that it leaves.
-use Rattle.std.specs.Prelude.{◌≡◌, ℕ, ◌==◌, nat_le, Bool, true, false, List, [], ◌∷◌, ◌++◌, length, map, find, Option, Some, None, Result, Ok, Err, if◌then◌else◌}
+use Rattle.std.specs.Prelude.{◌≡◌, ◌⊎◌, ℕ, ◌==◌, nat_le, Bool, true, false, List, [], ◌∷◌, ◌++◌, length, map, find, Option, Some, None, Result, Ok, Err, if◌then◌else◌}
 use Rattle.bytetext.specs.declared.failure.Failure.{Failure}
 use Rattle.ircline.specs.declared.line.Line.TheVariants.{Message as a_message, Bad as a_bad_line}
 use Rattle.ircline.specs.declared.message.Message.{Message}
@@ -16,8 +16,8 @@ use Rattle.bindtable.specs.declared.fault.BindFault.{BindFault}
 use Rattle.bindtable.specs.declared.fault.BindFault.TheVariants.{NoSuchBind}
 use Rattle.bindtable.specs.Tables.{Table, Asked, refusal, number_of, bound, is_such, without_such}
 use Rattle.sharewire.specs.declared.packet.Packet.{Packet}
-use Rattle.botjournal.specs.Ledger.{Failures}
-use Rattle.protocol.specs.Bots.{How, Works, Row}
+use Rattle.botjournal.specs.Ledger.{Device}
+use Rattle.protocol.specs.Bots.{How, Works, Fails, Row}
 use Rattle.protocol.specs.Network.Event.{Pump as pumps, Compact as compacts}
 use Rattle.userfile.specs.declared.change.Change.{Change}
 use Rattle.linkcalls.specs.declared.answer.Answer.{Answer}
@@ -25,7 +25,7 @@ use Rattle.linkcalls.specs.declared.error.LinkFault.{LinkFault}
 use Rattle.linkcalls.specs.declared.note.Note.TheVariants.{Text as told_text}
 use Rattle.linkcalls.specs.Shapes.{HasGoodRecords}
 use Rattle.linknet.specs.Ends.{End as LinkEnd}
-use Rattle.botlink.specs.Links.{BotEnd, did, took, Calls, CallsRestart, Asks}
+use Rattle.botlink.specs.Links.{BotEnd, did, took, Calls, CallsRestart, Asks, LeavesOwn}
 use Rattle.botcore.specs.declared.event.Event.{Event}
 use Rattle.botcore.specs.declared.event.Event.TheVariants.{Connect, Line, Ask, Pump, Receive, Clock, Bind, Unbind, Compact, Restart}
 use Rattle.botcore.specs.declared.event.NewBind.{NewBind}
@@ -39,7 +39,7 @@ use Rattle.botcalls.specs.declared.occasion.Occasion.TheVariants.{Heard, Said}
 use Rattle.botcore.specs.declared.report.Note.{Note}
 use Rattle.botcore.specs.declared.report.Note.TheVariants.{Link as link_note, Bound, Unbound, Bad}
 use Rattle.botcore.specs.declared.report.Report.{Report}
-use Rattle.botcore.specs.Bots.{Bot, bot_setting, restarted, with_failures}
+use Rattle.botcore.specs.Bots.{Bot, bot_setting, restarted, with_device}
 use Rattle.botcalls.specs.Calls.{Entry, Telling, calls_in, unbound_in}
 use Rattle.botcalls.specs.Dispatching.{told_of, is_logged}
 use Rattle.botcore.specs.Acting.{faults_of}
@@ -189,13 +189,14 @@ TakesText code_of may names old saying report new =
     TakesCalls report.end code_of may (told_of (bot_setting code_of names old) (said_occasions saying)) old old
     (Some (text_note saying)) (finish_text old) report new
 
--- a packet is one call of the link, and its text, if it brings one to this bot, is told; what a text does doesn't depend on how
--- often the disks have failed
+-- a packet is one call of the link, and its text, if it brings one to this bot, is told; what a text does doesn't depend on what
+-- happened to the disks
 abbrev pub TakesPacket : Option Saying → (List ℕ → Call → Code) → (List ℕ → Call → List Action → Type 0) → List (List ℕ)
     → Bot → Packet → Report → Bot → Type 0
 TakesPacket None code_of may names old packet report new = GivesRow old (took old.link packet) report new
 TakesPacket (Some saying) code_of may names old packet report new =
-    (failures : Failures) × TakesText code_of may names (with_failures old failures) saying report new
+    (device : Device) × ((device ≡ old.link.device) ⊎ LeavesOwn (record old.link { end = (took old.link packet Fails).after }) old.link.device device)
+    × TakesText code_of may names (with_device old device) saying report new
 
 -- ---- readings of the clock
 

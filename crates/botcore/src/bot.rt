@@ -70,7 +70,7 @@ impl<D: Disk> Model for Bot<D> {
 impl<D: Disk> Bot<D> {
     ghost use Rattle.std.specs.Prelude.{◌≡◌};
     ghost use Rattle.linknet.specs.Ends.{end_is_down};
-    ghost use Rattle.botlink.specs.Opening.{MayLeave};
+    ghost use Rattle.botlink.specs.Links.{MayLeave};
     ghost use Rattle.botcore.specs.Links.{ask_count, link_records, link_version};
 
     /// What it was told before it was made.
@@ -123,10 +123,18 @@ impl<D: Disk> Bot<D> {
         self.channels.current().own_nick()
     }
 
+    /// Says what a crash leaves at this moment, between two steps. It does nothing.
+    pub fn know_disks(&self)
+        // What a restart finds, with the record in doubt or without it.
+        ensures left { MayLeave self.now.link.device.first self.now.link.device.second self.now.link }
+    {
+        self.link.know_disks();
+    }
+
     /// The two disks, in the order in which they were given. Whatever a crash leaves on them is the bot's journal; one that
     /// is opened with the same configuration is at the same version, but for what is in doubt since a disk failed.
     pub fn into_disks(self) -> Disks<D>
-        ensures left { MayLeave D.state result.first result.second self.link }
+        ensures left { MayLeave (D.state result.first) (D.state result.second) self.link }
     {
         let Bot {
             config: _,

@@ -29,6 +29,7 @@ pub struct Returned<D: Disk> {
 impl<D: Disk> Bot<D> {
     ghost use Rattle.std.specs.Prelude.{◌≡◌, IfOk};
     ghost use Rattle.storage.specs.State.{IsSettled};
+    ghost use Rattle.botjournal.specs.Ledger.{AreStill};
     ghost use Rattle.botcore.specs.Bots.{begun};
     ghost use Rattle.botcore.specs.Configs.{IsGood};
     ghost use Rattle.botcore.specs.Making.{Makes, Finds};
@@ -73,6 +74,8 @@ impl<D: Disk> Bot<D> {
         requires first_settled { IsSettled (D.state first) }
         requires second_settled { IsSettled (D.state second) }
         ensures found { Finds D.state config first second result }
+        // Nothing happened to the disks.
+        ensures still { IfOk result (λ bot. AreStill (D.state first) (D.state second) bot.link.device) }
     {
         let channels = match ready(alloc, &config) {
             Ok(channels) => channels,

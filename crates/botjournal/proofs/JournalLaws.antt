@@ -1,5 +1,5 @@
 -- The contents of texts, read.
-use Rattle.std.proofs.Common.{◌≡◌, ℕ, ◌+◌, ◌-◌, ◌^◌, ◌<◌, ◌≤◌, arith, Bool, true, false, Result, Ok, Err, Option, Some, None, List, [], ◌∷◌, ◌++◌, refl}
+use Rattle.std.proofs.Common.{◌≡◌, ℕ, ◌+◌, ◌-◌, ◌^◌, ◌<◌, arith, Bool, true, false, Result, Ok, Err, Option, Some, None, List, [], ◌∷◌, ◌++◌, refl}
 use Rattle.std.proofs.Common.{sym, ap, subst, ◌∙◌}
 use Rattle.std.specs.Prelude.{IsSome, option_map}
 use Rattle.bytetext.specs.declared.failure.Failure.{Failure}
@@ -79,8 +79,7 @@ not_both b f t = cc
 not_last : (n : ℕ) → n < 2 ^ 32 - 1 → n ≡ 2 ^ 32 - 1 → ⊥
 not_last n lt e = absurd (omega arith)
 
-module _ {D : Type 0} (state : D → State) (seen_is_left : (disk : D) → (state disk).may_leave (state disk).seen)
-    (counts_now : (disk : D) (t : ℕ) (image : List ℕ) → t ≤ (state disk).moment → (state disk).may_leave image → (state disk).left_since t image) where
+module _ {D : Type 0} (state : D → State) where
   -- ---- an entry more
 
   module _ (old : Journal D) (entry : Entry) (text : List ℕ) (good : IsGoodEntry entry) (is : text ≡ entry_bytes entry) (some : IsSome (contents_of state old)) where
@@ -98,7 +97,7 @@ module _ {D : Type 0} (state : D → State) (seen_is_left : (disk : D) → (stat
     append_some : (new : Journal D)
         → AnyMoment state old new (IsEitherText (HoldsOne state old) (texts_of state old) (option_map (added_text text) (texts_of state old)))
         → IsSome (contents_of state new)
-    append_some new m = still_some state seen_is_left counts_now old new (option_map (added entry) (contents_of state old)) some
+    append_some new m = still_some state old new (option_map (added entry) (contents_of state old)) some
         (some_map (added entry) (contents_of state old) some) (append_moments new m)
 
   module _ (old new : Journal D) (entry : Entry) (text : List ℕ) (good : IsGoodEntry entry) (is : text ≡ entry_bytes entry) (sound : IsSound state old)
@@ -144,7 +143,7 @@ module _ {D : Type 0} (state : D → State) (seen_is_left : (disk : D) → (stat
     rebase_some : (new : Journal D)
         → AnyMoment state old new (IsEitherText (HoldsOne state old) (texts_of state old) (option_map (rebased_text text) (texts_of state old)))
         → IsSome (contents_of state new)
-    rebase_some new m = still_some state seen_is_left counts_now old new (option_map (rebased base) (contents_of state old)) some
+    rebase_some new m = still_some state old new (option_map (rebased base) (contents_of state old)) some
         (some_map (rebased base) (contents_of state old) some) (rebase_moments new m)
 
   module _ (old new : Journal D) (base : Base) (text : List ℕ) (good : IsGoodBase base) (is : text ≡ base_bytes base) (sound : IsSound state old)

@@ -1,8 +1,9 @@
 -- What two disks mean whose texts are all spellings.
-use Rattle.std.proofs.Common.{◌≡◌, ◌⊎◌, ◌≤◌, inl, inr, ⊎_elim, ℕ, Bool, true, false, Option, Some, None, List, refl, sym, ap, subst, ◌∙◌}
+use Rattle.std.proofs.Common.{◌≡◌, ◌⊎◌, inl, inr, ⊎_elim, ℕ, Bool, true, false, Option, Some, None, List, refl, sym, ap, subst, ◌∙◌}
 use Rattle.std.specs.Prelude.{IsSome, if◌then◌else◌}
 use Rattle.std.specs.Option.{is_some}
-use Rattle.storage.specs.State.{State}
+use Rattle.storage.specs.State.{State, moment}
+use Rattle.storage.specs.Laws.{seen_is_left, counts_now}
 use Rattle.bytejournal.specs.declared.journal.Journal.{Journal}
 use Rattle.bytejournal.specs.declared.opening.Older.{Older}
 use Rattle.bytejournal.specs.Meaning.{Contents as Texts, Held, held, chosen, meaning as meaning_in_texts}
@@ -155,18 +156,16 @@ module _ {D : Type 0} (state : D → State) where
         (sym (texts_are old some)) same (m.each x y a b);
   }
 
-  module _ (seen_is_left : (disk : D) → (state disk).may_leave (state disk).seen)
-      (counts_now : (disk : D) (t : ℕ) (image : List ℕ) → t ≤ (state disk).moment → (state disk).may_leave image → (state disk).left_since t image) where
-    -- after a call the disks mean something again
-    pub still_some : (old new : Journal D) (wanted : Option Contents) → IsSome (contents_of state old) → IsSome wanted
-        → AnyMoment state old new (IsEither (contents_of state old) wanted) → IsSome (contents_of state new)
-    still_some old new wanted some some' m =
-        let first = first_disk new in
-        let second = second_disk new in
-        let here = m.each (state first).seen (state second).seen
-        (counts_now first (state (first_disk old)).moment (state first).seen m.first_later (seen_is_left first))
-        (counts_now second (state (second_disk old)).moment (state second).seen m.second_later (seen_is_left second)) in
-        let one : IsSome (meaning (state first).seen (state second).seen) =
-        ⊎_elim (λ b. some_is (meaning (state first).seen (state second).seen) (contents_of state old) b some)
-        (λ a. some_is (meaning (state first).seen (state second).seen) wanted a some') here.means in
-        some_is (contents_of state new) (meaning (state first).seen (state second).seen) (contents_in_order new) one
+  -- after a call the disks mean something again
+  pub still_some : (old new : Journal D) (wanted : Option Contents) → IsSome (contents_of state old) → IsSome wanted
+      → AnyMoment state old new (IsEither (contents_of state old) wanted) → IsSome (contents_of state new)
+  still_some old new wanted some some' m =
+      let first = first_disk new in
+      let second = second_disk new in
+      let here = m.each (state first).seen (state second).seen
+      (counts_now (state first) (moment (state (first_disk old))) (state first).seen m.first_later (seen_is_left (state first)))
+      (counts_now (state second) (moment (state (second_disk old))) (state second).seen m.second_later (seen_is_left (state second))) in
+      let one : IsSome (meaning (state first).seen (state second).seen) =
+      ⊎_elim (λ b. some_is (meaning (state first).seen (state second).seen) (contents_of state old) b some)
+      (λ a. some_is (meaning (state first).seen (state second).seen) wanted a some') here.means in
+      some_is (contents_of state new) (meaning (state first).seen (state second).seen) (contents_in_order new) one

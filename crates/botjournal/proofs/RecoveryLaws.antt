@@ -14,7 +14,7 @@ use Rattle.bytejournal.specs.Recovery.{Stage, first_of, second_of, Lives, IsReco
 use Rattle.bytejournal.specs.Recovery.Stage.{InProgram}
 use Rattle.bytejournal.proofs.Pairs.{either_comm, pair}
 use Rattle.bytejournal.proofs.Appending.{nothing_happens}
-use Rattle.bytejournal.proofs.Lasting.{HasLaws, Stays, StageStays, IsStageKept, Callable, seen_journal, after_moments, no_moments, untouched, reopened, opened_again, all_kept}
+use Rattle.bytejournal.proofs.Lasting.{Stays, StageStays, IsStageKept, Callable, seen_journal, after_moments, no_moments, untouched, reopened, opened_again, all_kept}
 use Rattle.bytejournal.proofs.Recovering.{some_is, some_map, none_is_not_some}
 use Rattle.botjournal.specs.declared.base.Base.{Base}
 use Rattle.botjournal.specs.declared.entry.Entry.{Entry}
@@ -57,7 +57,7 @@ module _ {D : Type 0} (state : D → State) where
   spent_rebase old base (Err (Refused GenerationsSpent)) new r spent = absurd (not_both old.spent r.0 spent)
   spent_rebase old base (Err NoMemory) new r spent = absurd (not_both old.spent r.0 spent)
 
-module _ {D : Type 0} (state : D → State) (laws : HasLaws state) where
+module _ {D : Type 0} (state : D → State) where
   -- ---- calls
 
   -- a call of a journal: what a crash leaves means its contents, or others
@@ -69,11 +69,11 @@ module _ {D : Type 0} (state : D → State) (laws : HasLaws state) where
     where
       some : IsSome (contents_of state old)
       some = some_is (contents_of state old) (meaning (state (first_disk old)).seen (state (second_disk old)).seen) (contents_in_order state old)
-          (seen_journal state laws IsJournal (first_disk old) (second_disk old) is).some
+          (seen_journal state IsJournal (first_disk old) (second_disk old) is).some
 
       by_spent : (b : Bool) → old.spent ≡ b → Stays state IsJournal (first_disk old) (second_disk old) (first_disk new) (second_disk new)
       by_spent true spent = subst (λ (j : OfTexts D). Stays state IsJournal (first_disk old) (second_disk old) (first_disk j) (second_disk j))
-          (sym (stuck spent)) (no_moments state laws IsJournal (first_disk old) (second_disk old) is)
+          (sym (stuck spent)) (no_moments state IsJournal (first_disk old) (second_disk old) is)
       by_spent false going =
           let m = moments going in
           record {
@@ -88,18 +88,18 @@ module _ {D : Type 0} (state : D → State) (laws : HasLaws state) where
   pub opened_is_found : (first second : D) (result : Result (Opened D) (Returned D)) → IsRecoverable state IsJournal first second
       → Opens state first second result → FindsJournal result
   opened_is_found first second (Ok opened) is o =
-      let here = seen_journal state laws IsJournal first second is in
+      let here = seen_journal state IsJournal first second is in
       o.0.whole here.first_whole here.second_whole
   opened_is_found first second (Err handed) is o = λ e.
       none_is_not_some (meaning (state first).seen (state second).seen)
       (subst (λ (f : Failure JournalFault). Refuses state first second f handed.disks.first handed.disks.second) e o.0)
-      (seen_journal state laws IsJournal first second is).some
+      (seen_journal state IsJournal first second is).some
 
   pub restarted_is_found : (journal : OfTexts D) (result : Result (Opened D) (Returned D))
       → IsRecoverable state IsJournal (first_disk journal) (second_disk journal) → Restarts state journal result → FindsJournal result
   restarted_is_found journal result is r = opened_is_found r.0 r.1 result
-      (after_moments state laws IsJournal (first_disk journal) (second_disk journal) r.0 r.1
-      (reopened state laws IsJournal (first_disk journal) (second_disk journal) r.0 r.1 is r.2 r.3)) r.4
+      (after_moments state IsJournal (first_disk journal) (second_disk journal) r.0 r.1
+      (reopened state IsJournal (first_disk journal) (second_disk journal) r.0 r.1 is r.2 r.3)) r.4
 
   after_open : (first second : D) (result : Result (Opened D) (Returned D)) → Opens state first second result
       → Untouched (state first) (state (first_of (after_opening result))) × Untouched (state second) (state (second_of (after_opening result)))
@@ -121,20 +121,20 @@ module _ {D : Type 0} (state : D → State) (laws : HasLaws state) where
       called old new (rebased base) kept (spent_rebase state old base result new is.row) is.any_moment
   call_stays (restart {journal} result r) kept =
       let u = after_open r.0 r.1 result r.4 in
-      opened_again state laws IsJournal (first_disk journal) (second_disk journal) r.0 r.1 (first_of (after_opening result))
+      opened_again state IsJournal (first_disk journal) (second_disk journal) r.0 r.1 (first_of (after_opening result))
       (second_of (after_opening result)) kept r.2 r.3 u.0 u.1
-  call_stays (into_disks {journal}) kept = no_moments state laws IsJournal (first_disk journal) (second_disk journal) kept
-  call_stays (reopen {first} {second} {first'} {second'} a b) kept = reopened state laws IsJournal first second first' second' kept a b
+  call_stays (into_disks {journal}) kept = no_moments state IsJournal (first_disk journal) (second_disk journal) kept
+  call_stays (reopen {first} {second} {first'} {second'} a b) kept = reopened state IsJournal first second first' second' kept a b
   call_stays (opening {first} {second} result settled settled' o) kept =
       let u = after_open first second result o in
-      untouched state laws IsJournal first second (first_of (after_opening result)) (second_of (after_opening result)) kept u.0 u.1
+      untouched state IsJournal first second (first_of (after_opening result)) (second_of (after_opening result)) kept u.0 u.1
 
   call_callable : {old new : Stage D} → Calls state old new → IsStageKept state IsJournal old → Callable (IsSound state) new
   call_callable (append entry result is) kept = is.sound
   call_callable (rebase base result is) kept = is.sound
   call_callable (restart {journal} result r) kept = opened_callable r.0 r.1 result
-      (after_moments state laws IsJournal (first_disk journal) (second_disk journal) r.0 r.1
-      (reopened state laws IsJournal (first_disk journal) (second_disk journal) r.0 r.1 kept r.2 r.3)) r.4
+      (after_moments state IsJournal (first_disk journal) (second_disk journal) r.0 r.1
+      (reopened state IsJournal (first_disk journal) (second_disk journal) r.0 r.1 kept r.2 r.3)) r.4
   call_callable into_disks kept = tt
   call_callable (reopen a b) kept = tt
   call_callable (opening {first} {second} result settled settled' o) kept = opened_callable first second result kept o
@@ -148,9 +148,9 @@ module _ {D : Type 0} (state : D → State) (laws : HasLaws state) where
       let after = contents_of state journal in
       let moments = typed_moments state journal journal texts after rest.some rest.some (sym (texts_are state journal rest.some))
       (pair state journal.swapped _ _ _ _ _ (either_comm (HoldsOne state journal) texts texts)
-      (nothing_happens state journal rest.texts (laws.only_now journal.active) (laws.only_now journal.idle) texts)) in (
+      (nothing_happens state journal rest.texts texts)) in (
         λ going. rest,
-        after_moments state laws IsJournal (first_disk journal) (second_disk journal) (first_disk journal) (second_disk journal)
+        after_moments state IsJournal (first_disk journal) (second_disk journal) (first_disk journal) (second_disk journal)
             (record {
               first_later = moments.first_later;
               second_later = moments.second_later;
@@ -161,6 +161,6 @@ module _ {D : Type 0} (state : D → State) (laws : HasLaws state) where
   pub lives_kept : (first second : D) (base : Base) (journal : OfTexts D) (last : Stage D) → Creates state first second base (Ok journal)
       → Lives state (Calls state) (InProgram journal) last → IsIntact state (IsSound state) IsJournal last
   lives_kept first second base journal last created lives =
-      all_kept state laws IsJournal (IsSound state) (Calls state) (λ old new call kept. call_stays call kept)
+      all_kept state IsJournal (IsSound state) (Calls state) (λ old new call kept. call_stays call kept)
       (λ old new call kept. call_callable call kept) lives
       (created_is_kept first second base journal created)

@@ -1,13 +1,15 @@
 -- A ledger as contracts see it, and what its calls answer. What is said of the disks in its hands is its invariant.
-use Rattle.std.specs.Prelude.{◌≡◌, ◌≢◌, ◌⊎◌, ◌-◌, ◌^◌, ℕ, Bool, true, false, Option, None, Some, List, Result, Ok, Err}
+use Rattle.std.specs.Prelude.{◌≡◌, ◌≢◌, ◌⊎◌, ◌+◌, ◌-◌, ◌^◌, ℕ, Bool, true, false, Option, None, Some, List, Result, Ok, Err}
 use Rattle.bytetext.specs.declared.failure.Failure.{Failure}
 use Rattle.bytetext.specs.declared.failure.Failure.TheVariants.{Refused, NoMemory}
 use Rattle.std.specs.List.{AllByRecursion}
 use Rattle.storage.specs.declared.disk.DiskFault.{DiskFault}
-use Rattle.storage.specs.State.{State, Rose}
+use Rattle.storage.specs.Events.{openings}
+use Rattle.storage.specs.State.{State, Rose, may_leave}
 use Rattle.bytejournal.specs.declared.fault.JournalFault.{JournalFault}
 use Rattle.bytejournal.specs.declared.fault.JournalFault.TheVariants.{DiskFault as DiskFailed, NotAJournal, Spent, GenerationsSpent as NoMoreLeft}
 use Rattle.bytejournal.specs.declared.opening.Returned.{Returned}
+use Rattle.bytejournal.specs.Journal.{EachMoment}
 use Rattle.bytejournal.specs.Opening.{CannotCreate, Untouched}
 use Rattle.botjournal.specs.declared.base.Base.{Base}
 use Rattle.botjournal.specs.declared.entry.Entry.{Entry}
@@ -33,14 +35,21 @@ pub record Account : Type 0 where
   pub doubt : Option Pending
   pub down : Bool
 
--- how often each of the two disks has failed
-pub record Failures : Type 0 where
-  pub first : ℕ
-  pub second : ℕ
+-- The two disks, with all that happened to them: no room that is made on one of them is seen, so they are the same after a
+-- call that wrote nothing.
+pub record Device : Type 0 where
+  pub first : State
+  pub second : State
 
 pub record Ledger : Type 0 where
   pub account : Account
-  pub failures : Failures
+  pub device : Device
+
+abbrev pub without_room : State → State
+without_room disk = record disk { calls = 0; end = 0 }
+
+abbrev pub device_on : State → State → Device
+device_on first second = record { first = without_room first; second = without_room second }
 
 -- the contents once this is written
 abbrev pub written : Pending → Contents → Contents
@@ -60,18 +69,37 @@ abbrev pub settled : Contents → Account
 settled contents = record { contents = contents; doubt = None; down = false }
 
 -- a disk failed between the one and the other
-abbrev pub Failed : Failures → Failures → Type 0
-Failed before now = Rose before.first now.first ⊎ Rose before.second now.second
+abbrev pub Failed : Device → Device → Type 0
+Failed before now = Rose before.first.failed now.first.failed ⊎ Rose before.second.failed now.second.failed
+
+-- each disk was opened again once
+abbrev pub Reopens : Device → Device → Type 0
+Reopens before now = (openings now.first.events ≡ openings before.first.events + 1)
+    × (openings now.second.events ≡ openings before.second.events + 1)
+
+-- what a crash at any moment from the one on to the other may have left has P
+abbrev pub AtEachMoment : Device → Device → (List ℕ → List ℕ → Type 0) → Type 0
+AtEachMoment before now P = EachMoment before.first before.second now.first now.second P
+
+-- these disks are the device still: nothing happened to them since
+abbrev pub AreStill : State → State → Device → Type 0
+AreStill first second device = (device.first.seen ≡ first.seen) × (device.first.events ≡ first.events)
+    × (device.second.seen ≡ second.seen) × (device.second.events ≡ second.events)
 
 -- a disk failed while this was written
 abbrev pub FailsAt : Pending → Ledger → Ledger → Type 0
 FailsAt pending old new =
-    (new.account ≡ record { contents = old.account.contents; doubt = Some pending; down = true }) × Failed old.failures new.failures
+    (new.account ≡ record { contents = old.account.contents; doubt = Some pending; down = true }) × Failed old.device new.device
 
 -- this was written
 abbrev pub Writes : Pending → Ledger → Ledger → Type 0
 Writes pending old new =
     new.account ≡ record { contents = written pending old.account.contents; doubt = old.account.doubt; down = old.account.down }
+
+-- at each moment of a call a crash leaves what was kept, or that with this written
+abbrev pub LeavesEither : Pending → Ledger → Ledger → Type 0
+LeavesEither pending old new =
+    AtEachMoment old.device new.device (IsEither (Some old.account.contents) (Some (written pending old.account.contents)))
 
 -- ---- what the calls answer
 
@@ -100,17 +128,19 @@ StaysDown old new = new.account ≡ record { contents = old.account.contents; do
 abbrev pub Restarts : Ledger → Result Found (Failure DiskFault) → Ledger → Type 0
 Restarts old (Ok found) new =
     ((new.account ≡ settled old.account.contents) ⊎ (new.account ≡ settled (counted old.account))) × IsFound found new.account.contents
-Restarts old (Err (Refused _)) new = StaysDown old new × Failed old.failures new.failures
+Restarts old (Err (Refused _)) new = StaysDown old new × Failed old.device new.device
 Restarts old (Err NoMemory) new = StaysDown old new
+
+-- ---- the disks
+
+-- whatever a crash leaves on the disks means what is kept, or that with what is in doubt, and all gates are there
+abbrev pub Leaves : State → State → Account → Type 0
+Leaves first second account = (x y : List ℕ) → may_leave first x → may_leave second y
+    → IsEither (Some account.contents) (Some (counted account)) x y
 
 -- ---- disks that are given and handed back
 
 module _ {D : Type 0} (state : D → State) where
-  -- whatever a crash leaves on the disks means what is kept, or that with what is in doubt, and all gates are there
-  abbrev pub Leaves : D → D → Account → Type 0
-  Leaves first second account = (x y : List ℕ) → (state first).may_leave x → (state second).may_leave y
-      → IsEither (Some account.contents) (Some (counted account)) x y
-
   -- Making a ledger, by cases on the answer.
   abbrev pub Creates : D → D → Base → Result Ledger (Returned D) → Type 0
   Creates first second base (Ok ledger) = ledger.account ≡ settled (new_contents base)

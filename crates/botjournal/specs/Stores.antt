@@ -17,7 +17,7 @@ use Rattle.botjournal.specs.declared.store.Doubt.TheVariants.{Adding as AddingOn
 use Rattle.botjournal.specs.declared.opening.Opened.{Opened}
 use Rattle.botjournal.specs.Contents.{Contents}
 use Rattle.botjournal.specs.Journal.{IsAtRest, Opens, contents_of}
-use Rattle.botjournal.specs.Ledger.{Account, Failures, Pending, Leaves}
+use Rattle.botjournal.specs.Ledger.{Account, Device, Pending, Leaves, device_on}
 use Rattle.botjournal.specs.Ledger.Pending.{Adding, Rebasing}
 
 -- what the snapshot of a write shows
@@ -48,15 +48,19 @@ module _ {D : Type 0} where
   AreIn (Shut held) disks = (disks.first ≡ held.first) × (disks.second ≡ held.second)
   AreIn InHand disks = ⊥
 
+abbrev unseen : State
+unseen = record { seen = []; events = []; failed = 0; calls = 0; end = 0 }
+
 module _ {D : Type 0} (state : D → State) where
   -- what is kept is what the journal meant when it last was at rest
   abbrev pub account_of : OfTexts D → Option Doubt → Bool → Account
   account_of rested doubt down = record { contents = shown (contents_of state rested); doubt = option_map pending_of doubt; down = down }
 
-  abbrev pub failures_of : Store D → Failures
-  failures_of (Open journal) = record { first = (state (first_disk journal)).failed; second = (state (second_disk journal)).failed }
-  failures_of (Shut disks) = record { first = (state disks.first).failed; second = (state disks.second).failed }
-  failures_of InHand = record { first = 0; second = 0 }
+  -- the disks where they are; while a restart has them in its hands nothing is shown of them
+  abbrev pub device_of : Store D → Device
+  device_of (Open journal) = device_on (state (first_disk journal)) (state (second_disk journal))
+  device_of (Shut disks) = device_on (state disks.first) (state disks.second)
+  device_of InHand = record { first = unseen; second = unseen }
 
   -- a journal that takes calls: it is at rest and means what is kept, and nothing is in doubt
   pub record IsGoing (journal : OfTexts D) (account : Account) : Type 0 where
@@ -70,8 +74,8 @@ module _ {D : Type 0} (state : D → State) where
   Stands false (Open journal) account = IsGoing journal account
   Stands false (Shut disks) account = ⊥
   Stands false InHand account = ⊥
-  Stands true (Open journal) account = Leaves state (first_disk journal) (second_disk journal) account
-  Stands true (Shut disks) account = Leaves state disks.first disks.second account
+  Stands true (Open journal) account = Leaves (state (first_disk journal)) (state (second_disk journal)) account
+  Stands true (Shut disks) account = Leaves (state disks.first) (state disks.second) account
   Stands true InHand account = ⊥
 
   -- Opening a journal on what a crash left of two disks.

@@ -1,10 +1,11 @@
 // A bot's journal that outlives a fault of its disks.
-ghost use Rattle.std.specs.Prelude.{◌≡◌, ◌↔◌, ◌-◌, ◌^◌, IsTrue, IfOk, false};
+ghost use Rattle.std.specs.Prelude.{◌≡◌, ◌↔◌, ◌-◌, ◌^◌, IsTrue, IfOk, Some, false};
 ghost use Rattle.storage.specs.State.{IsSettled};
 ghost use Rattle.botjournal.specs.Bases.{IsGoodBase};
 ghost use Rattle.botjournal.specs.Entries.{IsGoodEntry};
-ghost use Rattle.botjournal.specs.Ledger.{Creates, Opens, Appends, Rebases, Restarts, Leaves, IsGoodFound, settled};
-ghost use Rattle.botjournal.specs.Journal.{IsAtRest, IsGoodOpened, contents_of};
+ghost use Rattle.botjournal.specs.Ledger.{Adding, Rebasing, Creates, Opens, Appends, Rebases, Restarts, Reopens, AreStill, AtEachMoment, LeavesEither, Leaves, IsGoodFound, settled, counted, device_on};
+ghost use Rattle.bytejournal.specs.Journal.{first_disk, second_disk};
+ghost use Rattle.botjournal.specs.Journal.{IsEither, IsAtRest, IsGoodOpened, contents_of};
 ghost use Rattle.botjournal.specs.Stores.{OpensAgain, read_error, shown};
 
 use crate::base::Base;
@@ -47,11 +48,11 @@ impl<D: Disk> Model for Ledger<D> {
 
     ghost Value = { Ledger };
 
-    ghost use Rattle.botjournal.specs.Stores.{Stands, account_of, failures_of};
+    ghost use Rattle.botjournal.specs.Stores.{Stands, account_of, device_of};
 
     ghost view = { λ l. record {
       account = account_of D.state l.rested.value l.doubt l.down;
-      failures = failures_of D.state l.store;
+      device = device_of D.state l.store;
     } };
 
     ghost invariant = { λ l. Stands D.state l.down l.store (account_of D.state l.rested.value l.doubt l.down) };
@@ -85,6 +86,8 @@ impl<D: Disk> Ledger<D> {
         requires first_settled { IsSettled (D.state first) }
         requires second_settled { IsSettled (D.state second) }
         ensures row { Opens D.state first second result }
+        // Nothing happened to the disks.
+        ensures still { IfOk result (λ opened. AreStill (D.state first) (D.state second) opened.0.device) }
         // What it holds may be appended and put in place again.
         ensures good { IfOk result (λ opened. IsGoodFound opened.1) }
     {
@@ -110,6 +113,7 @@ impl<D: Disk> Ledger<D> {
         requires going { journal.spent ≡ false }
         requires rest { IsAtRest D.state journal }
         ensures shows { result.account ≡ settled (shown (contents_of D.state journal)) }
+        ensures device { result.device ≡ device_on (D.state (first_disk journal)) (D.state (second_disk journal)) }
     {
         Ledger {
             rested: Snapshot::of(&journal),
@@ -128,6 +132,8 @@ impl<D: Disk> Ledger<D> {
         requires up { self.old.account.down ≡ false }
         requires good { IsGoodEntry entry.now }
         ensures row { Appends self.old entry.now result self.new }
+        // Whatever a crash at any moment of the call leaves means what was kept, or that with the entry.
+        ensures any_moment { LeavesEither (Adding entry.now) self.old self.new }
     {
         let Store::Open(journal) = &mut self.store else {
             unreachable!();
@@ -156,6 +162,8 @@ impl<D: Disk> Ledger<D> {
         requires up { self.old.account.down ≡ false }
         requires good { IsGoodBase base.now }
         ensures row { Rebases self.old base.now result self.new }
+        // Whatever a crash at any moment of the call leaves means what was kept, or the base alone.
+        ensures any_moment { LeavesEither (Rebasing base.now) self.old self.new }
     {
         let Store::Open(journal) = &mut self.store else {
             unreachable!();
@@ -207,6 +215,11 @@ impl<D: Disk> Ledger<D> {
     /// what was in doubt still is.
     pub fn restart(&mut self, alloc: Global) -> Result<Found, LedgerError>
         ensures row { Restarts self.old result self.new }
+        // Both disks are opened again, whatever is answered.
+        ensures reopened { Reopens self.old.device self.new.device }
+        // Whatever a crash at any moment of the call leaves means what is kept, or that with what is in doubt.
+        ensures any_moment { AtEachMoment self.old.device self.new.device
+            (IsEither (Some self.old.account.contents) (Some (counted self.old.account))) }
         // What it holds may be appended and put in place again.
         ensures good { IfOk result IsGoodFound }
     {
@@ -233,7 +246,7 @@ impl<D: Disk> Ledger<D> {
     /// The two disks, in the order in which they were given.
     pub fn into_disks(self) -> Disks<D>
         // A crash leaves on them what is kept, or that with what is in doubt.
-        ensures left { Leaves D.state result.first result.second self.account }
+        ensures left { Leaves (D.state result.first) (D.state result.second) self.account }
     {
         let Ledger {
             store,
@@ -242,6 +255,14 @@ impl<D: Disk> Ledger<D> {
             down: _,
         } = self;
         store.into_disks()
+    }
+
+    /// Says what a crash leaves at this moment, between two calls. It does nothing.
+    pub fn know_disks(&self)
+        // What is kept, or that with what is in doubt.
+        ensures left { Leaves self.now.device.first self.now.device.second self.now.account }
+    {
+        let _down = self.down;
     }
 
     /// Whether nothing is taken but a restart.

@@ -2,15 +2,16 @@
 use Rattle.std.proofs.Common.{◌≡◌, ◌⊎◌, ◌<◌, inl, inr, ℕ, zero, suc, List, Some, option_map, ap, arith}
 use Rattle.protocol.specs.Network.{Restart}
 use Rattle.protocol.specs.Bots.{Works, Counts}
-use Rattle.protocol.specs.HubRules.{hub_folded}
-use Rattle.protocol.specs.LeafRules.{leaf_folded}
+use Rattle.protocol.specs.HubRules.{Hub, hub_folded}
+use Rattle.protocol.specs.LeafRules.{Leaf, leaf_folded}
 use Rattle.protocol.specs.Journals.{hub_meaning, leaf_meaning}
 use Rattle.linkstate.specs.Kept.{MeansEither, AreOf as KeptAreOf}
-use Rattle.hublink.specs.Link.{HubEnd}
-use Rattle.leaflink.specs.Link.{LeafEnd}
-use Rattle.botlink.specs.Links.{did}
+use Rattle.botjournal.specs.Ledger.{Device, AtEachMoment}
+use Rattle.linknet.specs.Ends.{AtHub, AtLeaf}
+use Rattle.hublink.specs.Link.{HubEnd, IsOwn as HubIsOwn}
+use Rattle.leaflink.specs.Link.{LeafEnd, IsOwn as LeafIsOwn}
 use Rattle.botlink.specs.Ends.{hub_end, leaf_end}
-use Rattle.botlink.specs.Opening.{hub_at_rest, leaf_at_rest, end_meaning, AreOf}
+use Rattle.botlink.specs.Links.{did, hub_at_rest, leaf_at_rest, end_meaning, AreOf, LeavesOwn}
 
 pub hub_left : (hub : HubEnd) (x y : List ℕ) → KeptAreOf (hub_meaning hub.leaves) hub_folded hub.bot.kept hub.bot.doubt x y → AreOf (hub_end hub) x y
 hub_left hub x y is = record { contents = is.contents; found = is.found; means = by is.means }
@@ -31,3 +32,22 @@ leaf_left leaf x y numbered is = record { contents = is.contents; found = is.fou
     by zero numbered m = absurd (omega (arith, numbered))
     by (suc place) numbered (inl m) = inl (ap (option_map leaf_at_rest) m)
     by (suc place) numbered (inr m) = inr (ap (option_map leaf_at_rest) m)
+
+-- ---- at each moment of a call
+
+-- whatever the end leaves
+pub hub_crashes : (old : HubEnd) (bot : Hub) (before now : Device) → AtEachMoment before now (HubIsOwn old.leaves bot)
+    → LeavesOwn (record (hub_end old) { end = AtHub bot }) before now
+hub_crashes old bot before now m = record {
+  first_later = m.first_later;
+  second_later = m.second_later;
+  each = λ x y left right. hub_left (record old { bot = bot }) x y (m.each x y left right);
+}
+
+pub leaf_crashes : (old : LeafEnd) (bot : Leaf) (before now : Device) → 0 < old.number → AtEachMoment before now (LeafIsOwn old.number bot)
+    → LeavesOwn (record (leaf_end old) { end = AtLeaf bot }) before now
+leaf_crashes old bot before now numbered m = record {
+  first_later = m.first_later;
+  second_later = m.second_later;
+  each = λ x y left right. leaf_left (record old { bot = bot }) x y numbered (m.each x y left right);
+}

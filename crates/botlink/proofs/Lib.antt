@@ -1,2 +1,3 @@
 pub mod OpenLaws
 pub mod LeftLaws
+pub mod CallLaws

@@ -10,7 +10,8 @@ use Rattle.protocol.specs.LeafRules.{LeafRecord, no_loose}
 use Rattle.protocol.specs.Journals.{leaf_meaning}
 use Rattle.linkstate.specs.Opening.{FindsNone as KeptFindsNone}
 use Rattle.linkstate.specs.Ends.{Opens as EndOpens}
-use Rattle.botlink.specs.Opening.{leaf_at_rest, FindsNone, Opens}
+use Rattle.botlink.specs.Opening.{FindsNone, Opens}
+use Rattle.botlink.specs.Links.{leaf_at_rest}
 
 module _ {D : Type 0} (state : D → State) (leaves : ℕ) (first second : D) where
   finds_none : (place : ℕ) (error : Failure JournalFault) (first' second' : D)

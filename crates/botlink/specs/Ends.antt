@@ -9,10 +9,10 @@ use Rattle.botlink.specs.Links.{BotEnd}
 
 -- the hub's end is bot 0's
 abbrev pub hub_end : HubEnd → BotEnd
-hub_end hub = record { number = 0; leaves = hub.leaves; end = AtHub hub.bot; failures = hub.failures }
+hub_end hub = record { number = 0; leaves = hub.leaves; end = AtHub hub.bot; device = hub.device }
 
 abbrev pub leaf_end : LeafEnd → BotEnd
-leaf_end leaf = record { number = leaf.number; leaves = leaf.leaves; end = AtLeaf leaf.bot; failures = leaf.failures }
+leaf_end leaf = record { number = leaf.number; leaves = leaf.leaves; end = AtLeaf leaf.bot; device = leaf.device }
 
 module _ {D : Type 0} where
   abbrev pub bot_of : Ends D → BotEnd

@@ -1,14 +1,19 @@
 -- A bot's end of the link over a journal as contracts see it, and how its calls stand to their rows.
-use Rattle.std.specs.Prelude.{◌≡◌, ℕ, List, Result, Ok, Err}
+use Rattle.std.specs.Prelude.{◌≡◌, ◌⊎◌, ℕ, zero, suc, false, List, [], Option, None, Some, option_map, Result, Ok, Err}
 use Rattle.bytetext.specs.declared.failure.Failure.{Failure}
 use Rattle.bytetext.specs.declared.failure.Failure.TheVariants.{Refused, NoMemory}
 use Rattle.userfile.specs.declared.change.Change.{Change as UserChange}
 use Rattle.sharewire.specs.declared.packet.Packet.{Packet}
-use Rattle.botjournal.specs.Ledger.{Failures}
+use Rattle.storage.specs.State.{State, may_leave}
+use Rattle.botjournal.specs.Contents.{Contents, meaning}
+use Rattle.botjournal.specs.Ledger.{Device, Reopens, AtEachMoment}
 use Rattle.protocol.specs.Packets.{from_wire}
-use Rattle.protocol.specs.Bots.{How, Works, Row}
+use Rattle.protocol.specs.Bots.{How, Works, Fails, Counts, Row}
+use Rattle.protocol.specs.HubRules.{HubState}
+use Rattle.protocol.specs.LeafRules.{LeafState, no_loose}
+use Rattle.protocol.specs.Journals.{hub_meaning, leaf_meaning}
 use Rattle.protocol.specs.Network.{Event, Ask, Tell, Restart}
-use Rattle.linknet.specs.Ends.{End, new_end, with_oldest, end_did, end_received}
+use Rattle.linknet.specs.Ends.{End, AtHub, AtLeaf, new_end, with_oldest, end_did, end_received}
 use Rattle.linkcalls.specs.declared.answer.Answer.{Answer}
 use Rattle.linkcalls.specs.declared.answer.Outgoing.{Outgoing}
 use Rattle.linkcalls.specs.declared.error.LinkFault.{LinkFault}
@@ -16,16 +21,16 @@ use Rattle.linkcalls.specs.Calls.{IsFault}
 use Rattle.linkcalls.specs.Meets.{Meets, Answers, Restarts, TakesMemory}
 use Rattle.linkcalls.specs.Texts.{Sends}
 
--- whose end it is, of how many leaves, what it holds, and how often its disks have failed
+-- whose end it is, of how many leaves, what it holds, and its two disks
 pub record BotEnd : Type 0 where
   pub number : ℕ
   pub leaves : ℕ
   pub end : End
-  pub failures : Failures
+  pub device : Device
 
 -- an end that was never used
-abbrev pub new_bot_end : ℕ → ℕ → Failures → BotEnd
-new_bot_end number leaves failures = record { number = number; leaves = leaves; end = new_end number leaves; failures = failures }
+abbrev pub new_bot_end : ℕ → ℕ → Device → BotEnd
+new_bot_end number leaves device = record { number = number; leaves = leaves; end = new_end number leaves; device = device }
 
 -- ---- rows
 
@@ -43,17 +48,52 @@ asked old change = did old (Ask change) Works
 abbrev pub told : BotEnd → ℕ → List ℕ → Row End
 told old to text = did old (Tell to text) Works
 
+-- ---- what a journal means
+
+-- a hub, and a leaf, whose journal was opened
+abbrev pub hub_at_rest : HubState → End
+hub_at_rest kept = AtHub (record { kept = kept; loose = []; down = false; doubt = None })
+
+abbrev pub leaf_at_rest : LeafState → End
+leaf_at_rest kept = AtLeaf (record { kept = kept; loose = no_loose; down = false; doubt = None })
+
+-- what the contents of a journal mean to the bot of this number, in a net of so many leaves
+abbrev pub end_meaning : ℕ → ℕ → Contents → Option End
+end_meaning zero leaves contents = option_map hub_at_rest (hub_meaning leaves contents)
+end_meaning (suc place) leaves contents = option_map leaf_at_rest (leaf_meaning (suc place) contents)
+
+-- ---- what is left behind
+
+-- these bytes of two disks mean what a restart finds, with the record in doubt or without it
+pub record AreOf (link : BotEnd) (x y : List ℕ) : Type 0 where
+  pub contents : Contents
+  pub found : meaning x y ≡ Some contents
+  pub means : (end_meaning link.number link.leaves contents ≡ Some (did link Restart Works).after)
+      ⊎ (end_meaning link.number link.leaves contents ≡ Some (did link Restart Counts).after)
+
+-- whatever a crash leaves on the disks is the bot's
+abbrev pub MayLeave : State → State → BotEnd → Type 0
+MayLeave first second link = (x y : List ℕ) → may_leave first x → may_leave second y → AreOf link x y
+
+-- at each moment of a call a crash leaves what is the bot's
+abbrev pub LeavesOwn : BotEnd → Device → Device → Type 0
+LeavesOwn link before now = AtEachMoment before now (AreOf link)
+
 -- ---- calls
 
--- a call meets its row, and the bot stays who it is
+-- A call meets its row, and the bot stays who it is. Where it calls a disk, a crash at any moment of it leaves what is the bot's that
+-- the row leaves where the device fails.
 pub record Calls (old : BotEnd) (rule : How → Row End) (result : Result Answer (Failure LinkFault)) (new : BotEnd) : Type 0 where
-  pub row : Meets rule old.end old.failures result new.end new.failures
+  pub row : Meets rule old.end old.device result new.end new.device
   pub number : new.number ≡ old.number
   pub leaves : new.leaves ≡ old.leaves
+  pub moments : (new.device ≡ old.device) ⊎ LeavesOwn (record old { end = (rule Fails).after }) old.device new.device
 
--- so does a restart
+-- so does a restart, which opens both disks again, whatever it answers
 pub record CallsRestart (old : BotEnd) (result : Result Answer (Failure LinkFault)) (new : BotEnd) : Type 0 where
-  pub row : Restarts (did old Restart) old.failures result new.end new.failures
+  pub row : Restarts (did old Restart) old.device result new.end new.device
+  pub reopened : Reopens old.device new.device
+  pub moments : LeavesOwn old old.device new.device
   pub number : new.number ≡ old.number
   pub leaves : new.leaves ≡ old.leaves
 

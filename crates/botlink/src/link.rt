@@ -34,7 +34,7 @@ impl<D: Disk> Model for BotLink<D> {
 }
 
 impl<D: Disk> BotLink<D> {
-    ghost use Rattle.std.specs.Prelude.{◌≡◌, ◌≢◌, ◌≤◌, ◌+◌, length, Err};
+    ghost use Rattle.std.specs.Prelude.{◌≡◌, ◌≢◌, ◌≤◌, ◌+◌, length, Err, IfOk};
     ghost use Rattle.bytetext.specs.declared.failure.Failure.TheVariants.{NoMemory as no_memory};
     ghost use Rattle.storage.specs.State.{IsSettled};
     ghost use Rattle.protocol.specs.Network.{Pump, Compact};
@@ -42,7 +42,9 @@ impl<D: Disk> BotLink<D> {
     ghost use Rattle.linkcalls.specs.declared.TheConstants.{MAX_LEAVES};
     ghost use Rattle.linkcalls.specs.Shapes.{HasGoodRecords, GoOut};
     ghost use Rattle.botlink.specs.Links.{Calls, CallsRestart, Asks, Tells, did, took, keeps_asks};
-    ghost use Rattle.botlink.specs.Opening.{Makes, Opens, MayLeave};
+    ghost use Rattle.botjournal.specs.Ledger.{AreStill};
+    ghost use Rattle.botlink.specs.Opening.{Makes, Opens};
+    ghost use Rattle.botlink.specs.Links.{MayLeave};
 
     /// The bot of this number, from 0 to the number of leaves, before the first change. What the disks held is lost.
     ///
@@ -96,6 +98,8 @@ impl<D: Disk> BotLink<D> {
         requires numbered { number ≤ leaves }
         requires few { leaves ≤ MAX_LEAVES }
         ensures row { Opens D.state number leaves first second result }
+        // Nothing happened to the disks.
+        ensures still { IfOk result (λ link. AreStill (D.state first) (D.state second) link.device) }
     {
         if number == 0 {
             return match HubLink::open(alloc, first, second, leaves) {
@@ -270,10 +274,21 @@ impl<D: Disk> BotLink<D> {
         }
     }
 
+    /// Says what a crash leaves at this moment, between two calls. It does nothing.
+    pub fn know_disks(&self)
+        // What is the bot's, with the record in doubt or without it.
+        ensures left { MayLeave self.now.device.first self.now.device.second self.now }
+    {
+        match &self.end {
+            Ends::Hub(hub) => hub.know_disks(),
+            Ends::Leaf(leaf) => leaf.know_disks(),
+        }
+    }
+
     /// The two disks, in the order in which they were given.
     pub fn into_disks(self) -> Disks<D>
         // Whatever a crash leaves on them is the bot's, with the record in doubt or without it.
-        ensures left { MayLeave D.state result.first result.second self }
+        ensures left { MayLeave (D.state result.first) (D.state result.second) self }
     {
         let BotLink { end } = self;
         match end {

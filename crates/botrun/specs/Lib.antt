@@ -1,4 +1,5 @@
 pub mod Askers
+pub mod Bases
 pub mod Ending
 pub mod Outcomes
 pub mod Stations

@@ -3,6 +3,7 @@ ghost use Rattle.std.specs.Prelude.{◌<◌, IfOk, length};
 ghost use Rattle.bytetext.specs.declared.moment.TheConstants.{MOMENTS_END};
 ghost use Rattle.botrun.specs.Stations.{IsKnownWhereWanted, IsLinkedAs};
 
+use crate::bases::Bases;
 use crate::checking::check;
 use crate::ending::{RunError, of_folder};
 use crate::entry::Entry;
@@ -86,13 +87,14 @@ where
     let bot = bot_of(rt, folder, settings)?;
     let links = links_of(rt, watch.registry(), folder, settings, key, bot.version())?;
     let operators = door_of(rt, watch, folder)?;
+    let bases = Bases::new(bot.version());
     Ok(Process {
         bot,
         lines: LineReader::new(rt.alloc()),
         uplink: Uplink::new(rt.alloc(), settings)?,
         operators,
         others: Others::new(rt.alloc(), links),
-        base: 0,
+        bases,
         until: None,
     })
 }
@@ -150,7 +152,7 @@ where
     R: AllocGlobal + Net + Clock + Files<File = File> + Print + RandomSource,
 {
     let mut timeline = timeline_of(rt)?;
-    let mut turned = Turned::Moved;
+    let mut turned = Turned::Busy;
     log(
         rt,
         second(rt, &mut timeline)?,
@@ -158,7 +160,7 @@ where
     );
     for _turn in 0..u64::MAX {
         let now = wait(rt, watch, &mut timeline, turned)?;
-        process.others.links.wake(watch.tokens());
+        process.wake(watch.tokens());
         turned = process.turn(rt, watch.registry(), store, settings, now)?;
         keep_new_net(rt, folder, process, now)?;
         if turned == Turned::Ended {
@@ -169,7 +171,8 @@ where
     Ok(())
 }
 
-// Waits until something may be done: not at all after a byte moved, and at most until the next second. The second then.
+// Waits until something may be done: not at all where there may be more at once, and at most until the next second. The
+// second then.
 fn wait<R: Clock>(
     rt: &R,
     watch: &mut Watch,
@@ -179,7 +182,7 @@ fn wait<R: Clock>(
     ensures moment { IfOk result (λ now. now < MOMENTS_END) }
 {
     let most = match turned {
-        Turned::Moved | Turned::Ended => 0,
+        Turned::Busy | Turned::Ended => 0,
         Turned::Rests => rest_of_second(rt)?,
     };
     match watch.wait(most) {

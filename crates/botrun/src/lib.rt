@@ -2,8 +2,9 @@
 //!
 //! [`run`] takes the bot's folder, finds or makes its journal, connects to the servers of its configuration in turn,
 //! and listens for operators at the socket `control` in the folder. Then it goes round: it waits for sockets, reads the
-//! clocks, connects what is lost and due, reads, has the bot take the turn, writes, and lets go who is over. What the
-//! bot itself does is [`turns::take_turn`]'s, and a bind of an operator one step of it: nothing is decided here for it.
+//! clocks, connects what is lost and due, reads, has the bot take the turn, does up to 16 commands of each operator,
+//! writes, and lets go who is over. What the bot itself does is [`turns::take_turn`]'s, and a bind of an operator one step
+//! of it: nothing is decided here for it.
 //!
 //! What the process says to a server by itself is a registration's PASS, a PING after 90 seconds of silence, another
 //! nick where the server takes none of the bot's, the lines `perform` once after each welcome, a JOIN after a KICK or
@@ -28,6 +29,7 @@
 mod answering;
 mod answers;
 mod asks;
+mod bases;
 mod bot_process;
 mod channels;
 mod checking;

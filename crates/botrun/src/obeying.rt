@@ -12,9 +12,36 @@ use control::Command;
 use procstore::{ProcStore, Promise, Run};
 use settings::Settings;
 
+// The most commands of each operator that a turn does. The changes of a turn go to each other bot in one write, and 16 are
+// all that a hub answers to one hello. All operators have a turn do 128 at most, half as many as it takes packets: so the
+// server and the other bots wait no longer for operators than for each other.
+const MAX_COMMANDS: usize = 16;
+
 impl Process {
-    // Does what each operator asks for, a command of each. Whether there was one.
+    // Does what operators ask for, in rounds of a command of each, so that none waits for all that another asks for. No
+    // other round is begun once the bot is to end or is down. Whether there was a command.
     pub(crate) fn obey_all<R: AllocGlobal + Print, P: Promise, B: Run>(
+        &mut self,
+        rt: &R,
+        store: &ProcStore<P, B>,
+        settings: &Settings,
+        now: u64,
+    ) -> Result<bool, RunError>
+        requires moment { now < MOMENTS_END }
+    {
+        for round in 0..MAX_COMMANDS {
+            if !self.obey_each(rt, store, settings, now)? {
+                return Ok(round > 0);
+            }
+            if self.until.is_some() || self.bot.is_down() {
+                return Ok(true);
+            }
+        }
+        Ok(true)
+    }
+
+    // Does what each operator asks for, a command of each. Whether there was one.
+    fn obey_each<R: AllocGlobal + Print, P: Promise, B: Run>(
         &mut self,
         rt: &R,
         store: &ProcStore<P, B>,

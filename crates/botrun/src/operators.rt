@@ -47,6 +47,8 @@ struct Operator {
     number: u64,
     // The second at which it last said something, or came.
     spoke: u64,
+    // Whether it may have something to give: it stalled, and no event has named operators since, where not.
+    may_give: bool,
 }
 
 // By hand, so that this is proved once, and not in each function in which an operator ends.
@@ -57,6 +59,7 @@ impl Drop for Operator {
             is_last: _,
             number: _,
             spoke: _,
+            may_give: _,
         } = self;
     }
 }
@@ -67,6 +70,11 @@ pub(crate) struct Operators {
     seats: Vec<Operator>,
     // How many have come.
     count: u64,
+    // Whether somebody may wait at the door: nobody did when it was last asked, and no event has named it since, where
+    // not.
+    may_come: bool,
+    // The second at which the door was last asked.
+    asked: u64,
 }
 
 // By hand, so that this is proved once, and not in each function in which operators end.
@@ -76,6 +84,8 @@ impl Drop for Operators {
             door: _,
             seats: _,
             count: _,
+            may_come: _,
+            asked: _,
         } = self;
     }
 }
@@ -92,12 +102,32 @@ impl Operators {
                 door,
                 seats: Vec::new(rt.alloc()),
                 count: 0,
+                may_come: true,
+                asked: 0,
             }),
             Err(fault) => Err(fault),
         }
     }
 
-    // Lets in who waits, as long as there are places or one gives way.
+    // Those that tokens name may have something to say: the door that somebody waits, and operators, who share a token.
+    pub(crate) fn wake(&mut self, tokens: &[usize]) {
+        if tokens.contains(&DOOR) {
+            self.may_come = true;
+        }
+        if tokens.contains(&TOKEN) {
+            self.wake_seats();
+        }
+    }
+
+    fn wake_seats(&mut self) {
+        for seat in self.seats.iter_mut() {
+            seat.may_give = true;
+        }
+    }
+
+    // Lets in who waits, as long as there are places or one gives way. The door is asked where somebody may wait there,
+    // until nobody does, since an event names it once for all who came before. It is also asked once a second: at the limit
+    // of open files nobody seems to wait, and no event tells that there is a file again.
     pub(crate) fn let_in<R: AllocGlobal + Print>(
         &mut self,
         rt: &R,
@@ -105,11 +135,16 @@ impl Operators {
         asks: &Asks,
         now: u64,
     ) -> Result<(), NoMemory> {
+        if !self.may_come && self.asked == now {
+            return Ok(());
+        }
+        self.asked = now;
         for _operator in 0..MAX_OPERATORS {
             if self.is_full() && self.silent(asks, now).is_none() {
                 return Ok(());
             }
             let Some(socket) = self.door.let_in(registry, TOKEN) else {
+                self.may_come = false;
                 return Ok(());
             };
             self.make_way(rt, asks, now);
@@ -157,6 +192,7 @@ impl Operators {
             is_last: false,
             number: self.count,
             spoke: now,
+            may_give: true,
         })?;
         self.count = self.count.wrapping_add(1);
         Ok(())
@@ -241,9 +277,9 @@ impl Operators {
 }
 
 impl Operator {
-    // Hears what has come. Whether a byte came.
+    // Hears what has come, where there may be any. Whether a byte came.
     fn read(&mut self, now: u64) -> Result<bool, NoMemory> {
-        if self.wire.is_over || self.is_last || self.wire.is_full() {
+        if !self.may_give || self.wire.is_over || self.is_last || self.wire.is_full() {
             return Ok(false);
         }
         match self.wire.read()? {
@@ -251,7 +287,11 @@ impl Operator {
                 self.spoke = now;
                 Ok(true)
             }
-            Given::End | Given::Stall | Given::Fault => Ok(false),
+            Given::Stall => {
+                self.may_give = false;
+                Ok(false)
+            }
+            Given::End | Given::Fault => Ok(false),
         }
     }
 

@@ -2,6 +2,7 @@
 ghost use Rattle.std.specs.Prelude.{◌<◌};
 ghost use Rattle.bytetext.specs.declared.moment.TheConstants.{MOMENTS_END};
 
+use crate::bases::Bases;
 use crate::ending::RunError;
 use crate::operators::Operators;
 use crate::others::Others;
@@ -23,8 +24,8 @@ pub(crate) struct Process {
     pub(crate) uplink: Uplink,
     pub(crate) operators: Operators,
     pub(crate) others: Others,
-    // The version at which the journal was last written anew; 0 where that is not known.
-    pub(crate) base: u32,
+    // When the journal is written anew.
+    pub(crate) bases: Bases,
     // The second until which it waits for who has still to be told something, once it is to end.
     pub(crate) until: Option<u64>,
 }
@@ -38,7 +39,7 @@ impl Drop for Process {
             uplink: _,
             operators: _,
             others: _,
-            base: _,
+            bases: _,
             until: _,
         } = self;
     }
@@ -47,15 +48,29 @@ impl Drop for Process {
 // How a turn leaves a process.
 #[derive(Clone, Copy, PartialEq, Eq)]
 pub(crate) enum Turned {
-    // A byte moved: there may be more at once.
-    Moved,
-    // Nothing moved.
+    // There may be more to do at once.
+    Busy,
+    // It rests until an event names a socket, and until the next second at most.
+    //
+    // No event is lost. A wait names a socket once, when something comes or room for more does. So each that was named is
+    // asked, in this turn or a busy one after it, until nothing is left to ask it for: the server and the other bots are
+    // read until they stall, as are operators, unless they have first to take answers, which is named too; the door is
+    // asked until nobody waits or no place is left, and again at the next second. Bytes that are unsent are offered until
+    // all are taken or none is: then room is named. A turn is busy after each command, packet and connection that began,
+    // and where a hello got due in it, since what these leave to be done no event names. All else comes by the clock.
     Rests,
     // It has ended as it was told.
     Ended,
 }
 
 impl Process {
+    // Those that the tokens of a wait name may have something to say.
+    pub(crate) fn wake(&mut self, tokens: &[usize]) {
+        self.uplink.wake(tokens);
+        self.operators.wake(tokens);
+        self.others.links.wake(tokens);
+    }
+
     // Makes a turn: connects what is lost and due, lets in who waits, reads, steps, writes, and lets go who is over.
     pub(crate) fn turn<R: AllocGlobal + Net + Print + RandomSource, P: Promise, B: Run>(
         &mut self,
@@ -67,13 +82,13 @@ impl Process {
     ) -> Result<Turned, RunError>
         requires moment { now < MOMENTS_END }
     {
-        let came = self.take_in(rt, registry, store, settings, now)?;
-        let sent = self.give_out(rt, settings, now)?;
+        let more_comes = self.take_in(rt, registry, store, settings, now)?;
+        let more_goes = self.give_out(rt, settings, now)?;
         if self.has_ended(now) {
             return Ok(Turned::Ended);
         }
-        if came || sent {
-            Ok(Turned::Moved)
+        if more_comes || more_goes {
+            Ok(Turned::Busy)
         } else {
             Ok(Turned::Rests)
         }
@@ -91,13 +106,13 @@ impl Process {
         requires moment { now < MOMENTS_END }
     {
         let began = self.connect(rt, registry, settings, now)?;
-        let came = self.read(rt, now)?;
-        let packets = self.hear(rt, store, settings, began, now)?;
+        let more = self.read(rt, now)?;
+        let said = self.hear(rt, store, settings, began, now)?;
         let obeyed = self.obey_all(rt, store, settings, now)?;
-        Ok(began || came || packets || obeyed)
+        Ok(began || more || said || obeyed)
     }
 
-    // Looks after the connection to the server, writes, and lets go who is over. Whether a byte went.
+    // Looks after the connection to the server, writes, and lets go who is over. Whether more may go at once.
     fn give_out<R: AllocGlobal + Print>(
         &mut self,
         rt: &R,
@@ -132,15 +147,15 @@ impl Process {
         self.uplink.connect(rt, registry, settings, now)
     }
 
-    // Hears each. Whether a byte came.
+    // Hears each. Whether there may be more at once.
     fn read<R: AllocGlobal + Print>(&mut self, rt: &R, now: u64) -> Result<bool, NoMemory> {
-        let said = self.uplink.read(now)?;
-        let asked = self.operators.read(now)?;
-        let linked = self.others.links.read(rt, now)?;
-        Ok(said || asked || linked)
+        let server = self.uplink.read(now)?;
+        let operators = self.operators.read(now)?;
+        let links = self.others.links.read(rt, now)?;
+        Ok(server || operators || links)
     }
 
-    // Offers each what is unsent. Whether one took a byte.
+    // Offers each what is unsent. Whether one may take more at once, or is to be let go, or done more for.
     fn send(&mut self) -> bool {
         let server = self.uplink.send();
         let operators = self.operators.send();

@@ -21,12 +21,17 @@ const BOUNDS: Bounds = Bounds {
 /// it as a `Rattle.botrun.specs.Told.Talk`.
 pub struct ServerWire<S: Stream + Drop> {
     wire: Wire<S>,
+    // Whether it may have something to give: it stalled, and no event has named it since, where not.
+    may_give: bool,
 }
 
 // By hand, so that this is proved once.
 impl<S: Stream + Drop> Drop for ServerWire<S> {
     fn drop(self) {
-        let ServerWire { wire: _ } = self;
+        let ServerWire {
+            wire: _,
+            may_give: _,
+        } = self;
     }
 }
 
@@ -54,21 +59,38 @@ impl<S: Stream + Drop> ServerWire<S> {
     pub fn new(alloc: Global, stream: S) -> ServerWire<S> {
         ServerWire {
             wire: Wire::new(alloc, stream, BOUNDS),
+            may_give: true,
         }
     }
 
-    /// Hears a piece of what has come, where there is room. Whether a byte came.
+    /// An event has named it: it may have something to give.
+    pub fn wake(&mut self)
+        ensures same { self.new ≡ self.old }
+    {
+        self.may_give = true;
+    }
+
+    /// Whether it may have something to give: not once it has stalled, until it is woken, and not once it is over.
+    pub fn may_give(&self) -> bool {
+        self.may_give && !self.wire.is_over
+    }
+
+    /// Hears a piece of what has come, where it may have something to give and there is room. Whether a byte came.
     ///
     /// # Errors
     /// `NoMemory` where room is refused. Nothing was heard then.
     #[tactic(auto, using(crate::proofs::ToldLemmas::tells_on))]
     pub fn read(&mut self) -> Result<bool, NoMemory> {
-        if self.wire.is_over || self.wire.is_full() {
+        if !self.may_give || self.wire.is_over || self.wire.is_full() {
             return Ok(false);
         }
         match self.wire.read()? {
             Given::Bytes(_) => Ok(true),
-            Given::End | Given::Stall | Given::Fault => Ok(false),
+            Given::Stall => {
+                self.may_give = false;
+                Ok(false)
+            }
+            Given::End | Given::Fault => Ok(false),
         }
     }
 

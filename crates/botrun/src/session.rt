@@ -52,19 +52,20 @@ impl Session {
         }
     }
 
-    // Hears what has come. Whether a byte came.
+    // An event has named it.
+    pub(crate) fn wake(&mut self) {
+        self.wire.wake();
+    }
+
+    // Hears what has come. Whether there may be more at once: not where it has stalled.
     pub(crate) fn read(&mut self, now: u64) -> Result<bool, NoMemory> {
-        let mut came = false;
         for _piece in 0..PIECES {
             if !self.wire.read()? {
                 break;
             }
-            came = true;
-        }
-        if came {
             self.vigil.hear(now);
         }
-        Ok(came)
+        Ok(self.wire.may_give())
     }
 
     // What was heard and is not taken yet. Takes no memory.
@@ -113,8 +114,8 @@ impl Session {
         self.wire.unsent()
     }
 
-    // Offers the server what is unsent, once. Whether it took a byte.
+    // Offers the server what is unsent, once. Whether it may take more at once: not where it has all, or took nothing.
     pub(crate) fn send(&mut self) -> bool {
-        self.wire.send()
+        self.wire.send() && self.wire.unsent() > 0
     }
 }

@@ -15,12 +15,11 @@ use procstore::{ProcStore, Promise, Run};
 use settings::Settings;
 use std::alloc::Global;
 use turns::{Heard, TurnEnd, take_turn};
-use upkeep::is_base_due;
 use userfile::Change;
 
 impl Process {
     // Has the bot take what its server and the other bots said, and all that waits then, and has the journal written
-    // anew where due. Whether another bot said anything.
+    // anew where due. Whether there may be more at once: another bot said something, or a hello got due.
     pub(crate) fn hear<R: AllocGlobal + Print, P: Promise, B: Run>(
         &mut self,
         rt: &R,
@@ -36,14 +35,17 @@ impl Process {
         self.uplink.look(rt, settings, bytes.as_slice(), now)?;
         let heard = self.others.hear(alloc, connected, bytes, now)?;
         let said = !heard.packets.is_empty();
+        let pumped = heard.pump;
         let outcome = self.take(rt, store, settings, heard)?;
         if !self.others.links.is_leaf() {
             self.pump(rt, store, settings, outcome, now)?;
         }
-        if is_base_due(self.base, self.bot.version()) {
+        self.bases.see(self.bot.version(), now);
+        if self.bases.is_due(now) {
             self.compact(rt, store, settings, now)?;
         }
-        Ok(said)
+        // A proc may have had a leaf ask for a change. Where this turn pumped, what is due is for a later second.
+        Ok(said || (!pumped && self.others.links.is_pump_due(now)))
     }
 
     // Pumps until nothing waits. The last pump's outcome is the first that is told.
@@ -74,7 +76,7 @@ impl Process {
         settings: &Settings,
         now: u64,
     ) -> Result<Outcome, RunError> {
-        self.base = self.bot.version();
+        self.bases.write(self.bot.version());
         let mut heard = heard_of(rt.alloc(), false, Vec::new(rt.alloc()), now);
         heard.pump = false;
         heard.compact = true;

@@ -126,7 +126,17 @@ impl Uplink {
         Ok(())
     }
 
-    // Hears what has come. Whether a byte came.
+    // The connection that tokens name may have something to give. A token may be of one before it: then it stalls once
+    // more.
+    pub(crate) fn wake(&mut self, tokens: &[usize]) {
+        if let Some(session) = &mut self.session {
+            if tokens.contains(&TOKEN) {
+                session.wake();
+            }
+        }
+    }
+
+    // Hears what has come. Whether there may be more at once.
     pub(crate) fn read(&mut self, now: u64) -> Result<bool, NoMemory> {
         match &mut self.session {
             Some(session) => session.read(now),
@@ -160,7 +170,7 @@ impl Uplink {
         Ok(())
     }
 
-    // Offers the server what is unsent. Whether it took a byte.
+    // Offers the server what is unsent. Whether it may take more at once.
     pub(crate) fn send(&mut self) -> bool {
         match &mut self.session {
             Some(session) => session.send(),

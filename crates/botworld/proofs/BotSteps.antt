@@ -31,7 +31,7 @@ use Rattle.botcore.specs.declared.report.End.{End}
 use Rattle.botcore.specs.declared.report.End.TheVariants.{Done, Refused, NoMemory}
 use Rattle.botcore.specs.declared.report.Note.{Note}
 use Rattle.botcore.specs.declared.report.Report.{Report}
-use Rattle.botcore.specs.Bots.{Bot, with_failures}
+use Rattle.botcore.specs.Bots.{Bot, with_device}
 use Rattle.botcalls.specs.Calls.{Telling}
 use Rattle.botcore.specs.Acting.{actions_of}
 use Rattle.botcore.specs.Happenings.{Saying, saying_of}
@@ -146,8 +146,8 @@ module _ (code_of : List ℕ → Call → Code) (may : List ℕ → Call → Lis
       → (saying : Option Saying) → TakesPacket saying code_of may names old packet report new → BotGoes report new
   packet_goes packet report new goes None t = call_goes (took old.link packet) goes report new t
   packet_goes packet report new goes (Some saying) t =
-      calls_goes _ (with_failures old t.0) (with_failures old t.0) (Some (text_note saying)) (finish_text (with_failures old t.0)) report new
-      refl refl refl refl refl refl (λ calls. refl) (text_is_quiet saying) (record { undiverged = λ e. cc; no_gap = λ e. cc }) report.end refl t.1
+      calls_goes _ (with_device old t.0) (with_device old t.0) (Some (text_note saying)) (finish_text (with_device old t.0)) report new
+      refl refl refl refl refl refl (λ calls. refl) (text_is_quiet saying) (record { undiverged = λ e. cc; no_gap = λ e. cc }) report.end refl t.2
 
   -- a reading of the clock
   moment_goes : (now : ℕ) (report : Report) (new : Bot) → (stale : Bool) → TakesMoment stale code_of may names old now report new

@@ -40,7 +40,7 @@ use Rattle.botcore.specs.declared.report.Note.{Note}
 use Rattle.botcore.specs.declared.report.End.{End}
 use Rattle.botcore.specs.declared.report.End.TheVariants.{Done, Refused, NoMemory}
 use Rattle.botcore.specs.declared.report.Report.{Report as BotReport}
-use Rattle.botcore.specs.Bots.{Bot, with_failures, bot_setting}
+use Rattle.botcore.specs.Bots.{Bot, with_device, bot_setting}
 use Rattle.botcalls.specs.Calls.{Telling}
 use Rattle.botcalls.specs.Dispatched.{setting_of}
 use Rattle.botcalls.specs.Dispatching.{Setting, told_of}
@@ -145,7 +145,7 @@ packet_calls code_of may names old packet report new done (Some saying) t =
     record {
       occasions = said_occasions saying;
       are = are_said saying;
-      made = made_calls code_of may _ (with_failures old t.0) (with_failures old t.0) _ _ report new report.end done t.1;
+      made = made_calls code_of may _ (with_device old t.0) (with_device old t.0) _ _ report new report.end done t.2;
     }
 
 -- at a reading that is not above the last no second runs

@@ -58,7 +58,7 @@ all_sent (sent ∷ packets) = sent_as sent ∷ all_sent packets
 
 -- each bot is as it was made
 abbrev pub AllNew : List Bot → Type 0
-AllNew bots = (place : ℕ) (b : Bot) → slice_get bots place ≡ Some b → b ≡ new_bot b.config b.link.failures
+AllNew bots = (place : ℕ) (b : Bot) → slice_get bots place ≡ Some b → b ≡ new_bot b.config b.link.device
 
 -- a bot at its place among so many: its number is the place, and it knows of a leaf for each bot but the hub
 pub record IsNumberedAt (bots place : ℕ) (b : Bot) : Type 0 where

@@ -10,7 +10,7 @@ use Rattle.bytejournal.specs.Meaning.{Contents, Held, added, held, chosen, meani
 use Rattle.bytejournal.specs.Meaning.Held.{Shut, Broken, Open}
 use Rattle.bytejournal.specs.Journal.{IdleIs, IsEither, HoldsOne, EachMoment, contents_of, IsAtRest}
 use Rattle.bytejournal.proofs.Images.{Means, means_shut, entry_bytes, at_gate, file_after, front_after, after_append, while_appending}
-use Rattle.bytejournal.proofs.Pairs.{newer, HasNoOther, one_written, none_written}
+use Rattle.bytejournal.proofs.Pairs.{newer, one_written, none_written}
 
 pub first_shut : (bytes : List ℕ) → 0 < length bytes → get_or bytes 0 0 ≢ 1 → Means bytes Shut
 first_shut [] long shut = absurd (omega arith)
@@ -44,10 +44,10 @@ module _ {D : Type 0} (state : D → State) (journal : Journal D) (rest : IsAtRe
   still_either after =
       record { means = inl refl; nothing_else = λ contents one. inl one; first_whole = active_means.whole; second_whole = rest.idle_whole }
 
-  pub nothing_happens : HasNoOther state journal.active → HasNoOther state journal.idle → (after : Option Contents)
-      → EachMoment state journal.active journal.idle journal.active journal.idle (IsEither (HoldsOne state journal) (contents_of state journal) after)
-  nothing_happens active_only idle_only after = none_written state journal.active journal.idle
-      (IsEither (HoldsOne state journal) (contents_of state journal) after) active_only rest.active_settled idle_only rest.idle_settled (still_either after)
+  pub nothing_happens : (after : Option Contents)
+      → EachMoment (state journal.active) (state journal.idle) (state journal.active) (state journal.idle) (IsEither (HoldsOne state journal) (contents_of state journal) after)
+  nothing_happens after = none_written state journal.active journal.idle
+      (IsEither (HoldsOne state journal) (contents_of state journal) after) rest.active_settled rest.idle_settled (still_either after)
 
   module _ (entry : List ℕ) (small : length entry < 2 ^ 32) where
     pub appended_are : option_map (added entry) (contents_of state journal) ≡ Some (added entry rest.contents)
@@ -75,11 +75,10 @@ module _ {D : Type 0} (state : D → State) (journal : Journal D) (rest : IsAtRe
 
     module _ (active : D) where
       -- at each moment of an append
-      pub append_moments : HasNoOther state journal.idle
-          → LeavesOnly (state journal.active) (state active) (IsHalfWritten (state journal.active).seen journal.gate (entry_bytes entry ++ (0 ∷ [])))
-          → EachMoment state journal.active journal.idle active journal.idle
+      pub append_moments : LeavesOnly (state journal.active) (state active) (IsHalfWritten (state journal.active).seen journal.gate (entry_bytes entry ++ (0 ∷ [])))
+          → EachMoment (state journal.active) (state journal.idle) (state active) (state journal.idle)
           (IsEither (HoldsOne state journal) (contents_of state journal) (option_map (added entry) (contents_of state journal)))
-      append_moments idle_only run = one_written state journal.active journal.idle active _ _ idle_only rest.idle_settled run either_appended
+      append_moments run = one_written state journal.active journal.idle active _ _ rest.idle_settled run either_appended
 
       module _ (written : (state active).seen ≡ with_gate (state journal.active).seen journal.gate (entry_bytes entry ++ (0 ∷ [])) 1) where
         pub appended_counts : meaning (state active).seen (state journal.idle).seen ≡ option_map (added entry) (contents_of state journal)

@@ -1,7 +1,8 @@
 -- What torn writes at a gate and after it may leave.
-use Rattle.std.proofs.Common.{Bool, true, subst, ◌≡◌, ◌<◌, ◌≤◌, ◌+◌, inl, inr, ℕ, List, ◌∷◌, ◌++◌, length, take, drop, get_or, sym, ◌∙◌, ap, arith, length-append, take-append-drop}
+use Rattle.std.proofs.Common.{Bool, true, false, refl, subst, ◌≡◌, ◌<◌, ◌≤◌, ◌+◌, inl, inr, ℕ, List, ◌∷◌, ◌++◌, length, take, drop, get_or, sym, ◌∙◌, ap, arith, length-append, take-append-drop}
 use Rattle.std.proofs.lemmas.List.{take_at, drop_at, drop_more, length-take, take-take}
-use Rattle.storage.specs.Calls.{Holds, Torn}
+use Rattle.storage.specs.Events.{Torn}
+use Rattle.storage.specs.Calls.{Holds}
 use Rattle.storage.specs.State.{State, IsSettled, LeavesOnly}
 use Rattle.storage.specs.Calls.{SameBytes}
 use Rattle.bytejournal.specs.Gates.{with_first, closed_first, IsHalfWritten, IsHalfReplaced}
@@ -36,18 +37,23 @@ module _ (file text mid : List ℕ) (at : ℕ) (inside : at < length file) (writ
             ∙ ap (λ (l : List ℕ). take at file ++ l) rest,
       )
 
+-- before anything is written
+pub not_replaced : (is_open : Bool) (file text : List ℕ) → 0 < length file → IsHalfReplaced is_open file text file
+not_replaced true file text inside = inl (get_or file 0 0, refl, drop_more file 0 0 inside)
+not_replaced false file text inside = inr (inl refl)
+
 -- room is made, the first gate is closed, and a text is written after it
 pub replaced : (before ready closed after : State) (text : List ℕ) (is_open : Bool) → is_open ≡ true → 0 < length before.seen → IsSettled before
-    → ((image : List ℕ) → before.left_since before.moment image → before.may_leave image) → SameBytes before ready
+    → SameBytes before ready
     → LeavesOnly ready closed (λ image. (gate : ℕ) × (image ≡ with_first ready.seen gate)) → closed.seen ≡ with_first ready.seen 0
     → LeavesOnly closed after (IsHalfWritten closed.seen 0 text) → LeavesOnly before after (IsHalfReplaced is_open before.seen text)
-replaced before ready closed after text is_open opens inside settled only same closing closed_is writing =
+replaced before ready closed after text is_open opens inside settled same closing closed_is writing =
     let first : before.seen ≡ with_first before.seen (get_or before.seen 0 0) = drop_more before.seen 0 0 inside in
     joined before closed after (λ image. (gate : ℕ)
     × (image ≡ with_first before.seen gate)) (IsHalfWritten closed.seen 0 text) (IsHalfReplaced is_open before.seen text)
     (joined before ready closed (λ image. image ≡ before.seen) (λ image. (gate : ℕ) × (image ≡ with_first ready.seen gate))
     (λ image. (gate : ℕ) × (image ≡ with_first before.seen gate))
-    (kept before ready settled only same) closing
+    (kept before ready settled same) closing
     (λ image is. (get_or before.seen 0 0, is ∙ first))
     (λ image is. (is.0, is.1 ∙ ap (λ (l : List ℕ). with_first l is.0) same.seen)))
     writing

@@ -1,25 +1,19 @@
 -- What each call and each crash keeps stands over any number of them, whatever it is that two images have to be.
-use Rattle.std.proofs.Common.{◌≡◌, ⊎_elim, ◌≤◌, ℕ, List, sym, subst, arith}
-use Rattle.storage.specs.State.{State}
+use Rattle.std.proofs.Common.{⊎_elim, ℕ, List, sym, subst, arith}
+use Rattle.storage.specs.State.{State, moment, may_leave, left_since}
+use Rattle.storage.specs.Laws.{seen_is_left, counts_now, only_now}
 use Rattle.bytejournal.specs.declared.journal.Journal.{Journal}
-use Rattle.bytejournal.specs.Journal.{EachMoment, first_disk, second_disk}
+use Rattle.bytejournal.specs.Journal.{EachMoment}
 use Rattle.bytejournal.specs.Opening.{Untouched, Reopened}
 use Rattle.bytejournal.specs.Recovery.{Stage, first_of, second_of, IsLeft, Happens, Lives, IsRecoverable, IsIntact}
 use Rattle.bytejournal.specs.Recovery.Stage.{InProgram, OnDisks}
 use Rattle.bytejournal.specs.Recovery.Happens.{returned, crashed}
 use Rattle.bytejournal.specs.Recovery.Lives.{so_far, more}
-use Rattle.bytejournal.proofs.Pairs.{HasNoOther}
-
--- the laws of a disk
-pub record HasLaws {D : Type 0} (state : D → State) : Type 0 where
-  pub seen_is_left : (disk : D) → (state disk).may_leave (state disk).seen
-  pub counts_now : (disk : D) (t : ℕ) (image : List ℕ) → t ≤ (state disk).moment → (state disk).may_leave image → (state disk).left_since t image
-  pub only_now : (disk : D) → HasNoOther state disk
 
 module _ {D : Type 0} (state : D → State) (IsJournal : List ℕ → List ℕ → Type 0) where
   -- at each moment between two stages a crash leaves a journal
   abbrev pub Stays : D → D → D → D → Type 0
-  Stays first second first' second' = EachMoment state first second first' second' IsJournal
+  Stays first second first' second' = EachMoment (state first) (state second) (state first') (state second') IsJournal
 
   abbrev pub IsKept : D → D → Type 0
   IsKept first second = IsRecoverable state IsJournal first second
@@ -36,22 +30,22 @@ abbrev pub Callable : {D : Type 0} → (Journal D → Type 0) → Stage D → Ty
 Callable MayCall (InProgram journal) = MayCall journal
 Callable MayCall (OnDisks first second) = Unit {0}
 
-module _ {D : Type 0} (state : D → State) (laws : HasLaws state) (IsJournal : List ℕ → List ℕ → Type 0) where
+module _ {D : Type 0} (state : D → State) (IsJournal : List ℕ → List ℕ → Type 0) where
   -- ---- moments
 
   pub seen_journal : (first second : D) → IsKept state IsJournal first second → IsJournal (state first).seen (state second).seen
-  seen_journal first second is = is (state first).seen (state second).seen (laws.seen_is_left first) (laws.seen_is_left second)
+  seen_journal first second is = is (state first).seen (state second).seen (seen_is_left (state first)) (seen_is_left (state second))
 
   -- then it does so afterwards
   pub after_moments : (first second first' second' : D) → Stays state IsJournal first second first' second' → IsKept state IsJournal first' second'
-  after_moments first second first' second' stays x y left right = stays.each x y (laws.counts_now first' (state first).moment x stays.first_later left)
-      (laws.counts_now second' (state second).moment y stays.second_later right)
+  after_moments first second first' second' stays x y left right = stays.each x y (counts_now (state first') (moment (state first)) x stays.first_later left)
+      (counts_now (state second') (moment (state second)) y stays.second_later right)
 
   pub no_moments : (first second : D) → IsKept state IsJournal first second → Stays state IsJournal first second first second
   no_moments first second is = record {
     first_later = omega arith;
     second_later = omega arith;
-    each = λ x y left right. is x y (laws.only_now first x left) (laws.only_now second y right);
+    each = λ x y left right. is x y (only_now (state first) x left) (only_now (state second) y right);
   }
 
   -- disks that were opened: nothing was written
@@ -65,12 +59,12 @@ module _ {D : Type 0} (state : D → State) (laws : HasLaws state) (IsJournal : 
   }
 
   -- a disk that was crashed leaves what it might have left before
-  reopened_leaves : (old new : D) → Reopened (state old) (state new) → (image : List ℕ) → (state new).left_since (state old).moment image
-      → (state old).may_leave image
+  reopened_leaves : (old new : D) → Reopened (state old) (state new) → (image : List ℕ) → left_since (state new) (moment (state old)) image
+      → may_leave (state old) image
   reopened_leaves old new is image left =
-      ⊎_elim (λ before. laws.only_now old image before)
-      (λ now. subst (λ (l : List ℕ). (state old).may_leave l) (sym (is.settled image now)) is.left)
-      (is.time.nothing_else (state old).moment image (omega arith) left)
+      ⊎_elim (λ before. only_now (state old) image before)
+      (λ now. subst (λ (l : List ℕ). may_leave (state old) l) (sym (is.settled image now)) is.left)
+      (is.time.nothing_else (moment (state old)) image (omega arith) left)
 
   pub reopened : (first second first' second' : D) → IsKept state IsJournal first second → Reopened (state first) (state first')
       → Reopened (state second) (state second') → Stays state IsJournal first second first' second'
@@ -83,11 +77,11 @@ module _ {D : Type 0} (state : D → State) (laws : HasLaws state) (IsJournal : 
 
   -- a disk that was crashed and then opened
   left_earlier : (old mid new : D) → Reopened (state old) (state mid) → Untouched (state mid) (state new) → (image : List ℕ)
-      → (state new).left_since (state old).moment image → (state old).may_leave image
+      → left_since (state new) (moment (state old)) image → may_leave (state old) image
   left_earlier old mid new a b image left =
       ⊎_elim (λ before. reopened_leaves old mid a image before)
-      (λ seen. subst (λ (l : List ℕ). (state old).may_leave l) (sym seen) a.left)
-      (b.any_moment.before (state old).moment image a.time.later left)
+      (λ seen. subst (λ (l : List ℕ). may_leave (state old) l) (sym seen) a.left)
+      (b.any_moment.before (moment (state old)) image a.time.later left)
 
   pub opened_again : (first second mid mid' first' second' : D) → IsKept state IsJournal first second → Reopened (state first) (state mid)
       → Reopened (state second) (state mid') → Untouched (state mid) (state first') → Untouched (state mid') (state second')

@@ -1,7 +1,8 @@
 -- What two disks mean, and what a crash may leave on both.
 use Rattle.std.proofs.Common.{◌≡◌, inl, inr, ⊎_elim, ◌<◌, ℕ, Bool, true, false, not, Option, None, Some, List, if◌then◌else◌, refl, sym, ◌∙◌, subst, arith, ltb}
 use Rattle.std.proofs.lemmas.Bool.Decides.{nat_tests}
-use Rattle.storage.specs.State.{State, IsSettled, LeavesOnly}
+use Rattle.storage.specs.State.{State, IsSettled, LeavesOnly, moment, left_since}
+use Rattle.storage.specs.Laws.{only_now}
 use Rattle.bytejournal.specs.Meaning.{Contents, Held, held, chosen, meaning}
 use Rattle.bytejournal.specs.Meaning.Held.{Shut, Broken, Open}
 use Rattle.bytejournal.specs.Journal.{IsEither, EachMoment}
@@ -46,9 +47,9 @@ newer a b less = let test : ltb b.generation a.generation ≡ true = grind (arit
 module _ {D : Type 0} (state : D → State) where
   -- the disks in the order in which they were given, whichever of them is active
   pub pair : (swapped : Bool) (active idle active' idle' : D) (P : List ℕ → List ℕ → Type 0) → ((x y : List ℕ) → P x y → P y x)
-      → EachMoment state active idle active' idle' P
-      → EachMoment state (if swapped then idle else active) (if swapped then active else idle) (if swapped then idle' else active')
-      (if swapped then active' else idle') P
+      → EachMoment (state active) (state idle) (state active') (state idle') P
+      → EachMoment (state (if swapped then idle else active)) (state (if swapped then active else idle)) (state (if swapped then idle' else active'))
+      (state (if swapped then active' else idle')) P
   pair false active idle active' idle' P comm is = is
   pair true active idle active' idle' P comm is = record {
     first_later = is.second_later;
@@ -59,43 +60,39 @@ module _ {D : Type 0} (state : D → State) where
 
   -- where they have changed places
   pub pair_swapped : (swapped : Bool) (active idle active' idle' : D) (P : List ℕ → List ℕ → Type 0) → ((x y : List ℕ) → P x y → P y x)
-      → EachMoment state active idle active' idle' P
-      → EachMoment state (if swapped then idle else active) (if swapped then active else idle) (if not swapped then active' else idle')
-      (if not swapped then idle' else active') P
+      → EachMoment (state active) (state idle) (state active') (state idle') P
+      → EachMoment (state (if swapped then idle else active)) (state (if swapped then active else idle)) (state (if not swapped then active' else idle'))
+      (state (if not swapped then idle' else active')) P
   pair_swapped false active idle active' idle' P comm is = is
   pair_swapped true active idle active' idle' P comm is =
       record { first_later = is.second_later; second_later = is.first_later; each = λ x y left right. comm y x (is.each y x right left) }
 
-  -- what is true of the law that since this moment there is no other
-  abbrev pub HasNoOther : D → Type 0
-  HasNoOther disk = (image : List ℕ) → (state disk).left_since (state disk).moment image → (state disk).may_leave image
-
   -- of a disk that isn't touched and has nothing pending, a crash leaves what a read gives
-  pub untouched : (disk : D) → HasNoOther disk → IsSettled (state disk) → (image : List ℕ) → (state disk).left_since (state disk).moment image
+  pub untouched : (disk : D) → IsSettled (state disk) → (image : List ℕ) → left_since (state disk) (moment (state disk)) image
       → image ≡ (state disk).seen
-  untouched disk no_other settled image left = settled image (no_other image left)
+  untouched disk settled image left = settled image (only_now (state disk) image left)
 
   -- one disk is written, the other isn't touched
-  pub one_written : (active idle active' : D) (Q : List ℕ → Type 0) (R : List ℕ → List ℕ → Type 0) → HasNoOther idle → IsSettled (state idle)
-      → LeavesOnly (state active) (state active') Q → ((x : List ℕ) → Q x → R x (state idle).seen) → EachMoment state active idle active' idle R
-  one_written active idle active' Q R no_other settled run holds = record {
+  pub one_written : (active idle active' : D) (Q : List ℕ → Type 0) (R : List ℕ → List ℕ → Type 0) → IsSettled (state idle)
+      → LeavesOnly (state active) (state active') Q → ((x : List ℕ) → Q x → R x (state idle).seen) → EachMoment (state active) (state idle) (state active') (state idle) R
+  one_written active idle active' Q R settled run holds = record {
     first_later = run.later;
     second_later = omega arith;
-    each = λ x y left right. subst (R x) (sym (untouched idle no_other settled y right)) (holds x (run.each x left));
+    each = λ x y left right. subst (R x) (sym (untouched idle settled y right)) (holds x (run.each x left));
   }
 
   -- nothing is written
-  pub none_written : (active idle : D) (R : List ℕ → List ℕ → Type 0) → HasNoOther active → IsSettled (state active) → HasNoOther idle
-      → IsSettled (state idle) → R (state active).seen (state idle).seen → EachMoment state active idle active idle R
-  none_written active idle R no_other settled no_other' settled' holds = record {
+  pub none_written : (active idle : D) (R : List ℕ → List ℕ → Type 0) → IsSettled (state active)
+      → IsSettled (state idle) → R (state active).seen (state idle).seen → EachMoment (state active) (state idle) (state active) (state idle) R
+  none_written active idle R settled settled' holds = record {
     first_later = omega arith;
     second_later = omega arith;
-    each = λ x y left right. subst (R x) (sym (untouched idle no_other' settled' y right))
-        (subst (λ (l : List ℕ). R l (state idle).seen) (sym (untouched active no_other settled x left)) holds);
+    each = λ x y left right. subst (R x) (sym (untouched idle settled' y right))
+        (subst (λ (l : List ℕ). R l (state idle).seen) (sym (untouched active settled x left)) holds);
   }
 
   pub flipped : (first second first' second' : D) (P : List ℕ → List ℕ → Type 0) → ((x y : List ℕ) → P x y → P y x)
-      → EachMoment state first second first' second' P → EachMoment state second first second' first' P
+      → EachMoment (state first) (state second) (state first') (state second') P → EachMoment (state second) (state first) (state second') (state first') P
   flipped first second first' second' P comm is = record {
     first_later = is.second_later;
     second_later = is.first_later;

@@ -14,7 +14,7 @@ use Rattle.bytejournal.specs.Meaning.Held.{Shut, Open}
 use Rattle.bytejournal.specs.Journal.{IdleIs, IsEither, HoldsOne, EachMoment, contents_of, IsAtRest}
 use Rattle.bytejournal.proofs.Fronts.{front_start}
 use Rattle.bytejournal.proofs.Images.{Means, means_open, means_shut, base_bytes}
-use Rattle.bytejournal.proofs.Pairs.{newer, chosen_comm, meaning_comm, either_comm, flipped, HasNoOther, one_written}
+use Rattle.bytejournal.proofs.Pairs.{newer, chosen_comm, meaning_comm, either_comm, flipped, one_written}
 use Rattle.bytejournal.proofs.Appending.{beside, open_contents, active_means, contents_are}
 
 -- a disk that holds a journal begins with an open gate
@@ -136,15 +136,14 @@ module _ {D : Type 0} (state : D → State) (journal : Journal D) (rest : IsAtRe
 
   module _ (idle : D) where
     -- at each moment of a rebase
-    pub rebase_moments : HasNoOther state journal.active
-        → LeavesOnly (state journal.idle) (state idle)
+    pub rebase_moments : LeavesOnly (state journal.idle) (state idle)
         (IsHalfReplaced journal.idle_open (state journal.idle).seen (base_bytes (journal.generation + 1) base ++ (0 ∷ [])))
-        → EachMoment state journal.active journal.idle journal.active idle
+        → EachMoment (state journal.active) (state journal.idle) (state journal.active) (state idle)
         (IsEither (HoldsOne state journal) (contents_of state journal) (option_map (rebased base) (contents_of state journal)))
-    rebase_moments active_only run =
+    rebase_moments run =
         flipped state journal.idle journal.active idle journal.active _
         (either_comm (HoldsOne state journal) (contents_of state journal) (option_map (rebased base) (contents_of state journal)))
-        (one_written state journal.idle journal.active idle _ _ active_only rest.active_settled
+        (one_written state journal.idle journal.active idle _ _ rest.active_settled
         (subst (λ (n : ℕ). LeavesOnly (state journal.idle) (state idle)
         (IsHalfReplaced journal.idle_open (state journal.idle).seen (base_bytes (n + 1) base ++ (0 ∷ [])))) rest.generation run) either_rebased)
 

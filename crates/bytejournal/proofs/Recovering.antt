@@ -1,23 +1,23 @@
 -- A journal over many calls and crashes.
-use Rattle.std.proofs.Common.{◌≡◌, ◌≢◌, ◌⊎◌, inl, inr, ⊎_elim, ◌≤◌, Bool, true, false, ℕ, Option, None, Some, List, Result, Ok, Err, refl, sym, ◌∙◌, ap, subst, arith}
+use Rattle.std.proofs.Common.{◌≡◌, ⊎_elim, Bool, true, false, ℕ, Option, None, Some, List, Result, Ok, Err, refl, sym, subst}
 use Rattle.std.specs.Prelude.{IsSome, if◌then◌else◌, option_map}
 use Rattle.bytetext.specs.declared.failure.Failure.{Failure}
 use Rattle.bytetext.specs.declared.failure.Failure.TheVariants.{Refused, NoMemory}
-use Rattle.storage.specs.State.{State, IsSettled, LeavesOnly}
+use Rattle.storage.specs.State.{State}
 use Rattle.bytejournal.specs.declared.fault.JournalFault.{JournalFault}
 use Rattle.bytejournal.specs.declared.fault.JournalFault.TheVariants.{DiskFault, NotAJournal, Spent, GenerationsSpent}
 use Rattle.bytejournal.specs.declared.journal.Journal.{Journal}
 use Rattle.bytejournal.specs.declared.opening.Opened.{Opened}
 use Rattle.bytejournal.specs.declared.opening.Returned.{Returned}
-use Rattle.bytejournal.specs.Meaning.{Contents, added, rebased, meaning, IsWhole}
-use Rattle.bytejournal.specs.Journal.{IsEither, HoldsOne, EachMoment, IsAtRest, IsSound, Appends, Rebases, contents_of, first_disk, second_disk}
-use Rattle.bytejournal.specs.Opening.{Untouched, Reopened, Refuses, Creates, Opens, Restarts}
-use Rattle.bytejournal.specs.Recovery.{IsJournal, Stage, first_of, second_of, after_opening, FindsJournal, IsRecoverable, Appended, Rebased, Calls, Lives, IsIntact}
-use Rattle.bytejournal.specs.Recovery.Stage.{InProgram, OnDisks}
+use Rattle.bytejournal.specs.Meaning.{Contents, added, rebased, meaning}
+use Rattle.bytejournal.specs.Journal.{IsEither, HoldsOne, EachMoment, IsSound, Appends, Rebases, contents_of, first_disk, second_disk}
+use Rattle.bytejournal.specs.Opening.{Untouched, Refuses, Creates, Opens, Restarts}
+use Rattle.bytejournal.specs.Recovery.{IsJournal, Stage, first_of, second_of, after_opening, FindsJournal, IsRecoverable, Calls, Lives, IsIntact}
+use Rattle.bytejournal.specs.Recovery.Stage.{InProgram}
 use Rattle.bytejournal.specs.Recovery.Calls.{append, rebase, restart, into_disks, reopen, opening}
 use Rattle.bytejournal.proofs.Pairs.{meaning_comm, pair, either_comm}
 use Rattle.bytejournal.proofs.Appending.{contents_are, nothing_happens}
-use Rattle.bytejournal.proofs.Lasting.{HasLaws, Stays, StageStays, IsStageKept, Callable, seen_journal, after_moments, no_moments, untouched, reopened, opened_again, all_kept}
+use Rattle.bytejournal.proofs.Lasting.{Stays, StageStays, IsStageKept, Callable, seen_journal, after_moments, no_moments, untouched, reopened, opened_again, all_kept}
 
 -- ---- images
 
@@ -48,7 +48,7 @@ not_none first second is none = none_is_not_some (meaning first second) none is.
 not_both : (b : Bool) → b ≡ true → b ≡ false → ⊥
 not_both b t f = cc
 
-module _ {D : Type 0} (state : D → State) (laws : HasLaws state) where
+module _ {D : Type 0} (state : D → State) where
   -- ---- what the calls do
 
   -- a spent journal stays as it is
@@ -83,12 +83,12 @@ module _ {D : Type 0} (state : D → State) (laws : HasLaws state) where
   some_contents : (journal : Journal D) → IsRecoverable state IsJournal (first_disk journal) (second_disk journal) → IsSome (contents_of state journal)
   some_contents journal is =
       contents_in_order journal.swapped journal.active journal.idle
-      (seen_journal state laws IsJournal (first_disk journal) (second_disk journal) is).some
+      (seen_journal state IsJournal (first_disk journal) (second_disk journal) is).some
 
   -- a call of a journal: what a crash leaves means its contents, or others
   called : (old new : Journal D) (f : Contents → Contents) → IsRecoverable state IsJournal (first_disk old) (second_disk old)
       → (old.spent ≡ true → new ≡ old)
-      → (old.spent ≡ false → EachMoment state (first_disk old) (second_disk old) (first_disk new) (second_disk new)
+      → (old.spent ≡ false → EachMoment (state (first_disk old)) (state (second_disk old)) (state (first_disk new)) (state (second_disk new))
       (IsEither (HoldsOne state old) (contents_of state old) (option_map f (contents_of state old))))
       → Stays state IsJournal (first_disk old) (second_disk old) (first_disk new) (second_disk new)
   called old new f is stuck moments = by_spent old.spent refl
@@ -98,7 +98,7 @@ module _ {D : Type 0} (state : D → State) (laws : HasLaws state) where
 
       by_spent : (b : Bool) → old.spent ≡ b → Stays state IsJournal (first_disk old) (second_disk old) (first_disk new) (second_disk new)
       by_spent true spent = subst (λ (j : Journal D). Stays state IsJournal (first_disk old) (second_disk old) (first_disk j) (second_disk j))
-          (sym (stuck spent)) (no_moments state laws IsJournal (first_disk old) (second_disk old) is)
+          (sym (stuck spent)) (no_moments state IsJournal (first_disk old) (second_disk old) is)
       by_spent false going =
           let m = moments going in
           record {
@@ -113,17 +113,17 @@ module _ {D : Type 0} (state : D → State) (laws : HasLaws state) where
   pub opened_is_found : (first second : D) (result : Result (Opened D) (Returned D)) → IsRecoverable state IsJournal first second
       → Opens state first second result → FindsJournal result
   opened_is_found first second (Ok opened) is o =
-      let here = seen_journal state laws IsJournal first second is in
+      let here = seen_journal state IsJournal first second is in
       o.0.whole here.first_whole here.second_whole
   opened_is_found first second (Err handed) is o = λ e.
-      not_none (state first).seen (state second).seen (seen_journal state laws IsJournal first second is)
+      not_none (state first).seen (state second).seen (seen_journal state IsJournal first second is)
       (subst (λ (f : Failure JournalFault). Refuses state first second f handed.disks.first handed.disks.second) e o.0)
 
   pub restarted_is_found : (journal : Journal D) (result : Result (Opened D) (Returned D))
       → IsRecoverable state IsJournal (first_disk journal) (second_disk journal) → Restarts state journal result → FindsJournal result
   restarted_is_found journal result is r = opened_is_found r.0 r.1 result
-      (after_moments state laws IsJournal (first_disk journal) (second_disk journal) r.0 r.1
-      (reopened state laws IsJournal (first_disk journal) (second_disk journal) r.0 r.1 is r.2 r.3)) r.4
+      (after_moments state IsJournal (first_disk journal) (second_disk journal) r.0 r.1
+      (reopened state IsJournal (first_disk journal) (second_disk journal) r.0 r.1 is r.2 r.3)) r.4
 
   -- ---- stages
 
@@ -145,20 +145,20 @@ module _ {D : Type 0} (state : D → State) (laws : HasLaws state) where
       called old new (rebased base) kept (spent_rebase old base result new is.row) is.any_moment
   call_stays (restart {journal} result r) kept =
       let u = after_open r.0 r.1 result r.4 in
-      opened_again state laws IsJournal (first_disk journal) (second_disk journal) r.0 r.1 (first_of (after_opening result))
+      opened_again state IsJournal (first_disk journal) (second_disk journal) r.0 r.1 (first_of (after_opening result))
       (second_of (after_opening result)) kept r.2 r.3 u.0 u.1
-  call_stays (into_disks {journal}) kept = no_moments state laws IsJournal (first_disk journal) (second_disk journal) kept
-  call_stays (reopen {first} {second} {first'} {second'} a b) kept = reopened state laws IsJournal first second first' second' kept a b
+  call_stays (into_disks {journal}) kept = no_moments state IsJournal (first_disk journal) (second_disk journal) kept
+  call_stays (reopen {first} {second} {first'} {second'} a b) kept = reopened state IsJournal first second first' second' kept a b
   call_stays (opening {first} {second} result settled settled' o) kept =
       let u = after_open first second result o in
-      untouched state laws IsJournal first second (first_of (after_opening result)) (second_of (after_opening result)) kept u.0 u.1
+      untouched state IsJournal first second (first_of (after_opening result)) (second_of (after_opening result)) kept u.0 u.1
 
   call_callable : {old new : Stage D} → Calls state old new → IsStageKept state IsJournal old → Callable (IsSound state) new
   call_callable (append entry result is) kept = is.sound
   call_callable (rebase base result is) kept = is.sound
   call_callable (restart {journal} result r) kept = opened_callable r.0 r.1 result
-      (after_moments state laws IsJournal (first_disk journal) (second_disk journal) r.0 r.1
-      (reopened state laws IsJournal (first_disk journal) (second_disk journal) r.0 r.1 kept r.2 r.3)) r.4
+      (after_moments state IsJournal (first_disk journal) (second_disk journal) r.0 r.1
+      (reopened state IsJournal (first_disk journal) (second_disk journal) r.0 r.1 kept r.2 r.3)) r.4
   call_callable into_disks kept = tt
   call_callable (reopen a b) kept = tt
   call_callable (opening {first} {second} result settled settled' o) kept = opened_callable first second result kept o
@@ -171,9 +171,9 @@ module _ {D : Type 0} (state : D → State) (laws : HasLaws state) where
       let after = contents_of state journal in
       let some = some_is (contents_of state journal) (Some rest.contents) (contents_are state journal rest) refl in
       let moments = pair state journal.swapped journal.active journal.idle journal.active journal.idle (IsEither (HoldsOne state journal) after after)
-      (either_comm (HoldsOne state journal) after after) (nothing_happens state journal rest (laws.only_now journal.active) (laws.only_now journal.idle) after) in (
+      (either_comm (HoldsOne state journal) after after) (nothing_happens state journal rest after) in (
         λ going. rest,
-        after_moments state laws IsJournal (first_disk journal) (second_disk journal) (first_disk journal) (second_disk journal)
+        after_moments state IsJournal (first_disk journal) (second_disk journal) (first_disk journal) (second_disk journal)
             (record {
               first_later = moments.first_later;
               second_later = moments.second_later;
@@ -184,6 +184,6 @@ module _ {D : Type 0} (state : D → State) (laws : HasLaws state) where
   pub lives_kept : (first second : D) (base : List ℕ) (journal : Journal D) (last : Stage D) → Creates state first second base (Ok journal)
       → Lives state (Calls state) (InProgram journal) last → IsIntact state (IsSound state) IsJournal last
   lives_kept first second base journal last created lives =
-      all_kept state laws IsJournal (IsSound state) (Calls state) (λ old new call kept. call_stays call kept)
+      all_kept state IsJournal (IsSound state) (Calls state) (λ old new call kept. call_stays call kept)
       (λ old new call kept. call_callable call kept) lives
       (created_is_kept first second base journal created)

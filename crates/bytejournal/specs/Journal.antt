@@ -2,7 +2,7 @@
 use Rattle.std.specs.Prelude.{◌≡◌, ◌≢◌, ◌⊎◌, ◌<◌, ◌≤◌, ◌+◌, ◌-◌, ◌^◌, Bool, true, false, if◌then◌else◌, ℕ, Option, Some, List, length, take, slice_index, option_map, Result, Ok, Err}
 use Rattle.bytetext.specs.declared.failure.Failure.{Failure}
 use Rattle.bytetext.specs.declared.failure.Failure.TheVariants.{Refused, NoMemory}
-use Rattle.storage.specs.State.{State, IsSettled, Rose}
+use Rattle.storage.specs.State.{State, IsSettled, Rose, moment, left_since}
 use Rattle.bytejournal.specs.declared.fault.JournalFault.{JournalFault}
 use Rattle.bytejournal.specs.declared.fault.JournalFault.TheVariants.{DiskFault, NotAJournal, Spent, GenerationsSpent}
 use Rattle.bytejournal.specs.declared.journal.Journal.{Journal}
@@ -35,16 +35,16 @@ module _ {D : Type 0} where
   abbrev pub second_disk : Journal D → D
   second_disk journal = if journal.swapped then journal.active else journal.idle
 
-module _ {D : Type 0} (state : D → State) where
-  -- What a crash at any moment may leave on two disks has P: any image of the one beside any image of the other.
-  pub record EachMoment (first second first' second' : D) (P : List ℕ → List ℕ → Type 0) : Type 0 where
-    pub first_later : (state first).moment ≤ (state first').moment
-    pub second_later : (state second).moment ≤ (state second').moment
-    pub each : (x y : List ℕ) → (state first').left_since (state first).moment x → (state second').left_since (state second).moment y → P x y
+-- What a crash at any moment may leave on two disks has P: any image of the one beside any image of the other.
+pub record EachMoment (first second first' second' : State) (P : List ℕ → List ℕ → Type 0) : Type 0 where
+  pub first_later : moment first ≤ moment first'
+  pub second_later : moment second ≤ moment second'
+  pub each : (x y : List ℕ) → left_since first' (moment first) x → left_since second' (moment second) y → P x y
 
+module _ {D : Type 0} (state : D → State) where
   -- what a crash at any moment between these two states of a journal may leave
   abbrev pub AnyMoment : Journal D → Journal D → (List ℕ → List ℕ → Type 0) → Type 0
-  AnyMoment old new P = EachMoment (first_disk old) (second_disk old) (first_disk new) (second_disk new) P
+  AnyMoment old new P = EachMoment (state (first_disk old)) (state (second_disk old)) (state (first_disk new)) (state (second_disk new)) P
 
   -- what the journal's disks mean
   abbrev pub contents_of : Journal D → Option Contents

@@ -1,10 +1,11 @@
 -- How a journal is made and opened.
-use Rattle.std.specs.Prelude.{◌≡◌, ◌⊎◌, Bool, true, false, if◌then◌else◌, ℕ, Option, None, Some, List, [], ◌∷◌, ◌++◌, length, option_map, Result, Ok, Err}
+use Rattle.std.specs.Prelude.{◌≡◌, ◌⊎◌, ◌+◌, Bool, true, false, if◌then◌else◌, ℕ, Option, None, Some, List, [], ◌∷◌, ◌++◌, length, option_map, Result, Ok, Err}
 use Rattle.std.specs.Option.{is_some}
 use Rattle.bytetext.specs.declared.failure.Failure.{Failure}
 use Rattle.bytetext.specs.declared.failure.Failure.TheVariants.{Refused, NoMemory}
-use Rattle.storage.specs.State.{State, IsSettled, Rose, LeavesOnly}
+use Rattle.storage.specs.State.{State, IsSettled, Rose, LeavesOnly, may_leave}
 use Rattle.storage.specs.Calls.{Elapses}
+use Rattle.storage.specs.Events.{openings}
 use Rattle.bytejournal.specs.declared.fault.JournalFault.{JournalFault}
 use Rattle.bytejournal.specs.declared.fault.JournalFault.TheVariants.{DiskFault, NotAJournal, Spent, GenerationsSpent}
 use Rattle.bytejournal.specs.declared.journal.Journal.{Journal}
@@ -28,14 +29,16 @@ new_contents base = record { generation = 1; base = base; entries = [] }
 -- nothing was written: a read gives what it gave, and at each moment a crash leaves that
 pub record Untouched (old new : State) : Type 0 where
   pub seen : new.seen ≡ old.seen
+  pub events : new.events ≡ old.events
   pub settled : IsSettled new
   pub any_moment : LeavesOnly old new (λ image. image ≡ old.seen)
 
 -- the disk was crashed and holds what the crash left
 pub record Reopened (old new : State) : Type 0 where
-  pub left : old.may_leave new.seen
+  pub left : may_leave old new.seen
   pub settled : IsSettled new
   pub time : Elapses old new
+  pub opened : openings new.events ≡ openings old.events + 1
   pub failed : new.failed ≡ old.failed
 
 -- reading a whole disk, by cases on the answer

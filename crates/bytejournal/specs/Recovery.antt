@@ -1,9 +1,9 @@
 -- A journal over many calls and crashes. What two images have to be, and what the calls are, are left open: a journal of
 -- values on these texts fills them in with its own.
-use Rattle.std.specs.Prelude.{◌≡◌, ◌≢◌, false, true, ℕ, Option, List, IsSome, option_map, Result, Ok, Err}
+use Rattle.std.specs.Prelude.{◌≡◌, ◌≢◌, false, true, ℕ, List, IsSome, option_map, Result, Ok, Err}
 use Rattle.bytetext.specs.declared.failure.Failure.{Failure}
 use Rattle.bytetext.specs.declared.failure.Failure.TheVariants.{Refused}
-use Rattle.storage.specs.State.{State, IsSettled}
+use Rattle.storage.specs.State.{State, IsSettled, moment, may_leave, left_since}
 use Rattle.bytejournal.specs.declared.fault.JournalFault.{JournalFault}
 use Rattle.bytejournal.specs.declared.fault.JournalFault.TheVariants.{NotAJournal}
 use Rattle.bytejournal.specs.declared.journal.Journal.{Journal}
@@ -30,7 +30,7 @@ module _ {D : Type 0} where
 module _ {D : Type 0} (state : D → State) where
   -- of the disk between these two moments a crash left this one, and nothing is pending
   pub record IsLeft (from until left : D) : Type 0 where
-    pub image : (state until).left_since (state from).moment (state left).seen
+    pub image : left_since (state until) (moment (state from)) (state left).seen
     pub settled : IsSettled (state left)
 
   -- a call that returned, or one that a crash ended at any moment
@@ -46,7 +46,7 @@ module _ {D : Type 0} (state : D → State) where
 
   -- whatever a crash leaves on these disks now is a journal
   abbrev pub IsRecoverable : (List ℕ → List ℕ → Type 0) → D → D → Type 0
-  IsRecoverable IsJournal first second = (x y : List ℕ) → (state first).may_leave x → (state second).may_leave y → IsJournal x y
+  IsRecoverable IsJournal first second = (x y : List ℕ) → may_leave (state first) x → may_leave (state second) y → IsJournal x y
 
   -- a journal that a program holds may be called, and whatever a crash leaves is a journal
   abbrev pub IsIntact : (Journal D → Type 0) → (List ℕ → List ℕ → Type 0) → Stage D → Type 0

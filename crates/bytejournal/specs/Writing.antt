@@ -7,9 +7,10 @@ use Rattle.storage.specs.Calls.{SameBytes}
 use Rattle.bytejournal.specs.declared.fault.JournalFault.{JournalFault}
 use Rattle.bytejournal.specs.declared.fault.JournalFault.TheVariants.{DiskFault, NotAJournal, Spent, GenerationsSpent}
 
--- the disk's bytes, what a crash may leave of them and the number of its failures are as they were
+-- the disk's bytes, what happened to it, what a crash may leave and the number of its failures are as they were
 pub record IsSame (old new : State) : Type 0 where
   pub bytes : SameBytes old new
+  pub events : new.events ≡ old.events
   pub failed : new.failed ≡ old.failed
 
 -- at Ok a read gives this file, and it is kept; a fault is one of the disk; without memory nothing happened

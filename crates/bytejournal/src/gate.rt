@@ -1,7 +1,8 @@
 // What is written after a gate, and the gate's own byte.
 ghost use Rattle.std.specs.Prelude.{◌≡◌, ◌<◌, ◌≤◌, ◌+◌, ◌^◌, ℕ, length, OnOk};
 ghost use Rattle.storage.specs.State.{IsSettled, LeavesOnly};
-ghost use Rattle.storage.specs.Calls.{Holds, Torn, HasCause};
+ghost use Rattle.storage.specs.Events.{Torn};
+ghost use Rattle.storage.specs.Calls.{Holds, HasCause};
 ghost use Rattle.bytejournal.specs.Gates.{with_gate, IsHalfWritten, with_first};
 
 use storage::{Disk, DiskFault};

@@ -243,6 +243,7 @@ impl<D: Disk> Journal<D> {
     /// # Errors
     /// With the disks as they were: `DiskFault` where a read failed; `NotAJournal` where the disks don't hold a
     /// journal; `NoMemory` where room for what they hold is refused.
+    #[tactic(auto, using(crate::proofs::Moments::untouched_still))]
     pub fn open(alloc: Global, first: D, second: D) -> Result<Opened<D>, Returned<D>>
         requires first_settled { IsSettled (D.state first) }
         requires second_settled { IsSettled (D.state second) }

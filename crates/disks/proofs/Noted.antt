@@ -1,8 +1,8 @@
 -- What a disk in memory keeps when an event is noted.
 use Rattle.std.proofs.Common.{◌≡◌, inl, inr, ⊎_elim, ◌≤◌, ◌+◌, Bool, true, false, IsTrue, ℕ, min, List, ◌∷◌, ◌++◌, length, take, drop, refl, sym, ◌∙◌, ap, subst, arith, append_assoc, length-append, length-drop}
 use Rattle.std.proofs.lemmas.List.{take_at, drop_at, length-take, take-take}
-use Rattle.storage.specs.Calls.{Holds, Torn, SameBytes}
-use Rattle.storage.specs.Events.{Event, Images, LeftSince}
+use Rattle.storage.specs.Calls.{Holds, SameBytes}
+use Rattle.storage.specs.Events.{Event, Torn, Images, LeftSince}
 use Rattle.storage.specs.Laws.{images_seen}
 use Rattle.disks.specs.Memory.{Memory, state_of, IsKept}
 
@@ -77,7 +77,7 @@ kept events past event content torn content' torn' at n same first content_room 
 abbrev pub changed : Memory → List Event → List ℕ → ℕ → ℕ → Memory
 changed old events content failures room = record old { events = events; content = content; failures = failures; room = room }
 
--- a sync that is noted changes no byte, and a crash leaves what a read gives
+-- a sync, or an opening, that is noted changes no byte, and a crash leaves what a read gives
 pub synced : (old : Memory) (events past : List Event) (event : Event) (content : List ℕ) (failures room : ℕ) → old.events ≡ past
     → old.content ≡ content → events ≡ event ∷ past → event.is_write ≡ false → event.seen ≡ content
     → SameBytes (state_of old) (state_of (changed old events content failures room))

@@ -1,7 +1,7 @@
 -- A disk in memory, as contracts see it.
 use Rattle.std.specs.Prelude.{◌≡◌, ◌≤◌, ◌^◌, ℕ, List, [], length, take}
 use Rattle.storage.specs.State.{State, Rose}
-use Rattle.storage.specs.Events.{Event, Images, LeftSince}
+use Rattle.storage.specs.Events.{Event, Images}
 use Rattle.disks.specs.Plans.{Plan, no_plan}
 
 -- what contracts see of a disk
@@ -25,9 +25,7 @@ with_plan plan disk = record disk { plan = plan }
 abbrev pub state_of : Memory → State
 state_of disk = record {
   seen = disk.content;
-  may_leave = Images disk.events disk.content;
-  moment = length disk.events;
-  left_since = LeftSince disk.events disk.content;
+  events = disk.events;
   failed = disk.failures;
   calls = 2 ^ 64;
   end = disk.room;

@@ -1,9 +1,9 @@
 // A disk in a file, with a mirror in memory of what it holds.
 ghost use Rattle.std.specs.Prelude.{◌≡◌, ◌≤ℤ◌, pos, ◌≤◌, ◌<◌, ◌+◌, [], length, true, false, IsTrue, IfOk, OnOk};
-ghost use Rattle.storage.specs.State.{IsSettled};
+ghost use Rattle.storage.specs.Events.{openings};
+ghost use Rattle.storage.specs.State.{IsSettled, may_leave};
 ghost use Rattle.storage.specs.Calls.{Holds, Tears, Elapses, HasCause, Spends, SameBytes};
 ghost use Rattle.disks.specs.Memory.{state_of, Fails};
-ghost use Rattle.disks.specs.Laws.{seen_is_left_of, counts_now_of, only_now_of};
 ghost use Rattle.disks.specs.Files.{IsTold, IsKept};
 
 use crate::file_fault::{FileDiskError, error_of};
@@ -147,12 +147,6 @@ fn sync_or_break_off(file: &mut ToldFile, broken: &mut bool)
 impl Disk for FileDisk {
     ghost state = { λ disk. state_of disk.mirror };
 
-    ghost seen_is_left = { λ disk. seen_is_left_of disk.mirror };
-
-    ghost counts_now = { λ disk. counts_now_of disk.mirror };
-
-    ghost only_now = { λ disk. only_now_of disk.mirror };
-
     fn len(&self) -> usize {
         self.mirror.len()
     }
@@ -223,14 +217,15 @@ impl Disk for FileDisk {
     /// What was written is brought to its device: a file loses nothing where the program goes on. Where that fails, each
     /// later call refuses.
     fn reopen(&mut self)
-        ensures left { (state_of self.old.mirror).may_leave (state_of self.new.mirror).seen }
+        ensures left { may_leave (state_of self.old.mirror) (state_of self.new.mirror).seen }
         ensures settled { IsSettled (state_of self.new.mirror) }
         ensures time { Elapses (state_of self.old.mirror) (state_of self.new.mirror) }
+        ensures opened { openings (state_of self.new.mirror).events ≡ openings (state_of self.old.mirror).events + 1 }
         ensures never_fails { (state_of self.new.mirror).failed ≡ (state_of self.old.mirror).failed }
 
         ensures kept { self.new.broken ≡ false → IsKept self.new }
     {
         sync_or_break_off(&mut self.file, &mut self.broken);
-        let _ = self.mirror.sync();
+        self.mirror.reopen_kept();
     }
 }

@@ -1,10 +1,10 @@
 // A disk in memory, whose faults and crashes can be planned.
 ghost use Rattle.std.specs.Prelude.{◌≡◌, ◌<◌, ◌≤◌, ◌+◌, ◌++◌, ◌↔◌, [], length, take, drop, IfOk, OnOk, OnErr, IsErr};
-ghost use Rattle.storage.specs.State.{IsSettled};
+ghost use Rattle.storage.specs.Events.{openings};
+ghost use Rattle.storage.specs.State.{IsSettled, may_leave};
 ghost use Rattle.storage.specs.Calls.{Holds, Tears, Elapses, HasCause, Spends, SameBytes, read_count};
 ghost use Rattle.disks.specs.Plans.{IsDue, Leaves, no_plan, with_crash, with_read, after_call, after_read, after_crash};
 ghost use Rattle.disks.specs.Memory.{state_of, empty, with_plan, Fails};
-ghost use Rattle.disks.specs.Laws.{seen_is_left_of, counts_now_of, only_now_of};
 
 use crate::bytes::{copy_rest, make_room, put, read_from};
 use crate::countdown::{is_due, is_over};
@@ -112,6 +112,20 @@ impl MemDisk {
         self.reads = Some(fail_at - 1);
     }
 
+    /// Opens the disk again where nothing that was written is lost. It ends no plan.
+    pub(crate) fn reopen_kept(&mut self)
+        ensures same { SameBytes (state_of self.old) (state_of self.new) }
+        ensures settled { IsSettled (state_of self.new) }
+        ensures opened { openings self.new.events ≡ openings self.old.events + 1 }
+        ensures failures { self.new.failures ≡ self.old.failures }
+        ensures plan { self.new.plan ≡ self.old.plan }
+        ensures left { self.new.left ≡ self.old.content }
+    {
+        self.history.note(&[2, 0, 0], &self.content);
+        copy_rest(&mut self.torn, &self.content, self.same);
+        self.same = self.content.len();
+    }
+
     /// Notes a fault.
     pub(crate) fn fail(&mut self)
         ensures { Fails self.old self.new }
@@ -122,12 +136,6 @@ impl MemDisk {
 
 impl Disk for MemDisk {
     ghost state = { state_of };
-
-    ghost seen_is_left = { seen_is_left_of };
-
-    ghost counts_now = { counts_now_of };
-
-    ghost only_now = { only_now_of };
 
     fn len(&self) -> usize {
         self.content.len()
@@ -141,6 +149,7 @@ impl Disk for MemDisk {
     fn read(&mut self, at: usize, buf: &mut [u8]) -> Result<usize, DiskFault>
         ensures count { IfOk result (λ n. n ≡ read_count (state_of self.old).seen at (length buf.old)) }
         ensures bytes { IfOk result (λ n. buf.new ≡ take n (drop at (state_of self.old).seen) ++ drop n buf.old) }
+        ensures events { (state_of self.new).events ≡ (state_of self.old).events }
         ensures same { SameBytes (state_of self.old) (state_of self.new) }
         ensures room { Spends 0 (state_of self.old) (state_of self.new) }
         ensures cause { HasCause (state_of self.old) (state_of self.new) result }
@@ -159,6 +168,7 @@ impl Disk for MemDisk {
     fn reserve(&mut self, end: usize, calls: usize) -> Result<(), NoMemory>
         ensures calls { OnOk result (calls ≤ (state_of self.new).calls) }
         ensures end { OnOk result (end ≤ (state_of self.new).end) }
+        ensures events { (state_of self.new).events ≡ (state_of self.old).events }
         ensures same { SameBytes (state_of self.old) (state_of self.new) }
         ensures room { Spends 0 (state_of self.old) (state_of self.new) }
         ensures never_fails { (state_of self.new).failed ≡ (state_of self.old).failed }
@@ -223,16 +233,17 @@ impl Disk for MemDisk {
 
     /// The planned crash: it ends the plan of a write or sync, not that of a read.
     fn reopen(&mut self)
-        ensures left { (state_of self.old).may_leave (state_of self.new).seen }
+        ensures left { may_leave (state_of self.old) (state_of self.new).seen }
         ensures settled { IsSettled (state_of self.new) }
         ensures time { Elapses (state_of self.old) (state_of self.new) }
+        ensures opened { openings (state_of self.new).events ≡ openings (state_of self.old).events + 1 }
         ensures never_fails { (state_of self.new).failed ≡ (state_of self.old).failed }
 
         ensures crashed { self.new.content ≡ self.old.left }
         ensures kept { self.new.left ≡ self.old.left }
         ensures plan { self.new.plan ≡ after_crash self.old.plan }
     {
-        self.history.note(&[0, 0, 0], &self.content);
+        self.history.note(&[2, 0, 0], &self.content);
         mem::swap(&mut self.content, &mut self.torn);
         copy_rest(&mut self.torn, &self.content, self.same);
         self.same = self.content.len();

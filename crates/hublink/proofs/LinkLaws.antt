@@ -5,20 +5,21 @@ use Rattle.botjournal.specs.declared.reply.Reply.{Reply}
 use Rattle.std.proofs.lemmas.Bool.Decides.{nat_tests}
 use Rattle.protocol.specs.Notes.{Note}
 use Rattle.protocol.specs.Packets.{Outgoing as Sent}
-use Rattle.protocol.specs.Bots.{How, Works, Row}
+use Rattle.protocol.specs.Bots.{How, Works, Fails, Row}
 use Rattle.protocol.specs.HubRules.{Hub, last_request, next_number}
 use Rattle.protocol.specs.Journals.{is_next_of}
 use Rattle.protocol.specs.Numbers.{Next, place_of}
 use Rattle.linkcalls.specs.declared.answer.Answer.{Answer}
 use Rattle.linkcalls.specs.Calls.{note_of, outgoings_of}
-use Rattle.linkstate.specs.Ends.{Calls}
-use Rattle.hublink.specs.Link.{HubEnd}
+use Rattle.linkstate.specs.Ends.{LeavesOnly}
+use Rattle.hublink.specs.Link.{HubEnd, IsOwn, Calls}
 
 -- an answer
 pub meets-answer : (old new : HubEnd) (row : How → Row Hub) (meaning : Note) (sends : List Sent) (answer : Answer)
     → row Works ≡ record { told = Ok meaning; sends = sends; after = new.bot } → note_of answer.note ≡ meaning → outgoings_of answer.packets ≡ sends
-    → new.number ≡ old.number → new.leaves ≡ old.leaves → Calls old row (Ok answer) new
-meets-answer old new row meaning sends answer is notes sent numbered same = record {
+    → new.number ≡ old.number → new.leaves ≡ old.leaves → LeavesOnly old.device new.device (IsOwn old.leaves (row Fails).after)
+    → Calls old row (Ok answer) new
+meets-answer old new row meaning sends answer is notes sent numbered same moments = record {
   row_of = record {
     told = ap (λ (r : Row Hub). r.told) is ∙ ap (λ n. Ok n) (sym notes);
     sends = ap (λ (r : Row Hub). r.sends) is ∙ sym sent;
@@ -26,6 +27,7 @@ meets-answer old new row meaning sends answer is notes sent numbered same = reco
   };
   number = numbered;
   leaves = same;
+  moments = moments;
 }
 
 -- ---- where a number stands

@@ -1,5 +1,5 @@
 -- How what is made of a packet stands to its row.
-use Rattle.std.proofs.Common.{◌≡◌, ◌+◌, ◌<◌, ◌||◌, ℕ, zero, suc, Bool, true, false, nat_lt, List, [], ◌∷◌, length, drop, get_or, Option, None, Some, Result, Ok, Err, refl, sym, ap, subst, ◌∙◌, arith}
+use Rattle.std.proofs.Common.{◌≡◌, inl, ◌+◌, ◌<◌, ◌||◌, ℕ, zero, suc, Bool, true, false, nat_lt, List, [], ◌∷◌, length, drop, get_or, Option, None, Some, Result, Ok, Err, refl, sym, ap, subst, ◌∙◌, arith}
 use Rattle.bytetext.specs.declared.failure.Failure.{Failure}
 use Rattle.userfile.specs.Apply.{refusal}
 use Rattle.userfile.specs.declared.change.Change.{Change}
@@ -15,8 +15,7 @@ use Rattle.protocol.specs.HubRules.{Hub, version_of, last_request, is_no_leaf, h
 use Rattle.linkcalls.specs.declared.answer.Answer.{Answer}
 use Rattle.linkcalls.specs.declared.error.LinkFault.{LinkFault}
 use Rattle.linkcalls.specs.Calls.{note_of, outgoings_of}
-use Rattle.linkstate.specs.Ends.{Calls}
-use Rattle.hublink.specs.Link.{HubEnd, KeptHub, hub_end, Accepts, left_by, told_before, hello_sends}
+use Rattle.hublink.specs.Link.{HubEnd, KeptHub, Calls, hub_end, Accepts, left_by, told_before, hello_sends}
 use Rattle.hublink.proofs.Sending.{outgoings-length}
 use Rattle.hublink.proofs.LinkLaws.{meets-answer, place-next}
 
@@ -44,7 +43,7 @@ module _ (old : HubEnd) (leaf version : ℕ) where
       → Calls old hello_row (Ok answer) old
   hello-served answer found notes sent =
       meets-answer old old hello_row (Served (length sends)) sends answer (row-served found)
-      (notes ∙ ap (λ n. Served n) (sym (outgoings-length answer.packets) ∙ ap (λ (l : List Sent). length l) sent)) sent refl refl
+      (notes ∙ ap (λ n. Served n) (sym (outgoings-length answer.packets) ∙ ap (λ (l : List Sent). length l) sent)) sent refl refl (inl refl)
 
 -- ---- requests
 

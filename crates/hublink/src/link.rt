@@ -44,7 +44,7 @@ impl<D: Disk> Model for HubLink<D> {
 }
 
 impl<D: Disk> HubLink<D> {
-    ghost use Rattle.std.specs.Prelude.{◌≡◌, ◌≢◌, ◌≤◌, ◌+◌, [], false, length, Err, OnErr};
+    ghost use Rattle.std.specs.Prelude.{◌≡◌, ◌≢◌, ◌≤◌, ◌+◌, [], false, length, Err, IfOk, OnErr};
     ghost use Rattle.bytetext.specs.declared.failure.Failure.TheVariants.{NoMemory as no_memory};
     ghost use Rattle.storage.specs.State.{IsSettled};
     ghost use Rattle.protocol.specs.Bots.{unless_down};
@@ -54,9 +54,10 @@ impl<D: Disk> HubLink<D> {
     ghost use Rattle.linkcalls.specs.declared.TheConstants.{MAX_LEAVES};
     ghost use Rattle.linkcalls.specs.Texts.{Sends};
     ghost use Rattle.linkcalls.specs.Shapes.{GoOut};
+    ghost use Rattle.botjournal.specs.Ledger.{AreStill};
     ghost use Rattle.linkstate.specs.Kept.{MayLeave};
-    ghost use Rattle.linkstate.specs.Ends.{Calls, CallsRestart, Creates, Opens};
-    ghost use Rattle.hublink.specs.Link.{with_oldest};
+    ghost use Rattle.linkstate.specs.Ends.{Creates, Opens};
+    ghost use Rattle.hublink.specs.Link.{Calls, CallsRestart, with_oldest};
 
     /// Makes a hub without records, for this many leaves, on two disks. What the disks held is lost.
     ///
@@ -97,6 +98,8 @@ impl<D: Disk> HubLink<D> {
         requires second_settled { IsSettled (D.state second) }
         requires few { leaves ≤ MAX_LEAVES }
         ensures row { Opens D.state first second 0 leaves [] (hub_meaning leaves) result }
+        // Nothing happened to the disks.
+        ensures still { IfOk result (λ link. AreStill (D.state first) (D.state second) link.device) }
     {
         let Ok(waiting) = VecDeque::with_capacity(alloc, MAX_ASKS) else {
             return Err(Returned {
@@ -154,7 +157,7 @@ impl<D: Disk> HubLink<D> {
     /// `Down`, then `BadChange` for a bad shape, then `AsksFull` where 64 asks wait; each leaves the hub as it was.
     pub fn ask(&mut self, alloc: Global, change: Change) -> Result<Answer, LinkError>
         ensures row { Calls self.old (λ how. hub_asked self.old.bot change) result self.new }
-        ensures quiet { self.new.failures ≡ self.old.failures }
+        ensures quiet { self.new.device ≡ self.old.device }
         ensures stays { OnErr result (self.new ≡ self.old) }
         ensures packets { GoOut 0 result }
         ensures memory { result ≢ Err no_memory }
@@ -271,10 +274,18 @@ impl<D: Disk> HubLink<D> {
         }
     }
 
+    /// Says what a crash leaves at this moment, between two calls. It does nothing.
+    pub fn know_disks(&self)
+        // What is the hub's, with the record in doubt or without it.
+        ensures left { MayLeave (hub_meaning self.now.leaves) hub_folded self.now.bot.kept self.now.bot.doubt self.now.device.first self.now.device.second }
+    {
+        self.kept.know_disks();
+    }
+
     /// The two disks, in the order in which they were given.
     pub fn into_disks(self) -> Disks<D>
         // Whatever a crash leaves on them is the hub's, with the record in doubt or without it.
-        ensures left { MayLeave (hub_meaning self.leaves) hub_folded self.bot.kept self.bot.doubt D.state result.first result.second }
+        ensures left { MayLeave (hub_meaning self.leaves) hub_folded self.bot.kept self.bot.doubt (D.state result.first) (D.state result.second) }
     {
         let HubLink { kept, waiting: _ } = self;
         kept.into_disks()

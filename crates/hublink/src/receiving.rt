@@ -21,7 +21,7 @@ impl<D: Disk> HubLink<D> {
     ghost use Rattle.linkcalls.specs.declared.TheConstants.{MAX_LEAVES};
     ghost use Rattle.linkcalls.specs.Shapes.{GoOut};
     ghost use Rattle.std.specs.Prelude.{Some};
-    ghost use Rattle.linkstate.specs.Ends.{Calls};
+    ghost use Rattle.hublink.specs.Link.{Calls};
 
     /// Takes a packet.
     ///

@@ -9,15 +9,14 @@ use Rattle.protocol.specs.Notes.Note.{Installed}
 use Rattle.protocol.specs.Notes.LinkFault.{NumbersSpent}
 use Rattle.protocol.specs.Bots.{How, Row, refused, journals}
 use Rattle.protocol.specs.Snapshots.{PartSet, records_from, joined, set_for, with_part}
-use Rattle.protocol.specs.Journals.{stand_together}
+use Rattle.protocol.specs.Journals.{stand_together, leaf_meaning}
 use Rattle.protocol.specs.LeafRules.{Leaf, LeafLoose, Install, leaf_folded, installed, set_taken}
 use Rattle.protocol.proofs.Snapshots.{set_for-version}
 use Rattle.linkcalls.specs.declared.answer.Answer.{Answer}
 use Rattle.linkcalls.specs.declared.error.LinkFault.{LinkFault}
 use Rattle.linkcalls.specs.Calls.{note_of, outgoings_of}
-use Rattle.linkstate.specs.Kept.{Journals}
-use Rattle.linkstate.specs.Ends.{Calls}
-use Rattle.leaflink.specs.Link.{LeafEnd, KeptLeaf, leaf_end, part_taken_at}
+use Rattle.linkstate.specs.Kept.{Journals, LeavesOwn}
+use Rattle.leaflink.specs.Link.{LeafEnd, KeptLeaf, Calls, leaf_end, part_taken_at}
 use Rattle.leaflink.proofs.LinkLaws.{meets-kept, meets-error}
 
 together-none : (fault : Option ChangeFault) → is_none fault ≡ true → fault ≡ None
@@ -49,15 +48,17 @@ module _ (leaves : ℕ) (old new : KeptLeaf) (before : LeafLoose) (version part 
       else refused NumbersSpent end.bot) numbered
 
   -- the records are kept
-  pub installs : (answer : Answer) → Journals leaf_folded (Install version (records_from all)) old (Ok tt) new → note_of answer.note ≡ Installed version
+  pub installs : (answer : Answer) → LeavesOwn (leaf_meaning old.who) leaf_folded old.state (Some (Install version (records_from all))) old.device new.device
+      → Journals leaf_folded (Install version (records_from all)) old (Ok tt) new → note_of answer.note ≡ Installed version
       → answer.packets ≡ [] → Calls end row (Ok answer) (leaf_end leaves new (record before { parts = None }))
-  installs answer kept notes silent =
-      meets-kept leaves old new before row (Install version (records_from all)) (Installed version) [] (record before { parts = None }) row-is answer
+  installs answer moments kept notes silent =
+      meets-kept leaves old new before row (Install version (records_from all)) (Installed version) [] (record before { parts = None }) moments row-is answer
       kept notes (ap outgoings_of silent)
 
   -- a disk failed, or memory ran out
-  pub installs-none : (error : Failure LinkFault) → Journals leaf_folded (Install version (records_from all)) old (Err error) new
+  pub installs-none : (error : Failure LinkFault) → LeavesOwn (leaf_meaning old.who) leaf_folded old.state (Some (Install version (records_from all))) old.device new.device
+      → Journals leaf_folded (Install version (records_from all)) old (Err error) new
       → Calls end row (Err error) (leaf_end leaves new before)
-  installs-none error fails =
-      meets-error leaves old new before row (Install version (records_from all)) (Installed version) [] (record before { parts = None }) row-is error
+  installs-none error moments fails =
+      meets-error leaves old new before row (Install version (records_from all)) (Installed version) [] (record before { parts = None }) moments row-is error
       fails tt

@@ -1,5 +1,5 @@
 -- How a call that journals a record stands to its row.
-use Rattle.std.proofs.Common.{◌≡◌, ℕ, List, Result, Ok, Err, refl, sym, ap, subst, ◌∙◌}
+use Rattle.std.proofs.Common.{◌≡◌, inr, ℕ, List, Some, Result, Ok, Err, refl, sym, ap, subst, ◌∙◌}
 use Rattle.bytetext.specs.declared.failure.Failure.{Failure}
 use Rattle.bytetext.specs.declared.failure.Failure.TheVariants.{Refused, NoMemory}
 use Rattle.protocol.specs.Notes.{Note, LinkFault as Fault}
@@ -10,12 +10,17 @@ use Rattle.linkcalls.specs.declared.answer.Answer.{Answer}
 use Rattle.linkcalls.specs.declared.error.LinkFault.{LinkFault}
 use Rattle.linkcalls.specs.Calls.{note_of, outgoings_of}
 use Rattle.linkcalls.specs.Meets.{TakesMemory}
-use Rattle.linkstate.specs.Kept.{Journals}
-use Rattle.linkstate.specs.Ends.{Calls}
-use Rattle.leaflink.specs.Link.{KeptLeaf, leaf_end}
+use Rattle.botjournal.specs.Ledger.{AtEachMoment}
+use Rattle.linkstate.specs.Ends.{LeavesOnly}
+use Rattle.protocol.specs.Journals.{leaf_meaning}
+use Rattle.linkstate.specs.Kept.{Journals, LeavesOwn}
+use Rattle.leaflink.specs.Link.{KeptLeaf, IsOwn, Calls, leaf_end}
 
 module _ (leaves : ℕ) (old new : KeptLeaf) (before : LeafLoose) (row : How → Row Leaf) (entry : LeafRecord) (note : Note) (sends : List Outgoing)
-    (loose : LeafLoose) (is : (how : How) → row how ≡ journals leaf_folded how (leaf_end leaves old before).bot entry note sends loose) where
+    (loose : LeafLoose) (moments : LeavesOwn (leaf_meaning old.who) leaf_folded old.state (Some entry) old.device new.device) (is : (how : How) → row how ≡ journals leaf_folded how (leaf_end leaves old before).bot entry note sends loose) where
+  at_each : LeavesOnly old.device new.device (IsOwn old.who (row Fails).after)
+  at_each = inr (subst (λ (r : Row Leaf). AtEachMoment old.device new.device (IsOwn old.who r.after)) (sym (is Fails)) moments)
+
   -- the record is kept
   pub meets-kept : (answer : Answer) → Journals leaf_folded entry old (Ok tt) new → note_of answer.note ≡ note → outgoings_of answer.packets ≡ sends
       → Calls (leaf_end leaves old before) row (Ok answer) (leaf_end leaves new loose)
@@ -27,6 +32,7 @@ module _ (leaves : ℕ) (old new : KeptLeaf) (before : LeafLoose) (row : How →
     };
     number = ap (λ (l : KeptLeaf). l.who) kept;
     leaves = refl;
+    moments = at_each;
   }
 
   -- a disk failed, or memory ran out
@@ -44,6 +50,7 @@ module _ (leaves : ℕ) (old new : KeptLeaf) (before : LeafLoose) (row : How →
         );
         number = ap (λ (l : KeptLeaf). l.who) fails.1;
         leaves = refl;
+        moments = at_each;
       })
   meets-error NoMemory same takes = record {
     row_of = (
@@ -52,4 +59,5 @@ module _ (leaves : ℕ) (old new : KeptLeaf) (before : LeafLoose) (row : How →
     );
     number = ap (λ (l : KeptLeaf). l.who) same;
     leaves = refl;
+    moments = at_each;
   }

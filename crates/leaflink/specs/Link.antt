@@ -1,5 +1,5 @@
 -- A leaf's end of the link as contracts see it, and how its calls stand to the protocol's.
-use Rattle.std.specs.Prelude.{◌≤◌, ℕ, List, take}
+use Rattle.std.specs.Prelude.{◌≤◌, ℕ, List, take, Result}
 use Rattle.std.specs.List.{AllByRecursion}
 use Rattle.userfile.specs.declared.change.Change.{Change}
 use Rattle.usercodec.specs.Changes.{IsGoodChange}
@@ -14,14 +14,29 @@ use Rattle.protocol.specs.Notes.{Note}
 use Rattle.protocol.specs.Notes.Note.{Accepted, Refused as RefusedFor}
 use Rattle.protocol.specs.Bots.{How, Row, unless_down}
 use Rattle.protocol.specs.HubRules.{text_told}
-use Rattle.protocol.specs.LeafRules.{Leaf, LeafState, LeafRecord, LeafLoose, leaf_asked, leaf_pumped, leaf_pumped_up, leaf_received, leaf_received_up, change_placed, reply_received, part_taken, leaf_compacted, leaf_restarted}
+use Rattle.protocol.specs.LeafRules.{Leaf, LeafState, LeafRecord, LeafLoose, leaf_asked, leaf_pumped, leaf_pumped_up, leaf_received, leaf_received_up, change_placed, reply_received, part_taken, leaf_compacted, leaf_restarted, leaf_folded}
+use Rattle.protocol.specs.Journals.{leaf_meaning}
 use Rattle.protocol.specs.Snapshots.{set_for, with_part}
 use Rattle.linkcalls.specs.declared.TheConstants.{MAX_LEAVES}
-use Rattle.linkstate.specs.Kept.{Kept}
-use Rattle.linkstate.specs.Ends.{End, end_of}
+use Rattle.linkstate.specs.Kept.{Kept, AreOf}
+use Rattle.linkcalls.specs.declared.answer.Answer.{Answer as Reply}
+use Rattle.linkcalls.specs.declared.error.LinkFault.{LinkFault}
+use Rattle.bytetext.specs.declared.failure.Failure.{Failure}
+use Rattle.linkstate.specs.Ends.{End, end_of, Calls as EndCalls, CallsRestart as EndRestarts}
 
 abbrev pub LeafEnd : Type 0
 LeafEnd = End Leaf
+
+-- bytes of two disks that are a leaf's of this number: they mean what it keeps, or that with the record in doubt
+abbrev pub IsOwn : ℕ → Leaf → List ℕ → List ℕ → Type 0
+IsOwn number leaf = AreOf (leaf_meaning number) leaf_folded leaf.kept leaf.doubt
+
+-- a leaf's call meets its row
+abbrev pub Calls : LeafEnd → (How → Row Leaf) → Result Reply (Failure LinkFault) → LeafEnd → Type 0
+Calls old row result new = EndCalls (IsOwn old.number) old row result new
+
+abbrev pub CallsRestart : LeafEnd → (How → Row Leaf) → Result Reply (Failure LinkFault) → LeafEnd → Type 0
+CallsRestart old row result new = EndRestarts (IsOwn old.number) old row result new
 
 -- what a leaf keeps in its journal
 abbrev pub KeptLeaf : Type 0

@@ -60,10 +60,11 @@ impl<D: Disk> LeafLink<D> {
     ghost use Rattle.protocol.specs.Journals.{leaf_meaning};
     ghost use Rattle.protocol.specs.LeafRules.{no_loose, leaf_folded};
     ghost use Rattle.protocol.specs.Network.{new_leaf};
+    ghost use Rattle.botjournal.specs.Ledger.{AreStill};
     ghost use Rattle.linkstate.specs.Kept.{MayLeave};
-    ghost use Rattle.linkstate.specs.Ends.{Calls, CallsRestart, Creates, Opens};
+    ghost use Rattle.linkstate.specs.Ends.{Creates, Opens};
     ghost use Rattle.linkcalls.specs.Shapes.{GoOut};
-    ghost use Rattle.leaflink.specs.Link.{asked, keeps_asks, pumped, pumped_up, compacted, restarted, told};
+    ghost use Rattle.leaflink.specs.Link.{Calls, CallsRestart, asked, keeps_asks, pumped, pumped_up, compacted, restarted, told};
     ghost use Rattle.linkcalls.specs.Texts.{Sends};
 
     /// The leaf of this number, from 1 to the number of leaves, before the first change. What the disks held is lost.
@@ -119,6 +120,8 @@ impl<D: Disk> LeafLink<D> {
         requires numbered { (0 < number) × (number ≤ leaves) }
         requires few { leaves ≤ MAX_LEAVES }
         ensures row { Opens D.state first second number leaves no_loose (leaf_meaning number) result }
+        // Nothing happened to the disks.
+        ensures still { IfOk result (λ link. AreStill (D.state first) (D.state second) link.device) }
     {
         let Ok(waiting) = VecDeque::with_capacity(alloc, MAX_ASKS) else {
             return Err(Returned {
@@ -184,7 +187,7 @@ impl<D: Disk> LeafLink<D> {
         ensures row { Calls self.old (asked self.old change) result self.new }
         ensures few { IfOk result (λ answer. answer.packets ≡ []) }
         // No disk is used, and a refusal leaves all as it was.
-        ensures quiet { self.new.failures ≡ self.old.failures }
+        ensures quiet { self.new.device ≡ self.old.device }
         ensures stays { OnErr result (self.new ≡ self.old) }
         ensures memory { result ≢ Err no_memory }
     {
@@ -319,10 +322,18 @@ impl<D: Disk> LeafLink<D> {
         }
     }
 
+    /// Says what a crash leaves at this moment, between two calls. It does nothing.
+    pub fn know_disks(&self)
+        // What is the leaf's, with the record in doubt or without it.
+        ensures left { MayLeave (leaf_meaning self.now.number) leaf_folded self.now.bot.kept self.now.bot.doubt self.now.device.first self.now.device.second }
+    {
+        self.kept.know_disks();
+    }
+
     /// The two disks, in the order in which they were given.
     pub fn into_disks(self) -> Disks<D>
         // Whatever a crash leaves on them is the leaf's, with the record in doubt or without it.
-        ensures left { MayLeave (leaf_meaning self.number) leaf_folded self.bot.kept self.bot.doubt D.state result.first result.second }
+        ensures left { MayLeave (leaf_meaning self.number) leaf_folded self.bot.kept self.bot.doubt (D.state result.first) (D.state result.second) }
     {
         let LeafLink {
             leaves: _,

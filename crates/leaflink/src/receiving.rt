@@ -20,7 +20,7 @@ impl<D: Disk> LeafLink<D> {
     ghost use Rattle.std.specs.List.{AllByRecursion};
     ghost use Rattle.usercodec.specs.Records.{IsGoodRecord};
     ghost use Rattle.linkcalls.specs.Shapes.{HasGoodRecords};
-    ghost use Rattle.linkstate.specs.Ends.{Calls};
+    ghost use Rattle.leaflink.specs.Link.{Calls};
     ghost use Rattle.leaflink.specs.Link.{received, received_up, change_placed_at, reply_placed_at, part_placed_at, part_taken_at, text_placed_at};
 
     /// Takes a packet of the hub's.

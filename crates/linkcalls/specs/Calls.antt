@@ -1,5 +1,5 @@
 -- What a call answers, in the words of the protocol.
-use Rattle.std.specs.Prelude.{◌≡◌, List, [], ◌∷◌, map, Result, Ok, Err}
+use Rattle.std.specs.Prelude.{◌≡◌, List, [], ◌∷◌, Result, Err}
 use Rattle.linkcalls.specs.declared.note.Note.{Note}
 use Rattle.linkcalls.specs.declared.note.Note.TheVariants as told
 use Rattle.linkcalls.specs.declared.answer.Outgoing.{Outgoing}

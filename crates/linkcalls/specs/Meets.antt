@@ -1,8 +1,8 @@
 -- How a call's answer stands to its row.
-use Rattle.std.specs.Prelude.{◌≡◌, ◌<◌, ◌⊎◌, ℕ, List, [], length, Result, Ok, Err}
+use Rattle.std.specs.Prelude.{◌≡◌, ◌<◌, ◌⊎◌, [], length, Result, Ok, Err}
 use Rattle.bytetext.specs.declared.failure.Failure.{Failure}
 use Rattle.bytetext.specs.declared.failure.Failure.TheVariants.{Refused as refused_by, NoMemory}
-use Rattle.botjournal.specs.Ledger.{Failures, Failed}
+use Rattle.botjournal.specs.Ledger.{Device, Failed}
 use Rattle.protocol.specs.Notes.{Note as Meaning, LinkFault as Fault}
 use Rattle.protocol.specs.Notes.Note.{Queued, Idle, Sent, Accepted, Refused, Served, Old, Repeat, Gap, Early, Applied, Kept, Installed, Compacted, Relayed, Text, Stray, Restarted}
 use Rattle.protocol.specs.Notes.LinkFault.{Diverged as Apart, JournalFault as NotKept, Down as IsDown, BadChange as BadAsk, AsksFull as NoRoom, NumbersSpent as NoNumber, BadBotText as BadText, DiskFault as NotRead}
@@ -25,7 +25,7 @@ how_of TextsFull = Works
 how_of DiskFault = Fails
 
 -- where they failed, a disk has failed once more than before
-abbrev pub HasFailed : How → Failures → Failures → Type 0
+abbrev pub HasFailed : How → Device → Device → Type 0
 HasFailed Works before now = Unit {0}
 HasFailed Fails before now = Failed before now
 HasFailed Counts before now = Unit {0}
@@ -76,14 +76,14 @@ module _ {S : Type 0} where
 -- A call that is no restart, by cases on its answer. It gives what its row says where the devices work, or, where it tells that
 -- one failed, what its row says of that; and one did fail. It is out of memory only where its row takes some, and is then as it
 -- was.
-abbrev pub Meets : {S : Type 0} → (How → Row S) → S → Failures → Result Answer (Failure LinkFault) → S → Failures → Type 0
+abbrev pub Meets : {S : Type 0} → (How → Row S) → S → Device → Result Answer (Failure LinkFault) → S → Device → Type 0
 Meets row old before (Ok answer) new now = Answers (row Works) answer new
 Meets row old before (Err (refused_by fault)) new now = Refuses (row (how_of fault)) fault new × HasFailed (how_of fault) before now
 Meets row old before (Err NoMemory) new now = TakesMemory row (row Works).told × (new ≡ old)
 
 -- A restart, by cases on its answer. It finds that the record in doubt counts, or doesn't; or a device failed; or memory ran
 -- out, which leaves what a failed device leaves.
-abbrev pub Restarts : {S : Type 0} → (How → Row S) → Failures → Result Answer (Failure LinkFault) → S → Failures → Type 0
+abbrev pub Restarts : {S : Type 0} → (How → Row S) → Device → Result Answer (Failure LinkFault) → S → Device → Type 0
 Restarts row before (Ok answer) new now = Answers (row Works) answer new ⊎ Answers (row Counts) answer new
 Restarts row before (Err (refused_by fault)) new now = Refuses (row Fails) fault new × Failed before now
 Restarts row before (Err NoMemory) new now = new ≡ (row Fails).after

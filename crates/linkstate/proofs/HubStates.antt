@@ -20,7 +20,7 @@ use Rattle.protocol.specs.Numbers.{last_number, item_at}
 use Rattle.protocol.specs.Snapshots.{records_from}
 use Rattle.protocol.specs.Packets.{AcceptedChange}
 use Rattle.protocol.specs.HubRules.{HubState, HubRecord, version_of, hub_folded}
-use Rattle.protocol.specs.Journals.{record_if, stand_together, is_to_leaf, reply_among, replies_of, replies_in, hub_of, is_hub_base, is_next, is_next_of, hub_record, hub_meaning, HubMay, IsHubState}
+use Rattle.protocol.specs.Journals.{stand_together, is_to_leaf, reply_among, replies_of, replies_in, hub_of, is_hub_base, is_next, is_next_of, hub_record, hub_meaning, HubMay, IsHubState}
 use Rattle.protocol.proofs.Journals.{hub_state_kept}
 use Rattle.linkstate.specs.States.{ArePlaced}
 use Rattle.linkstate.proofs.Lists.{are_users, are_bans}

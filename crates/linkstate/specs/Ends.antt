@@ -1,23 +1,23 @@
 -- An end of the link as contracts see it, and how its calls stand to the protocol's.
-use Rattle.std.specs.Prelude.{◌≡◌, ℕ, false, Option, None, Result}
+use Rattle.std.specs.Prelude.{◌≡◌, ◌⊎◌, ℕ, false, List, Option, None, Result}
 use Rattle.bytetext.specs.declared.failure.Failure.{Failure}
 use Rattle.storage.specs.State.{State}
 use Rattle.bytejournal.specs.declared.opening.Returned.{Returned}
 use Rattle.botjournal.specs.Contents.{Contents}
-use Rattle.botjournal.specs.Ledger.{Failures}
-use Rattle.protocol.specs.Bots.{How, Row, Bot}
+use Rattle.botjournal.specs.Ledger.{Device, Reopens, AtEachMoment}
+use Rattle.protocol.specs.Bots.{How, Fails, Row, Bot}
 use Rattle.linkcalls.specs.declared.answer.Answer.{Answer}
 use Rattle.linkcalls.specs.declared.error.LinkFault.{LinkFault}
 use Rattle.linkcalls.specs.Meets.{Meets, Restarts}
 use Rattle.linkstate.specs.Kept.{Kept}
 use Rattle.linkstate.specs.Opening.{Makes, Finds}
 
--- an end: its number, which is 0 at the hub, in a net of so many leaves; the protocol's bot; and how often its disks have failed
+-- an end: its number, which is 0 at the hub, in a net of so many leaves; the protocol's bot; and its two disks
 pub record End (B : Type 0) : Type 0 where
   pub number : ℕ
   pub leaves : ℕ
   pub bot : B
-  pub failures : Failures
+  pub device : Device
 
 -- what is kept, with what a restart loses
 abbrev pub end_of : {S L R : Type 0} → ℕ → ℕ → Kept S R → L → End (Bot S L R)
@@ -25,38 +25,48 @@ end_of number leaves kept loose = record {
   number = number;
   leaves = leaves;
   bot = record { kept = kept.state; loose = loose; down = kept.down; doubt = kept.doubt };
-  failures = kept.failures;
+  device = kept.device;
 }
 
--- a call meets its row, and the end stays who it is
-pub record Calls {B : Type 0} (old : End B) (row : How → Row B) (result : Result Answer (Failure LinkFault)) (new : End B) : Type 0 where
-  pub row_of : Meets row old.bot old.failures result new.bot new.failures
+-- no disk was called; or a crash at any moment of the call leaves bytes that have P
+abbrev pub LeavesOnly : Device → Device → (List ℕ → List ℕ → Type 0) → Type 0
+LeavesOnly before now P = (now ≡ before) ⊎ AtEachMoment before now P
+
+-- A call meets its row, and the end stays who it is. Where it calls a disk, a crash at any moment of it leaves what is the bot's that
+-- the row leaves where the device fails: `own` says which bytes of two disks are a bot's.
+pub record Calls {B : Type 0} (own : B → List ℕ → List ℕ → Type 0) (old : End B) (row : How → Row B)
+    (result : Result Answer (Failure LinkFault)) (new : End B) : Type 0 where
+  pub row_of : Meets row old.bot old.device result new.bot new.device
   pub number : new.number ≡ old.number
   pub leaves : new.leaves ≡ old.leaves
+  pub moments : LeavesOnly old.device new.device (own (row Fails).after)
 
--- so does a restart
-pub record CallsRestart {B : Type 0} (old : End B) (row : How → Row B) (result : Result Answer (Failure LinkFault)) (new : End B) : Type 0 where
-  pub row_of : Restarts row old.failures result new.bot new.failures
+-- so does a restart, which opens both disks again, whatever it answers
+pub record CallsRestart {B : Type 0} (own : B → List ℕ → List ℕ → Type 0) (old : End B) (row : How → Row B)
+    (result : Result Answer (Failure LinkFault)) (new : End B) : Type 0 where
+  pub row_of : Restarts row old.device result new.bot new.device
+  pub reopened : Reopens old.device new.device
+  pub moments : AtEachMoment old.device new.device (own old.bot)
   pub number : new.number ≡ old.number
   pub leaves : new.leaves ≡ old.leaves
 
 -- ---- making and finding an end
 
 -- an end that takes records, and has nothing in doubt
-abbrev pub resting : {S L R : Type 0} → ℕ → ℕ → L → S → Failures → End (Bot S L R)
-resting number leaves loose kept failures = record {
+abbrev pub resting : {S L R : Type 0} → ℕ → ℕ → L → S → Device → End (Bot S L R)
+resting number leaves loose kept device = record {
   number = number;
   leaves = leaves;
   bot = record { kept = kept; loose = loose; down = false; doubt = None };
-  failures = failures;
+  device = device;
 }
 
 module _ {D S L R : Type 0} (disk : D → State) (first second : D) (number leaves : ℕ) (loose : L) where
   -- Making an end that keeps this state, and nothing that a restart loses.
   abbrev pub Creates : S → Result (End (Bot S L R)) (Returned D) → Type 0
-  Creates start result = Makes disk first second (λ end. end.failures) (resting number leaves loose) start result
+  Creates start result = Makes disk first second (λ end. end.device) (resting number leaves loose) start result
 
   -- Finding one whose journal's contents mean what they do.
   abbrev pub Opens : (Contents → Option S) → Result (End (Bot S L R)) (Returned D) → Type 0
   Opens state_of result =
-      Finds disk first second (λ end. end.failures) (resting number leaves loose) state_of (λ end. end.bot.kept) result
+      Finds disk first second (λ end. end.device) (resting number leaves loose) state_of (λ end. end.bot.kept) result

@@ -2,28 +2,32 @@
 use Rattle.std.specs.Prelude.{◌≡◌, ◌⊎◌, ℕ, Bool, true, false, List, Option, None, Some, Result, Ok, Err}
 use Rattle.bytetext.specs.declared.failure.Failure.{Failure}
 use Rattle.bytetext.specs.declared.failure.Failure.TheVariants.{Refused, NoMemory}
-use Rattle.storage.specs.State.{State}
+use Rattle.storage.specs.State.{State, may_leave}
 use Rattle.storage.specs.declared.disk.DiskFault.{DiskFault}
 use Rattle.botjournal.specs.Contents.{Contents, meaning}
-use Rattle.botjournal.specs.Ledger.{Ledger, Pending, Account, Failures, Failed, Writes, FailsAt, counted as contents_counted}
+use Rattle.botjournal.specs.Ledger.{Ledger, Pending, Account, Device, Failed, AtEachMoment, LeavesEither, Writes, FailsAt, counted as contents_counted}
 use Rattle.protocol.specs.Bots.{counted}
 use Rattle.linkcalls.specs.declared.error.LinkFault.{LinkFault}
 use Rattle.linkcalls.specs.declared.error.LinkFault.TheVariants.{JournalFault, DiskFault as NotRead}
 
 -- whose state it is: of the hub how many leaves it has, of a leaf its number; the state that is kept; whether a disk failed since
--- the journal was opened; the record that is in doubt since; and how often the disks have failed
+-- the journal was opened; the record that is in doubt since; and its two disks
 pub record Kept (S R : Type 0) : Type 0 where
   pub who : ℕ
   pub state : S
   pub down : Bool
   pub doubt : Option R
-  pub failures : Failures
+  pub device : Device
 
 -- Writing to a journal that has generations left, by cases on the answer.
 abbrev pub WritesAny : Ledger → Pending → Result (Unit {0}) (Failure DiskFault) → Ledger → Type 0
 WritesAny old pending (Ok _) new = Writes pending old new
 WritesAny old pending (Err (Refused _)) new = FailsAt pending old new
 WritesAny old pending (Err NoMemory) new = new ≡ old
+
+-- At each moment of writing this a crash leaves what was kept, or that with this written; or nothing was written.
+abbrev pub LeavesWritten : Pending → Ledger → Ledger → Type 0
+LeavesWritten pending old new = (new ≡ old) ⊎ LeavesEither pending old new
 
 -- ---- how a journal stands to the state
 
@@ -55,25 +59,28 @@ module _ {S R : Type 0} (state_of : Contents → Option S) (folded : S → R →
     pub means : MeansEither kept doubt contents
 
   -- whatever a crash leaves on the disks is the end's
-  abbrev pub MayLeave : S → Option R → {D : Type 0} → (D → State) → D → D → Type 0
-  MayLeave kept doubt disk first second =
-      (x y : List ℕ) → (disk first).may_leave x → (disk second).may_leave y → AreOf kept doubt x y
+  abbrev pub MayLeave : S → Option R → State → State → Type 0
+  MayLeave kept doubt first second = (x y : List ℕ) → may_leave first x → may_leave second y → AreOf kept doubt x y
+
+  -- at each moment of a call a crash leaves the state, or that with the record counted
+  abbrev pub LeavesOwn : S → Option R → Device → Device → Type 0
+  LeavesOwn kept doubt before now = AtEachMoment before now (AreOf kept doubt)
 
 -- ---- what the calls answer
 
 module _ {S R : Type 0} (folded : S → R → S) where
   -- Journaling a record, by cases on the answer: it is kept, and counted; or a disk failed, and it is in doubt; or all is as it was.
   abbrev pub Journals : R → Kept S R → Result (Unit {0}) (Failure LinkFault) → Kept S R → Type 0
-  Journals entry old (Ok _) new = new ≡ record old { state = folded old.state entry; failures = new.failures }
+  Journals entry old (Ok _) new = new ≡ record old { state = folded old.state entry; device = new.device }
   Journals entry old (Err (Refused fault)) new = (fault ≡ JournalFault)
-      × (new ≡ record old { down = true; doubt = Some entry; failures = new.failures }) × Failed old.failures new.failures
+      × (new ≡ record old { down = true; doubt = Some entry; device = new.device }) × Failed old.device new.device
   Journals entry old (Err NoMemory) new = new ≡ old
 
   -- A restart, by cases on the answer: the record in doubt doesn't count, or does; else the end is down.
   abbrev pub Restarts : Kept S R → Result (Unit {0}) (Failure LinkFault) → Kept S R → Type 0
   Restarts old (Ok _) new =
-      (new ≡ record old { down = false; doubt = None; failures = new.failures })
-      ⊎ (new ≡ record old { state = counted folded old.state old.doubt; down = false; doubt = None; failures = new.failures })
-  Restarts old (Err (Refused fault)) new = (fault ≡ NotRead) × (new ≡ record old { down = true; failures = new.failures })
-      × Failed old.failures new.failures
-  Restarts old (Err NoMemory) new = new ≡ record old { down = true; failures = new.failures }
+      (new ≡ record old { down = false; doubt = None; device = new.device })
+      ⊎ (new ≡ record old { state = counted folded old.state old.doubt; down = false; doubt = None; device = new.device })
+  Restarts old (Err (Refused fault)) new = (fault ≡ NotRead) × (new ≡ record old { down = true; device = new.device })
+      × Failed old.device new.device
+  Restarts old (Err NoMemory) new = new ≡ record old { down = true; device = new.device }

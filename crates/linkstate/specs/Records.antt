@@ -1,6 +1,5 @@
 -- Which records an end may journal, and what its journal is given of each.
-use Rattle.std.specs.Prelude.{◌≡◌, ◌+◌, ◌<◌, ◌^◌, ℕ, true, None, nat_lt, is_some}
-use Rattle.userfile.specs.Apply.{refusal}
+use Rattle.std.specs.Prelude.{◌≡◌, ◌+◌, ◌<◌, ◌^◌, ℕ, true, nat_lt}
 use Rattle.userfile.specs.Together.{AreSound}
 use Rattle.usercodec.specs.Changes.{IsGoodChange}
 use Rattle.botjournal.specs.Bases.{IsGoodOut}

@@ -4,7 +4,7 @@ ghost use Rattle.userfile.specs.Apply.{refusal, changed, bad_shape};
 ghost use Rattle.botjournal.specs.Ledger.{Adding};
 ghost use Rattle.botjournal.specs.Entries.{IsGoodEntry};
 ghost use Rattle.botjournal.specs.declared.entry.Entry.TheVariants.{Accepted};
-ghost use Rattle.linkstate.specs.Kept.{WritesAny};
+ghost use Rattle.linkstate.specs.Kept.{WritesAny, LeavesWritten};
 
 use crate::accepted::AcceptedChange;
 use crate::fields::know_change;
@@ -67,6 +67,7 @@ pub(crate) fn keep_next<D: Disk>(
     requires good { IsGoodEntry entry.now }
     requires taken { refusal userfile.old kept.change ≡ None }
     ensures row { WritesAny ledger.old (Adding entry.now) result ledger.new }
+    ensures any_moment { LeavesWritten (Adding entry.now) ledger.old ledger.new }
     ensures records { OnOk result (userfile.new ≡ changed userfile.old kept.change) }
     ensures tail { OnOk result (tail.new.items ≡ tail.old.items ++ kept ∷ []) }
     ensures same_records { OnErr result (userfile.new ≡ userfile.old) }

@@ -6,7 +6,7 @@ ghost use Rattle.botjournal.specs.Entries.{IsGoodEntry};
 ghost use Rattle.botjournal.specs.Contents.{Contents, new_contents};
 ghost use Rattle.botjournal.specs.Ledger.{Pending, written};
 ghost use Rattle.linkstate.specs.States.{Reads, empty_base};
-ghost use Rattle.linkstate.specs.Kept.{WritesAny};
+ghost use Rattle.linkstate.specs.Kept.{WritesAny, LeavesWritten};
 
 use crate::fault::StateError;
 use botjournal::{Base, Entry, Ledger, LedgerError};
@@ -95,6 +95,7 @@ pub trait EndState: Drop + Sized {
         requires means { meaning who ledger.old.account.contents ≡ Some self.old }
         requires may { may self.old entry }
         ensures row { WritesAny ledger.old (pending who self.old entry) result ledger.new }
+        ensures any_moment { LeavesWritten (pending who self.old entry) ledger.old ledger.new }
         ensures folds { OnOk result (self.new ≡ folded self.old entry) }
         ensures stays { OnErr result (self.new ≡ self.old) };
 

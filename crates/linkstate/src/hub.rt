@@ -75,7 +75,7 @@ impl HubState {
     ghost use Rattle.protocol.specs.Network.{new_hub};
     ghost use Rattle.protocol.specs.Journals.{hub_of, hub_base, hub_record, hub_meaning, is_next, is_next_of, IsHubState};
     ghost use Rattle.linkstate.specs.States.{Reads, Takes, TakesAll, ArePlaced, hub_on, is_hubs, empty_base, is_accepted};
-    ghost use Rattle.linkstate.specs.Kept.{WritesAny};
+    ghost use Rattle.linkstate.specs.Kept.{WritesAny, LeavesWritten};
 
     /// A hub with so many leaves before the first change, in the first generation of its journal.
     ///
@@ -282,6 +282,7 @@ impl HubState {
         requires numbered { nat_lt (version_of self.old) last_number ≡ true }
         requires next { is_next self.old.replies entry.origin entry.request ≡ true }
         ensures row { WritesAny ledger.old (Adding (Accepted entry.origin entry.request entry.change)) result ledger.new }
+        ensures any_moment { LeavesWritten (Adding (Accepted entry.origin entry.request entry.change)) ledger.old ledger.new }
         ensures accepts { OnOk result (self.new ≡ hub_folded self.old (Accept entry)) }
         ensures stays { OnErr result (self.new ≡ self.old) }
     {
@@ -317,6 +318,7 @@ impl HubState {
         requires up { ledger.old.account.down ≡ false }
         requires next { is_next_of (item_at self.old.replies leaf) request ≡ true }
         ensures row { WritesAny ledger.old (Adding (Settled leaf request fault)) result ledger.new }
+        ensures any_moment { LeavesWritten (Adding (Settled leaf request fault)) ledger.old ledger.new }
         ensures settles { OnOk result (self.new ≡ hub_folded self.old (Settle leaf fault)) }
         ensures stays { OnErr result (self.new ≡ self.old) }
     {
@@ -346,6 +348,7 @@ impl HubState {
         requires placed { ArePlaced self.old.replies }
         requires few { length self.old.replies < 2 ^ 16 }
         ensures row { WritesAny ledger.old (Rebasing (hub_base self.old)) result ledger.new }
+        ensures any_moment { LeavesWritten (Rebasing (hub_base self.old)) ledger.old ledger.new }
         ensures rebases { OnOk result (self.new ≡ hub_folded self.old Rebase) }
         ensures stays { OnErr result (self.new ≡ self.old) }
     {

@@ -4,7 +4,7 @@ ghost use Rattle.userfile.specs.Apply.{refusal, changed};
 ghost use Rattle.botjournal.specs.Bases.{IsGoodBase};
 ghost use Rattle.botjournal.specs.Entries.{IsGoodEntry};
 ghost use Rattle.botjournal.specs.Ledger.{Adding, Rebasing};
-ghost use Rattle.linkstate.specs.Kept.{WritesAny};
+ghost use Rattle.linkstate.specs.Kept.{WritesAny, LeavesWritten};
 
 use botjournal::{Base, Entry, Ledger, LedgerError, RebaseFault};
 use bytetext::Failure;
@@ -21,6 +21,7 @@ pub(crate) fn entry_journaled<D: Disk>(
     requires up { ledger.old.account.down ≡ false }
     requires good { IsGoodEntry entry.now }
     ensures row { WritesAny ledger.old (Adding entry.now) result ledger.new }
+    ensures any_moment { LeavesWritten (Adding entry.now) ledger.old ledger.new }
 {
     match ledger.append(alloc, entry) {
         Ok(()) => Ok(()),
@@ -39,6 +40,7 @@ pub(crate) fn base_journaled<D: Disk>(
     requires left { ledger.old.account.contents.generation ≢ 2 ^ 32 - 1 }
     requires good { IsGoodBase base.now }
     ensures row { WritesAny ledger.old (Rebasing base.now) result ledger.new }
+    ensures any_moment { LeavesWritten (Rebasing base.now) ledger.old ledger.new }
 {
     match ledger.rebase(alloc, base) {
         Ok(()) => Ok(()),
@@ -61,6 +63,7 @@ pub(crate) fn change_journaled<D: Disk>(
     requires good { IsGoodEntry entry.now }
     requires taken { refusal userfile.old change.now ≡ None }
     ensures row { WritesAny ledger.old (Adding entry.now) result ledger.new }
+    ensures any_moment { LeavesWritten (Adding entry.now) ledger.old ledger.new }
     ensures changes { OnOk result (userfile.new ≡ changed userfile.old change.now) }
     ensures stays { OnErr result (userfile.new ≡ userfile.old) }
 {

@@ -1,10 +1,10 @@
 // An end's state, in the journal that it is kept in.
-ghost use Rattle.std.specs.Prelude.{◌≡◌, false, IfOk};
+ghost use Rattle.std.specs.Prelude.{◌≡◌, None, Some, false, IfOk};
 ghost use Rattle.storage.specs.State.{IsSettled};
 ghost use Rattle.botjournal.specs.Bases.{IsGoodBase};
-ghost use Rattle.botjournal.specs.Ledger.{IsGoodFound};
+ghost use Rattle.botjournal.specs.Ledger.{IsGoodFound, AreStill, Reopens};
 ghost use Rattle.linkstate.specs.States.{Reads, contents_in, empty_base};
-ghost use Rattle.linkstate.specs.Kept.{Journals, Restarts, MayLeave};
+ghost use Rattle.linkstate.specs.Kept.{Journals, Restarts, LeavesOwn, MayLeave};
 ghost use Rattle.linkstate.specs.Opening.{Makes, Finds, at_rest};
 
 use crate::end_state::EndState;
@@ -55,7 +55,7 @@ impl<S: EndState, D: Disk> Model for Kept<S, D> {
       state = k.state;
       down = k.down;
       doubt = option_map (λ d. d.value) k.doubt;
-      failures = k.ledger.failures;
+      device = k.ledger.device;
     } };
 
     ghost invariant = { λ k. S.is_end k.who × S.is_state k.who k.state
@@ -71,7 +71,7 @@ impl<S: EndState, D: Disk> Kept<S, D> {
         requires first_settled { IsSettled (D.state first) }
         requires second_settled { IsSettled (D.state second) }
         requires end { S.is_end who }
-        ensures { Makes D.state first second (λ k. k.failures) (at_rest who) (S.start who) result }
+        ensures { Makes D.state first second (λ k. k.device) (at_rest who) (S.start who) result }
     {
         let Ok(state) = S::start(alloc, who) else {
             return Err(Returned {
@@ -99,7 +99,9 @@ impl<S: EndState, D: Disk> Kept<S, D> {
         requires first_settled { IsSettled (D.state first) }
         requires second_settled { IsSettled (D.state second) }
         requires end { S.is_end who }
-        ensures { Finds D.state first second (λ k. k.failures) (at_rest who) (S.meaning who) (λ k. k.state) result }
+        ensures row { Finds D.state first second (λ k. k.device) (at_rest who) (S.meaning who) (λ k. k.state) result }
+        // Nothing happened to the disks.
+        ensures still { IfOk result (λ k. AreStill (D.state first) (D.state second) k.device) }
     {
         let (ledger, found) = match Ledger::open(alloc, first, second) {
             Ok(opened) => opened,
@@ -154,8 +156,11 @@ impl<S: EndState, D: Disk> Kept<S, D> {
     pub fn journal(&mut self, alloc: Global, entry: S::Record) -> Result<(), LinkError>
         requires up { self.old.down ≡ false }
         requires may { S.may self.old.state entry }
-        ensures { Journals S.folded entry self.old result self.new }
+        ensures row { Journals S.folded entry self.old result self.new }
+        // At each moment of the call a crash leaves what was kept, or that with the record.
+        ensures any_moment { LeavesOwn (S.meaning self.old.who) S.folded self.old.state (Some entry) self.old.device self.new.device }
     {
+        self.ledger.know_disks();
         let seen = Snapshot::of(&entry);
         match self.state.write(alloc, self.who, &mut self.ledger, entry) {
             Ok(()) => Ok(()),
@@ -173,7 +178,11 @@ impl<S: EndState, D: Disk> Kept<S, D> {
     /// # Errors
     /// `DiskFault` or `NoMemory`: nothing but a restart is taken, and what was in doubt still is.
     pub fn restart(&mut self, alloc: Global) -> Result<(), LinkError>
-        ensures { Restarts S.folded self.old result self.new }
+        ensures row { Restarts S.folded self.old result self.new }
+        // Both disks are opened again, whatever is answered.
+        ensures reopened { Reopens self.old.device self.new.device }
+        // At each moment of the call a crash leaves what is kept, with the record in doubt or without it.
+        ensures any_moment { LeavesOwn (S.meaning self.old.who) S.folded self.old.state self.old.doubt self.old.device self.new.device }
     {
         let found = match self.ledger.restart(alloc) {
             Ok(found) => found,
@@ -200,10 +209,20 @@ impl<S: EndState, D: Disk> Kept<S, D> {
         }
     }
 
+    /// Says what a crash leaves at this moment, between two calls. It does nothing.
+    pub fn know_disks(&self)
+        // What is the end's, with the record in doubt or without it.
+        ensures left { MayLeave (S.meaning self.now.who) S.folded self.now.state self.now.doubt self.now.device.first self.now.device.second }
+        // Nothing is in doubt of an end that takes records.
+        ensures certain { self.now.down ≡ false → self.now.doubt ≡ None }
+    {
+        self.ledger.know_disks();
+    }
+
     /// The two disks, in the order in which they were given.
     pub fn into_disks(self) -> Disks<D>
         // Whatever a crash leaves on them is the end's, with the record in doubt or without it.
-        ensures left { MayLeave (S.meaning self.who) S.folded self.state self.doubt D.state result.first result.second }
+        ensures left { MayLeave (S.meaning self.who) S.folded self.state self.doubt (D.state result.first) (D.state result.second) }
     {
         let Kept {
             who: _,

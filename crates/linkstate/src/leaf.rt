@@ -66,7 +66,7 @@ impl LeafState {
     ghost use Rattle.protocol.specs.Network.{new_leaf};
     ghost use Rattle.protocol.specs.Journals.{leaf_of, leaf_base, leaf_record, leaf_meaning};
     ghost use Rattle.linkstate.specs.States.{Reads, Takes, TakesAll, leaf_on, empty_base, wants_room};
-    ghost use Rattle.linkstate.specs.Kept.{WritesAny};
+    ghost use Rattle.linkstate.specs.Kept.{WritesAny, LeavesWritten};
     ghost use Rattle.usercodec.specs.Changes.{IsGoodChange};
 
     /// A leaf before the first change, in the first generation of its journal. Takes no memory.
@@ -268,6 +268,7 @@ impl LeafState {
         requires numbered { nat_lt self.old.version last_number ≡ true }
         requires taken { refusal self.old.records change.now ≡ None }
         ensures row { WritesAny ledger.old (Adding (Applied (self.old.version + 1) change.now)) result ledger.new }
+        ensures any_moment { LeavesWritten (Adding (Applied (self.old.version + 1) change.now)) ledger.old ledger.new }
         ensures applies { OnOk result (self.new ≡ leaf_folded self.old (Apply change.now)) }
         ensures stays { OnErr result (self.new ≡ self.old) }
     {
@@ -297,6 +298,7 @@ impl LeafState {
         requires numbered { nat_lt self.old.last last_number ≡ true }
         requires good { IsGoodChange change }
         ensures row { WritesAny ledger.old (Adding (ReqOut (self.old.last + 1) change)) result ledger.new }
+        ensures any_moment { LeavesWritten (Adding (ReqOut (self.old.last + 1) change)) ledger.old ledger.new }
         ensures out { OnOk result (self.new ≡ leaf_folded self.old (Out change)) }
         ensures stays { OnErr result (self.new ≡ self.old) }
     {
@@ -322,6 +324,7 @@ impl LeafState {
     ) -> Result<(), LedgerError>
         requires up { ledger.old.account.down ≡ false }
         ensures row { WritesAny ledger.old (Adding (ReqDone self.old.last)) result ledger.new }
+        ensures any_moment { LeavesWritten (Adding (ReqDone self.old.last)) ledger.old ledger.new }
         ensures done { OnOk result (self.new ≡ leaf_folded self.old Done) }
         ensures stays { OnErr result (self.new ≡ self.old) }
     {
@@ -352,6 +355,7 @@ impl LeafState {
         requires numbered { 0 < number }
         requires good { IsGoodOut self.old.out }
         ensures row { WritesAny ledger.old (Rebasing (leaf_base number (record self.old { version = version; records = userfile }))) result ledger.new }
+        ensures any_moment { LeavesWritten (Rebasing (leaf_base number (record self.old { version = version; records = userfile }))) ledger.old ledger.new }
         ensures installs { OnOk result (self.new ≡ leaf_folded self.old (Install version userfile)) }
         ensures stays { OnErr result (self.new ≡ self.old) }
     {
@@ -380,6 +384,7 @@ impl LeafState {
         requires numbered { 0 < number }
         requires good { IsGoodOut self.old.out }
         ensures row { WritesAny ledger.old (Rebasing (leaf_base number self.old)) result ledger.new }
+        ensures any_moment { LeavesWritten (Rebasing (leaf_base number self.old)) ledger.old ledger.new }
         ensures compacts { OnOk result (self.new ≡ leaf_folded self.old Compact) }
         ensures stays { OnErr result (self.new ≡ self.old) }
     {

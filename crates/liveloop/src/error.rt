@@ -21,7 +21,7 @@ pub enum LiveError {
     /// The stream failed as it was offered bytes, or took none.
     #[error("write fault")]
     Write,
-    /// A socket can't be opened, or its port can't be told.
+    /// A socket can't be opened or waited for, or its port can't be told.
     #[error("socket fault\n{0}")]
     Socket(SocketFault),
     /// The turns of an `until` are over, and a bot is still below the version.

@@ -2,9 +2,14 @@
 //!
 //! [`live`] reads a live script, opens the server and the hub's link listener on ports of 127.0.0.1 that the system
 //! chooses, and does the commands. Each bot has its journal on two disks in memory and a connection to the server, and
-//! each leaf one to the hub, over which packets go as frames. Nothing blocks: a turn lets in who waits, reads each socket
-//! until it would block, steps the bots and the server, and writes; a socket that isn't connected yet counts as one that
-//! would block. Every 64th turn, the first among them, pumps each bot.
+//! each leaf one to the hub, over which packets go as frames. Nothing in a turn blocks: it lets in who waits, reads each
+//! socket until it would block, steps the bots and the server, and writes; a socket that isn't connected yet counts as one
+//! that would block. Every 64th turn, the first among them, pumps each bot.
+//!
+//! After a turn in which nothing moved, the next one would move nothing either until the system has carried something or
+//! a pump is due. So while something is under way between two sockets, one wait for all of them comes before the next turn:
+//! until one has something to do, or 100 milliseconds have gone. Where nothing is under way, or nothing came of the wait,
+//! the turns before the next that pumps count as made. So an idle botnet makes one turn in 64.
 //!
 //! A live script has the commands of a replay's script but `line`, `clock B N` and `deliver`, at most 8 leaves, and
 //! these besides: `until V` makes turns until each bot is at version V or above, at most 100,000; `turns N` makes so

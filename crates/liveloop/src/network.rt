@@ -8,12 +8,14 @@ use bytetext::NoMemory;
 use ircline::LineReader;
 use linkcalls::Outgoings;
 use loopback::{House, LinkHouse, Peer, Uplink, local};
-use mio::net::TcpStream;
 use procstore::{ProcStore, Promise, Run};
 use replay::SteadyDisk;
 use std::alloc::Global;
 use std::io;
 use std::net::{Net, SocketAddr};
+
+// How long a wait for what is under way is at most, in milliseconds.
+const REST: u64 = 100;
 
 /// The server, the hub's listener, and the bots and their sockets by their numbers.
 pub struct Network {
@@ -24,7 +26,7 @@ pub struct Network {
     /// What each bot's clock shows.
     pub now: Moment,
     // How many turns there are until the next that pumps.
-    pub until_pump: u8,
+    pub until_pump: u32,
     server: SocketAddr,
     hub: SocketAddr,
 }
@@ -46,6 +48,7 @@ impl Drop for Network {
 }
 
 impl Network {
+    ghost use Rattle.std.specs.Prelude.{◌≡◌, ◌≤◌, ◌+◌, IfOk};
     ghost use Rattle.linkcalls.specs.Shapes.{AreGood};
 
     /// The server and the hub's listener, and no bot yet.
@@ -54,7 +57,7 @@ impl Network {
     /// Those of the system.
     pub fn open<R: Net + AllocGlobal>(rt: &R, leaves: u16) -> io::Result<Network> {
         let house = House::open(rt, 0)?;
-        let link = LinkHouse::open(rt, leaves)?;
+        let link = LinkHouse::open(rt, house.waiting(), leaves)?;
         Network::over(rt.alloc(), house, link)
     }
 
@@ -92,7 +95,7 @@ impl Network {
     // Adds the sockets of the next bot.
     fn add_seat<R: Net + AllocGlobal>(&mut self, rt: &R) -> Result<(), LiveError> {
         let uplink = self.next_uplink(rt)?;
-        let irc = TcpStream::connect(rt, self.server)?;
+        let irc = Peer::connect(rt, self.house.waiting(), self.server)?;
         let seat = Seat::new(rt.alloc(), irc, uplink);
         if self.seats.push(seat).is_err() {
             return Err(LiveError::NoMemory);
@@ -122,8 +125,7 @@ impl Network {
     }
 
     fn uplink<R: Net + AllocGlobal>(&self, rt: &R) -> io::Result<Uplink> {
-        let stream = TcpStream::connect(rt, self.hub)?;
-        Ok(Uplink::new(rt.alloc(), stream))
+        Uplink::connect(rt, self.house.waiting(), self.hub)
     }
 
     /// Gives the bot at a place a new connection to the server. Nothing where there is none.
@@ -136,16 +138,16 @@ impl Network {
         store: &ProcStore<P, B>,
         place: usize,
     ) -> Result<(), LiveError> {
-        let stream = TcpStream::connect(rt, self.server)?;
+        let irc = Peer::connect(rt, self.house.waiting(), self.server)?;
         let Some(seat) = self.seats.get_mut(place) else {
             return Ok(());
         };
-        seat.irc = Peer::new(rt.alloc(), stream);
+        seat.irc = irc;
         seat.lines = LineReader::new(rt.alloc());
         Ok(self.greet(rt.alloc(), store, place)?)
     }
 
-    /// Makes those connections anew that are lost.
+    /// Makes those connections anew that are lost. Whether there were any.
     ///
     /// # Errors
     /// `Socket` where the system makes none, and `NoMemory` where a growth was refused.
@@ -153,14 +155,18 @@ impl Network {
         &mut self,
         rt: &R,
         store: &ProcStore<P, B>,
-    ) -> Result<(), LiveError> {
+    ) -> Result<bool, LiveError> {
+        let mut mended = false;
         for place in 0..self.seats.len() {
             if self.has_lost_server(place) {
                 self.connect(rt, store, place)?;
+                mended = true;
             }
-            self.mend_uplink(rt, place)?;
+            if self.mend_uplink(rt, place)? {
+                mended = true;
+            }
         }
-        Ok(())
+        Ok(mended)
     }
 
     fn has_lost_server(&self, place: usize) -> bool {
@@ -170,20 +176,21 @@ impl Network {
         }
     }
 
-    fn mend_uplink<R: Net + AllocGlobal>(&mut self, rt: &R, place: usize) -> io::Result<()> {
+    // Makes a leaf's connection to the hub anew where it is lost. Whether it was.
+    fn mend_uplink<R: Net + AllocGlobal>(&mut self, rt: &R, place: usize) -> io::Result<bool> {
         match self.seats.get(place) {
             Some(seat) => {
                 if !seat.has_lost_hub() {
-                    return Ok(());
+                    return Ok(false);
                 }
             }
-            None => return Ok(()),
+            None => return Ok(false),
         }
         let uplink = self.uplink(rt)?;
         if let Some(seat) = self.seats.get_mut(place) {
             seat.uplink = Some(uplink);
         }
-        Ok(())
+        Ok(true)
     }
 
     /// Whether each bot is at a version or above.
@@ -191,39 +198,88 @@ impl Network {
         self.bots.iter().all(|bot| bot.version() >= version)
     }
 
-    /// Lets in who waits at the server and at the hub.
-    ///
-    /// # Errors
-    /// `NoMemory` where a growth was refused.
-    pub fn let_in(&mut self, alloc: Global) -> Result<(), NoMemory> {
-        let _came = self.house.let_in(alloc)?;
-        self.link.let_in(alloc)
+    /// Whether a version is wanted, and each bot is at it or above.
+    pub fn is_at(&self, wanted: Option<u32>) -> bool {
+        match wanted {
+            Some(version) => self.has_reached(version),
+            None => false,
+        }
     }
 
-    /// Reads each socket.
+    /// Lets in who waits at the server and at the hub. Whether anyone came.
     ///
     /// # Errors
     /// `NoMemory` where a growth was refused.
-    pub fn read(&mut self) -> Result<(), NoMemory> {
-        let _came = self.house.read()?;
-        self.link.read()?;
-        for seat in self.seats.iter_mut() {
-            seat.read()?;
-        }
-        Ok(())
+    pub fn let_in(&mut self, alloc: Global) -> Result<bool, NoMemory> {
+        let came = self.house.let_in(alloc)?;
+        Ok(self.link.let_in(alloc, self.house.waiting())? || came)
     }
 
-    /// Writes what waits, as far as it is taken.
+    /// Reads each socket. Whether anything came.
     ///
     /// # Errors
     /// `NoMemory` where a growth was refused.
-    pub fn send(&mut self, alloc: Global) -> Result<(), NoMemory> {
-        let _moved = self.house.send(alloc)?;
-        self.link.send();
+    pub fn read(&mut self) -> Result<bool, NoMemory> {
+        let heard = self.house.read()?;
+        let mut came = self.link.read()? || heard;
         for seat in self.seats.iter_mut() {
-            seat.send();
+            if seat.read()? {
+                came = true;
+            }
         }
-        Ok(())
+        Ok(came)
+    }
+
+    /// Writes what waits, as far as it is taken. Whether anything moved, or a connection is lost.
+    ///
+    /// # Errors
+    /// `NoMemory` where a growth was refused.
+    pub fn send(&mut self, alloc: Global) -> Result<bool, NoMemory> {
+        let told = self.house.send(alloc)?;
+        let mut moved = self.link.send() || told;
+        for seat in self.seats.iter_mut() {
+            if seat.send() {
+                moved = true;
+            }
+        }
+        Ok(moved)
+    }
+
+    /// Makes way for the next turn after one in which nothing moved. Where something is still under way, waits until a
+    /// socket may have something to do, at most 100 milliseconds. Of the turns that are left, so many are as good as made:
+    /// none where a socket has something to do; or else those before the next that pumps, in which nothing would move.
+    ///
+    /// # Errors
+    /// Those of the system.
+    pub fn rest(&mut self, left: u32) -> io::Result<u32>
+        ensures bound { IfOk result (λ count. count ≤ left) }
+        ensures counted { IfOk result (λ count. self.old.until_pump ≡ self.new.until_pump + count) }
+        ensures same_bots { self.new.bots ≡ self.old.bots }
+        ensures same_sockets { (self.new.link ≡ self.old.link) × (self.new.seats ≡ self.old.seats) }
+        ensures same_clock { self.new.now ≡ self.old.now }
+    {
+        if !self.is_settled() && self.house.wait(REST)? {
+            return Ok(0);
+        }
+        let count = left.min(self.until_pump);
+        self.until_pump -= count;
+        Ok(count)
+    }
+
+    // Whether nothing is under way: each connection has both its sides, and each side has read all that the other was
+    // told.
+    fn is_settled(&self) -> bool {
+        self.house.count() == self.seats.len()
+            && self.link.count() == self.seats.len().saturating_sub(1)
+            && self.seats.iter().all(|seat| self.is_even(seat))
+    }
+
+    fn is_even(&self, seat: &Seat) -> bool {
+        self.house.is_even_with(&seat.irc)
+            && match &seat.uplink {
+                Some(uplink) => self.link.is_even_with(&uplink.wire.peer),
+                None => true,
+            }
     }
 
     /// Leaves the packets of the bot at a place for those to whom they go: the hub's go to leaves, a leaf's to the hub.

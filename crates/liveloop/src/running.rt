@@ -10,7 +10,7 @@ use crate::command::{Command, Commands, Speech};
 use crate::error::LiveError;
 use crate::network::Network;
 use crate::reading::LiveScript;
-use crate::turns::{tell, turn};
+use crate::turns::{make_turns, tell};
 use bottimers::Zone;
 use bytetext::{NoMemory, Text};
 use procstore::{ProcStore, Promise, Run};
@@ -26,7 +26,7 @@ use streams::Stream;
 ///
 /// # Errors
 /// `Read` where the stream fails or would have to wait for bytes; then `Script` with the first line that breaks a rule; each before a socket
-/// is opened. Then the first that a command meets: `Socket` where the system opens no socket, `Stalled` where a bot is
+/// is opened. Then the first that a command meets: `Socket` where the system opens no socket or waits for none, `Stalled` where a bot is
 /// below its version after the turns of an `until`, `Write` where the stream fails as it is offered bytes or takes none.
 /// `NoMemory` where a growth is refused.
 pub fn live<R: Net + AllocGlobal, P: Promise, B: Run, S: Stream>(
@@ -116,7 +116,7 @@ fn done<R: Net + AllocGlobal, P: Promise, B: Run>(
         Command::Connect(bot) => net.connect(rt, store, bot as usize)?,
         Command::Show(bot) => return Ok(shown(alloc, net, bot)?),
         Command::Until(version) => run_until(rt, net, store, version)?,
-        Command::Turns(count) => run_turns(rt, net, store, count)?,
+        Command::Turns(count) => make_turns(rt, net, store, count, None)?,
         Command::Guest { nick, channel } => net.house.invite(alloc, &nick, &channel)?,
         Command::Say(speech) => say(alloc, net, &speech)?,
         Command::Heard(nick) => return Ok(heard(alloc, net, &nick)?),
@@ -132,29 +132,12 @@ fn run_until<R: Net + AllocGlobal, P: Promise, B: Run>(
     store: &ProcStore<P, B>,
     version: u32,
 ) -> Result<(), LiveError> {
-    for _turn in 0..MAX_TURNS {
-        if net.has_reached(version) {
-            return Ok(());
-        }
-        turn(rt, net, store)?;
-    }
+    make_turns(rt, net, store, MAX_TURNS, Some(version))?;
     if net.has_reached(version) {
         Ok(())
     } else {
         Err(LiveError::Stalled)
     }
-}
-
-fn run_turns<R: Net + AllocGlobal, P: Promise, B: Run>(
-    rt: &R,
-    net: &mut Network,
-    store: &ProcStore<P, B>,
-    count: u32,
-) -> Result<(), LiveError> {
-    for _turn in 0..count {
-        turn(rt, net, store)?;
-    }
-    Ok(())
 }
 
 fn say(alloc: Global, net: &mut Network, speech: &Speech) -> Result<(), NoMemory> {

@@ -2,7 +2,6 @@
 use bytetext::NoMemory;
 use ircline::LineReader;
 use loopback::{Peer, Uplink};
-use mio::net::TcpStream;
 use sharewire::Packet;
 use std::alloc::Global;
 
@@ -32,31 +31,32 @@ impl Seat {
     ghost use Rattle.linkcalls.specs.Shapes.{HasGoodRecords};
 
     /// Connections that are being made. Takes no memory.
-    pub fn new(alloc: Global, irc: TcpStream, uplink: Option<Uplink>) -> Seat {
+    pub fn new(alloc: Global, irc: Peer, uplink: Option<Uplink>) -> Seat {
         Seat {
             lines: LineReader::new(alloc),
-            irc: Peer::new(alloc, irc),
+            irc,
             uplink,
         }
     }
 
-    /// Reads what has come over its connections.
+    /// Reads what has come over its connections. Whether anything came.
     ///
     /// # Errors
     /// `NoMemory` where a growth was refused.
-    pub fn read(&mut self) -> Result<(), NoMemory> {
-        let _came = self.irc.read()?;
-        if let Some(uplink) = &mut self.uplink {
-            let _came = uplink.wire.peer.read()?;
+    pub fn read(&mut self) -> Result<bool, NoMemory> {
+        let came = self.irc.read()?;
+        match &mut self.uplink {
+            Some(uplink) => Ok(uplink.wire.peer.read()? || came),
+            None => Ok(came),
         }
-        Ok(())
     }
 
-    /// Writes what waits, as far as it is taken.
-    pub fn send(&mut self) {
-        let _moved = self.irc.send();
-        if let Some(uplink) = &mut self.uplink {
-            let _moved = uplink.wire.peer.send();
+    /// Writes what waits, as far as it is taken. Whether any of it was taken, or a connection is lost.
+    pub fn send(&mut self) -> bool {
+        let moved = self.irc.send() || self.irc.is_over();
+        match &mut self.uplink {
+            Some(uplink) => uplink.wire.peer.send() || uplink.wire.peer.is_over() || moved,
+            None => moved,
         }
     }
 

@@ -16,23 +16,46 @@ use std::alloc::Global;
 use std::net::Net;
 
 // Each so many turns the bots are pumped.
-const PUMP_TURNS: u8 = 64;
+const PUMP_TURNS: u32 = 64;
 
-/// Makes a turn: lets in who waits, reads every socket, steps, and writes.
+/// Makes so many turns, or fewer where a version is wanted and each bot is at it or above. After a turn in which nothing
+/// moved it waits for what is under way, or counts those turns as made in which nothing would move ([`Network::rest`]).
 ///
 /// # Errors
-/// `Socket` where a lost connection can't be made anew, and `NoMemory` where a growth was refused.
-pub fn turn<R: Net + AllocGlobal, P: Promise, B: Run>(
+/// `Socket` where a lost connection can't be made anew or sockets can't be waited for, and `NoMemory` where a growth was
+/// refused.
+pub fn make_turns<R: Net + AllocGlobal, P: Promise, B: Run>(
     rt: &R,
     net: &mut Network,
     store: &ProcStore<P, B>,
+    most: u32,
+    wanted: Option<u32>,
 ) -> Result<(), LiveError> {
-    net.mend(rt, store)?;
-    net.let_in(rt.alloc())?;
-    net.read()?;
-    step(rt.alloc(), net, store)?;
-    net.send(rt.alloc())?;
+    let mut left = most;
+    for _turn in 0..most {
+        if left == 0 || net.is_at(wanted) {
+            return Ok(());
+        }
+        left -= 1;
+        if !turn(rt, net, store)? && !net.is_at(wanted) {
+            left -= net.rest(left)?;
+        }
+    }
     Ok(())
+}
+
+// Makes a turn: lets in who waits, reads every socket, steps, and writes. Whether anything moved.
+fn turn<R: Net + AllocGlobal, P: Promise, B: Run>(
+    rt: &R,
+    net: &mut Network,
+    store: &ProcStore<P, B>,
+) -> Result<bool, LiveError> {
+    let mended = net.mend(rt, store)?;
+    let came = net.let_in(rt.alloc())?;
+    let heard = net.read()?;
+    step(rt.alloc(), net, store)?;
+    let sent = net.send(rt.alloc())?;
+    Ok(mended || came || heard || sent)
 }
 
 // Steps the server and the bots by what has come.

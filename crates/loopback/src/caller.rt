@@ -2,7 +2,6 @@
 use crate::peer::Peer;
 use bytetext::{NoMemory, Text};
 use miniircd::{Client, Pulse};
-use mio::net::TcpStream;
 use std::alloc::Global;
 use std::mem;
 
@@ -22,10 +21,10 @@ pub struct Caller {
 
 impl Caller {
     /// A connection that comes at this second. Takes no memory.
-    pub fn new(alloc: Global, client: Client, stream: TcpStream, now: u64) -> Caller {
+    pub fn new(alloc: Global, client: Client, peer: Peer, now: u64) -> Caller {
         Caller {
             client,
-            peer: Peer::new(alloc, stream),
+            peer,
             pulse: Pulse::new(now),
             line: Vec::new(alloc),
         }

@@ -2,7 +2,6 @@
 use crate::peer::Peer;
 use bytetext::NoMemory;
 use linkframes::{FrameReader, frame_of};
-use mio::net::TcpStream;
 use sharewire::Packet;
 use std::alloc::Global;
 
@@ -18,10 +17,10 @@ impl FramePeer {
     ghost use Rattle.std.specs.List.{AllByRecursion};
     ghost use Rattle.linkcalls.specs.Shapes.{HasGoodRecords};
 
-    /// A connection that has just been made, or is being made. Takes no memory.
-    pub fn new(alloc: Global, stream: TcpStream) -> FramePeer {
+    /// Over a side of a connection that nothing was read from. Takes no memory.
+    pub fn new(alloc: Global, peer: Peer) -> FramePeer {
         FramePeer {
-            peer: Peer::new(alloc, stream),
+            peer,
             reader: FrameReader::new(alloc),
         }
     }

@@ -6,7 +6,7 @@ use crate::peer::Peer;
 use crate::waiting::Waiting;
 use bytetext::{Failure, NoMemory, Seq, Text};
 use miniircd::{Client, Due, Fault, Ircd, IrcdError, MAX_CLIENTS, Sent};
-use mio::net::{TcpListener, TcpStream};
+use mio::net::TcpListener;
 use std::alloc::Global;
 use std::io;
 use std::net::Net;
@@ -47,13 +47,16 @@ impl Drop for House {
 }
 
 impl House {
+    ghost use Rattle.std.specs.Prelude.{◌≡◌};
+
     /// A server without clients on this port of 127.0.0.1, or where it is 0 on one that the system chooses.
     ///
     /// # Errors
     /// Those of the system, where the port can't be listened on.
     pub fn open<R: Net + AllocGlobal>(rt: &R, port: u16) -> io::Result<House> {
         let mut listener = TcpListener::bind(rt, local(port))?;
-        let waiting = Waiting::for_listener(rt, &mut listener)?;
+        let waiting = Waiting::new(rt)?;
+        waiting.add_listener(&mut listener)?;
         Ok(House {
             listener,
             waiting,
@@ -64,12 +67,21 @@ impl House {
         })
     }
 
-    /// Waits until the listener or a connection may have something to do, at most so many milliseconds. After a turn in
-    /// which something moved there may be more to do at once: wait for none then.
+    /// What it waits for, to which a program adds sockets of its own: then [`House::wait`] waits for those too.
+    pub fn waiting(&self) -> &Waiting {
+        &self.waiting
+    }
+
+    /// Waits until the listener, a connection or a socket that was added may have something to do, at most so many
+    /// milliseconds. Whether one of them may. After a turn in which something moved there may be more to do at once: wait
+    /// for none then.
     ///
     /// # Errors
     /// Those of the system.
-    pub fn wait(&mut self, millis: u64) -> io::Result<()> {
+    pub fn wait(&mut self, millis: u64) -> io::Result<bool>
+        ensures same_server { (self.new.server ≡ self.old.server) × (self.new.now ≡ self.old.now) }
+        ensures same_clients { (self.new.callers ≡ self.old.callers) × (self.new.guests ≡ self.old.guests) }
+    {
         self.waiting.wait(millis)
     }
 
@@ -106,37 +118,44 @@ impl House {
     /// `NoMemory` where a growth was refused.
     pub fn let_in(&mut self, alloc: Global) -> Result<bool, NoMemory> {
         for count in 0..MAX_CLIENTS {
-            let Ok((stream, _)) = self.listener.accept() else {
+            let Some(peer) = self.next(alloc) else {
                 return Ok(count > 0);
             };
-            self.admit(alloc, stream)?;
+            self.admit(alloc, peer)?;
         }
         Ok(true)
     }
 
-    fn admit(&mut self, alloc: Global, stream: TcpStream) -> Result<(), NoMemory> {
+    // The next who waits.
+    fn next(&self, alloc: Global) -> Option<Peer> {
+        match self.listener.accept() {
+            Ok((stream, from)) => Some(Peer::accepted(alloc, &self.waiting, stream, from)),
+            Err(_) => None,
+        }
+    }
+
+    fn admit(&mut self, alloc: Global, peer: Peer) -> Result<(), NoMemory> {
         match self.server.connect(alloc) {
-            Ok(client) => self.add_caller(alloc, client, stream),
-            Err(Failure::Refused(_)) => turn_away(alloc, stream),
+            Ok(client) => {
+                self.callers
+                    .push(Caller::new(alloc, client, peer, self.now))?;
+                Ok(())
+            }
+            Err(Failure::Refused(_)) => turn_away(peer),
             Err(Failure::NoMemory) => Err(NoMemory),
         }
     }
 
-    // Adds a connection. One that can't be waited for is let go.
-    fn add_caller(
-        &mut self,
-        alloc: Global,
-        client: Client,
-        stream: TcpStream,
-    ) -> Result<(), NoMemory> {
-        let mut stream = stream;
-        let is_waited_for = self.waiting.add(&mut stream).is_ok();
-        let mut caller = Caller::new(alloc, client, stream, self.now);
-        if !is_waited_for {
-            caller.peer.end();
-        }
-        self.callers.push(caller)?;
-        Ok(())
+    /// How many are connected.
+    pub fn count(&self) -> usize {
+        self.callers.len()
+    }
+
+    /// Whether this connection is one of its own, and each of its two sides has read all that the other was told.
+    pub fn is_even_with(&self, peer: &Peer) -> bool {
+        self.callers
+            .iter()
+            .any(|caller| caller.peer.is_even_with(peer))
     }
 
     /// Reads from each what has come. Whether anything came.
@@ -334,8 +353,8 @@ impl House {
 }
 
 // One that finds the server full is told so, as far as that is taken at once.
-fn turn_away(alloc: Global, stream: TcpStream) -> Result<(), NoMemory> {
-    let mut peer = Peer::new(alloc, stream);
+fn turn_away(peer: Peer) -> Result<(), NoMemory> {
+    let mut peer = peer;
     peer.tell(b"ERROR :full\r\n")?;
     let _taken = peer.send();
     Ok(())

@@ -6,8 +6,9 @@
 //! and an [`Uplink`] a leaf's.
 //!
 //! Each of them is driven by turns: let in who waits, read what has come, take it, and send what waits. No call waits for
-//! a socket but [`House::wait`], which a program makes between two turns. Who is slow, gone or sends rubbish is let go,
-//! and the others go on.
+//! a socket but [`House::wait`], which a program makes between two turns, and which waits for all sockets of its
+//! [`Waiting`] at once. Who is slow, gone or sends rubbish is let go, and the others go on. Where both sides of a
+//! connection are in one program, [`Peer::is_even_with`] tells whether something is still under way between them.
 //!
 //! What sockets give and take is the system's, so no contract speaks of it. But each packet that comes was read from a
 //! frame, so its records are of good shape. Each call returns, and nothing is read or written out of bounds.
@@ -31,3 +32,4 @@ pub use crate::link::LinkHouse;
 pub use crate::peer::Peer;
 pub use crate::socket_fault::SocketFault;
 pub use crate::uplink::Uplink;
+pub use crate::waiting::Waiting;

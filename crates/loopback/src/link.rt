@@ -1,6 +1,8 @@
 // The hub's side of the link.
 use crate::addresses::local;
 use crate::frames::FramePeer;
+use crate::peer::Peer;
+use crate::waiting::Waiting;
 use bytetext::NoMemory;
 use mio::net::TcpListener;
 use sharewire::Packet;
@@ -42,13 +44,19 @@ impl LinkHouse {
     ghost use Rattle.std.specs.List.{AllByRecursion};
     ghost use Rattle.linkcalls.specs.Shapes.{HasGoodRecords};
 
-    /// A listener on a port of 127.0.0.1 that the system chooses, for so many leaves.
+    /// A listener on a port of 127.0.0.1 that the system chooses, for so many leaves. It is waited for.
     ///
     /// # Errors
-    /// Those of the system.
-    pub fn open<R: Net + AllocGlobal>(rt: &R, leaves: u16) -> io::Result<LinkHouse> {
+    /// Those of the system, where no port can be listened on or waited for.
+    pub fn open<R: Net + AllocGlobal>(
+        rt: &R,
+        waiting: &Waiting,
+        leaves: u16,
+    ) -> io::Result<LinkHouse> {
+        let mut listener = TcpListener::bind(rt, local(0))?;
+        waiting.add_listener(&mut listener)?;
         Ok(LinkHouse {
-            listener: TcpListener::bind(rt, local(0))?,
+            listener,
             ends: Vec::new(rt.alloc()),
             leaves,
         })
@@ -62,22 +70,23 @@ impl LinkHouse {
         Ok(self.listener.local_addr()?.port())
     }
 
-    /// Lets in who waits.
+    /// Lets in who waits. They are waited for. Whether anyone came.
     ///
     /// # Errors
     /// `NoMemory` where a growth was refused.
-    pub fn let_in(&mut self, alloc: Global) -> Result<(), NoMemory> {
-        for _ in 0..MAX_ENDS {
-            let Ok((stream, _)) = self.listener.accept() else {
-                return Ok(());
+    pub fn let_in(&mut self, alloc: Global, waiting: &Waiting) -> Result<bool, NoMemory> {
+        for count in 0..MAX_ENDS {
+            let Ok((stream, from)) = self.listener.accept() else {
+                return Ok(count > 0);
             };
             self.make_place();
+            let peer = Peer::accepted(alloc, waiting, stream, from);
             self.ends.push(End {
-                wire: FramePeer::new(alloc, stream),
+                wire: FramePeer::new(alloc, peer),
                 leaf: None,
             })?;
         }
-        Ok(())
+        Ok(true)
     }
 
     // Where there are many already, lets the oldest go that said no hello yet.
@@ -90,20 +99,28 @@ impl LinkHouse {
         }
     }
 
-    /// Reads from each what has come.
+    /// Reads from each what has come. Whether anything came.
     ///
     /// # Errors
     /// `NoMemory` where a growth was refused.
-    pub fn read(&mut self) -> Result<(), NoMemory> {
+    pub fn read(&mut self) -> Result<bool, NoMemory> {
+        let mut came = false;
         for end in self.ends.iter_mut() {
-            let _came = end.wire.peer.read()?;
+            if end.wire.peer.read()? {
+                came = true;
+            }
         }
-        Ok(())
+        Ok(came)
     }
 
     /// How many are connected.
     pub fn count(&self) -> usize {
         self.ends.len()
+    }
+
+    /// Whether this connection is one of its own, and each of its two sides has read all that the other was told.
+    pub fn is_even_with(&self, peer: &Peer) -> bool {
+        self.ends.iter().any(|end| end.wire.peer.is_even_with(peer))
     }
 
     /// The packets that have come from the one at a place. Where its first packet is no hello of a leaf, they are none
@@ -160,12 +177,17 @@ impl LinkHouse {
         }
     }
 
-    /// Writes to each what waits for it, as far as it is taken, and lets go those who are gone.
-    pub fn send(&mut self) {
+    /// Writes to each what waits for it, as far as it is taken, and lets go those who are gone. Whether anything moved.
+    pub fn send(&mut self) -> bool {
+        let mut moved = false;
         for end in self.ends.iter_mut() {
-            let _moved = end.wire.peer.send();
+            if end.wire.peer.send() {
+                moved = true;
+            }
         }
+        let held = self.ends.len();
         self.ends.retain(|end| !end.wire.peer.is_over());
+        moved || self.ends.len() < held
     }
 }
 

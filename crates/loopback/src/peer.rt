@@ -1,10 +1,12 @@
 // A connection.
 ghost use Rattle.std.specs.Prelude.{◌≤◌, IfOk, length};
 
+use crate::waiting::Waiting;
 use bytetext::NoMemory;
 use mio::net::TcpStream;
 use std::alloc::Global;
 use std::io::{ErrorKind, Read, Write};
+use std::net::{Net, SocketAddr};
 use std::{io, mem};
 
 // How much is read at a time, in bytes.
@@ -16,11 +18,17 @@ const MAX_READS: usize = 64;
 // How much may wait to be written, in bytes. Whoever reads so slowly that more would wait is let go.
 const MAX_UNSENT: usize = 262_144;
 
-/// A connection, with the bytes that were read and not taken yet, and those that are still to be written.
+/// A side of a connection, with the bytes that were read and not taken yet, and those that are still to be written.
 pub struct Peer {
     stream: TcpStream,
+    // The port of the side that connects, by which both sides know that they are of one connection; 0 where the system
+    // doesn't tell it.
+    port: u16,
     heard: Vec<u8>,
     unsent: Vec<u8>,
+    // How many bytes were read and written, modulo 2 ^ 64.
+    read: u64,
+    written: u64,
     is_over: bool,
 }
 
@@ -29,24 +37,80 @@ impl Drop for Peer {
     fn drop(self) {
         let Peer {
             stream: _,
+            port: _,
             heard: _,
             unsent: _,
+            read: _,
+            written: _,
             is_over: _,
         } = self;
     }
 }
 
 impl Peer {
-    /// A connection that has just been made, or is being made. Small writes go at once where the system can do that.
-    /// Takes no memory.
-    pub fn new(alloc: Global, stream: TcpStream) -> Peer {
+    ghost use Rattle.std.specs.Prelude.{◌≡◌, ◌↔◌, [], IsTrue};
+
+    /// Begins to connect to an address, and returns at once. The connection is waited for, and small writes go at once
+    /// where the system can do that. Takes no memory.
+    ///
+    /// # Errors
+    /// Those of the system, where it can't begin to connect, or the connection can't be waited for.
+    pub fn connect<R: Net + AllocGlobal>(
+        rt: &R,
+        waiting: &Waiting,
+        address: SocketAddr,
+    ) -> io::Result<Peer> {
+        let mut stream = TcpStream::connect(rt, address)?;
+        waiting.add(&mut stream)?;
+        let port = match stream.local_addr() {
+            Ok(own) => own.port(),
+            Err(_) => 0,
+        };
+        Ok(Peer::of_port(rt.alloc(), stream, port))
+    }
+
+    /// The other side of a connection that was made from an address. It is waited for, or else to be let go; small writes
+    /// go at once where the system can do that. Takes no memory.
+    pub fn accepted(alloc: Global, waiting: &Waiting, stream: TcpStream, from: SocketAddr) -> Peer {
+        let mut stream = stream;
+        let is_waited_for = waiting.add(&mut stream).is_ok();
+        let mut peer = Peer::of_port(alloc, stream, from.port());
+        if !is_waited_for {
+            peer.end();
+        }
+        peer
+    }
+
+    fn of_port(alloc: Global, stream: TcpStream, port: u16) -> Peer {
         let _at_once = stream.set_nodelay(true);
         Peer {
             stream,
+            port,
             heard: Vec::new(alloc),
             unsent: Vec::new(alloc),
+            read: 0,
+            written: 0,
             is_over: false,
         }
+    }
+
+    /// Whether the other is the other side of this connection, and each has read all that the other was told.
+    pub fn is_even_with(&self, other: &Peer) -> bool
+        ensures both { IsTrue result → self.now.port ≡ other.now.port }
+        ensures heard { IsTrue result → (other.now.unsent.items ≡ []) × (self.now.read ≡ other.now.written) }
+        ensures told { IsTrue result → (self.now.unsent.items ≡ []) × (other.now.read ≡ self.now.written) }
+    {
+        self.port == other.port
+            && self.port != 0
+            && self.has_heard_all(other)
+            && other.has_heard_all(self)
+    }
+
+    // Whether this side has read all that the other was told.
+    fn has_heard_all(&self, other: &Peer) -> bool
+        ensures { IsTrue result ↔ ((other.now.unsent.items ≡ []) × (self.now.read ≡ other.now.written)) }
+    {
+        other.unsent.is_empty() && self.read == other.written
     }
 
     /// Whether it is to be let go: the other side has closed it, its socket failed, too much waits to be written, or
@@ -83,6 +147,7 @@ impl Peer {
             }
             Ok(count) => {
                 self.heard.extend_from_slice(&piece[..count])?;
+                self.read = self.read.wrapping_add(count as u64);
                 Ok(true)
             }
             Err(error) => {
@@ -120,6 +185,7 @@ impl Peer {
         match write_front(&mut self.stream, self.unsent.as_slice()) {
             Ok(count) => {
                 forget(&mut self.unsent, count);
+                self.written = self.written.wrapping_add(count as u64);
                 count > 0
             }
             Err(error) => {

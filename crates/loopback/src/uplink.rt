@@ -1,9 +1,12 @@
 // A leaf's side of the link.
 use crate::frames::FramePeer;
+use crate::peer::Peer;
+use crate::waiting::Waiting;
 use bytetext::NoMemory;
-use mio::net::TcpStream;
 use sharewire::Packet;
 use std::alloc::Global;
+use std::io;
+use std::net::{Net, SocketAddr};
 
 /// A leaf's connection to the hub, over which its first packet is a hello.
 pub struct Uplink {
@@ -24,12 +27,20 @@ impl Drop for Uplink {
 impl Uplink {
     ghost use Rattle.linkcalls.specs.Shapes.{HasGoodRecords};
 
-    /// A connection that is being made. Takes no memory.
-    pub fn new(alloc: Global, stream: TcpStream) -> Uplink {
-        Uplink {
-            wire: FramePeer::new(alloc, stream),
+    /// Begins to connect to the hub at an address, and returns at once. The connection is waited for. Takes no memory.
+    ///
+    /// # Errors
+    /// Those of [`Peer::connect`].
+    pub fn connect<R: Net + AllocGlobal>(
+        rt: &R,
+        waiting: &Waiting,
+        address: SocketAddr,
+    ) -> io::Result<Uplink> {
+        let peer = Peer::connect(rt, waiting, address)?;
+        Ok(Uplink {
+            wire: FramePeer::new(rt.alloc(), peer),
             greeted: false,
-        }
+        })
     }
 
     /// Leaves a packet for the hub. Before a hello every other packet is lost.

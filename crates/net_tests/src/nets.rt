@@ -12,7 +12,7 @@ use std::alloc::Global;
 
 // A new bot of this number. Its nick is egg.
 fn new_bot(alloc: Global, number: u16, leaves: u16) -> Result<Bot<MemDisk>, NoMemory>
-    ensures { IfOk result (λ bot. bot ≡ new_bot bot.config bot.link.failures) }
+    ensures { IfOk result (λ bot. bot ≡ new_bot bot.config bot.link.device) }
 {
     let config = Config {
         number,

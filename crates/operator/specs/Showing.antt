@@ -3,7 +3,7 @@ use Rattle.std.specs.Prelude.{◌≡◌, ℕ, List, Some}
 use Rattle.botjournal.specs.Contents.{Contents, meaning}
 use Rattle.linkcalls.specs.declared.TheConstants.{MAX_LEAVES}
 use Rattle.linknet.specs.Ends.{End, end_version, end_records}
-use Rattle.botlink.specs.Opening.{end_meaning}
+use Rattle.botlink.specs.Links.{end_meaning}
 use Rattle.replay.specs.Text.{shown_text}
 
 -- the text has the version and the records of the bot whose journal these bytes of two disks are

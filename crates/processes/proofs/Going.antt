@@ -16,7 +16,7 @@ use Rattle.linknet.specs.Ends.{End as LinkEnd, end_received}
 use Rattle.linknet.specs.Nets.{IsMoment, RowFollows}
 use Rattle.linknet.proofs.Goes.{received_goes}
 use Rattle.botlink.specs.Links.{BotEnd, did, took}
-use Rattle.botlink.specs.Opening.{end_meaning}
+use Rattle.botlink.specs.Links.{end_meaning}
 use Rattle.botcore.specs.declared.event.Event.{Event}
 use Rattle.botcore.specs.declared.event.Event.TheVariants.{Connect, Line, Ask, Pump, Receive, Clock, Bind, Unbind}
 use Rattle.botcore.specs.declared.event.Event.TheVariants.{Compact, Restart}

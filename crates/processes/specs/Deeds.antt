@@ -5,15 +5,12 @@ use Rattle.sharewire.specs.declared.packet.Packet.{Packet}
 use Rattle.procstore.specs.declared.action.Action.{Action}
 use Rattle.procstore.specs.declared.call.Call.{Call}
 use Rattle.procstore.specs.declared.reply.Code.{Code}
+use Rattle.storage.specs.State.{moment, left_since}
 use Rattle.botjournal.specs.Contents.{Contents, meaning}
-use Rattle.botjournal.specs.Ledger.{Failures}
 use Rattle.protocol.specs.Bots.{Fails}
-use Rattle.protocol.specs.HubRules.{Hub}
-use Rattle.protocol.specs.LeafRules.{Leaf}
 use Rattle.protocol.specs.Network.Event.{Pump as pumps, Compact as compacts}
-use Rattle.linknet.specs.Ends.{End, AtHub, AtLeaf}
-use Rattle.botlink.specs.Links.{BotEnd, did, took}
-use Rattle.botlink.specs.Opening.{end_meaning, AreOf}
+use Rattle.linknet.specs.Ends.{End}
+use Rattle.botlink.specs.Links.{BotEnd, did, took, end_meaning, AreOf}
 use Rattle.botcore.specs.declared.event.Event.{Event}
 use Rattle.botcore.specs.declared.event.Event.TheVariants.{Connect, Line, Ask, Pump, Receive, Clock, Bind, Unbind}
 use Rattle.botcore.specs.declared.event.Event.TheVariants.{Compact, Restart}
@@ -116,22 +113,14 @@ failing link (Telling Restart) = link.end
 abbrev pub with_end : BotEnd → End → BotEnd
 with_end link end = record link { end = end }
 
--- the end of the link of a hub with so many leaves, and of a leaf
-abbrev pub hub_end : ℕ → Hub → Failures → BotEnd
-hub_end leaves hub failures = record { number = 0; leaves = leaves; end = AtHub hub; failures = failures }
-
-abbrev pub leaf_end : ℕ → ℕ → Leaf → Failures → BotEnd
-leaf_end leaves place leaf failures = record {
-  number = suc place;
-  leaves = leaves;
-  end = AtLeaf leaf;
-  failures =
-      failures;
-}
-
 -- these bytes mean what the bot kept before the call, or that with what the call was journaling
 abbrev pub LeavesIn : Doing → BotEnd → List ℕ → List ℕ → Type 0
 LeavesIn doing link first second = AreOf (with_end link (failing link doing)) first second
+
+-- a crash at some moment between the one and the other may leave these bytes
+pub record CrashesIn (was after : BotEnd) (first second : List ℕ) : Type 0 where
+  pub first_left : left_since after.device.first (moment was.device.first) first
+  pub second_left : left_since after.device.second (moment was.device.second) second
 
 -- The bot of this number, of so many, keeps what these bytes mean. Its binds, channels, clock, timers and queues are
 -- new.
@@ -145,7 +134,7 @@ pub record IsOpened (bot bots : ℕ) (first second : List ℕ) (after : Bot) : T
     number = after.config.number;
     leaves = after.config.leaves;
     end = after.link.end;
-    failures = after.link.failures;
+    device = after.link.device;
   }
   pub anew : after ≡ begun after.config after.link
 
@@ -182,7 +171,7 @@ module _ (code_of : List ℕ → Call → Code) (may : List ℕ → Call → Lis
 pub record IsNew (count place : ℕ) (process : Process) : Type 0 where
   pub bot : Bot
   pub runs : process ≡ Runs bot
-  pub made : bot ≡ new_bot bot.config bot.link.failures
+  pub made : bot ≡ new_bot bot.config bot.link.device
   pub number : bot.config.number ≡ place
   pub leaves : bot.config.leaves ≡ count
 

@@ -6,7 +6,7 @@ use Rattle.protocol.specs.History.{History, Grows}
 use Rattle.linknet.specs.Ends.{End as LinkEnd}
 use Rattle.linknet.specs.Nets.{IsMoment}
 use Rattle.botlink.specs.Links.{BotEnd}
-use Rattle.botlink.specs.Opening.{AreOf}
+use Rattle.botlink.specs.Links.{AreOf}
 use Rattle.botworld.specs.declared.sent.Sent.{Sent}
 use Rattle.botworld.specs.Network.{sent_as}
 use Rattle.processes.specs.Deeds.{Process, Runs, Ended, Net}

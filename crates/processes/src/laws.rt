@@ -1,22 +1,17 @@
 // What holds of any deeds of bots in processes of their own.
-ghost use Rattle.std.specs.Prelude.{◌≡◌, ◌≤◌, ◌+◌, ◌++◌, ℕ, suc, true, List, slice_get, Some, Ok};
-ghost use Rattle.userfile.specs.Together.{AreSound};
-ghost use Rattle.botjournal.specs.Contents.{Contents};
-ghost use Rattle.botjournal.specs.Journal.{IsEither};
-ghost use Rattle.botjournal.specs.Ledger.{Failures};
+ghost use Rattle.std.specs.Prelude.{◌≡◌, ◌⊎◌, ◌≤◌, ◌+◌, ◌++◌, ℕ, suc, true, List, slice_get, Some, Ok};
 ghost use Rattle.protocol.specs.History.{History, start};
-ghost use Rattle.protocol.specs.HubRules.{Hub, HubRecord};
-ghost use Rattle.protocol.specs.LeafRules.{Leaf, LeafRecord};
-ghost use Rattle.protocol.specs.Journals.{hub_meaning, hub_written, HubMay, IsHubState, leaf_meaning, leaf_written};
-ghost use Rattle.protocol.specs.Journals.{LeafMay};
-ghost use Rattle.botlink.specs.Links.{BotEnd};
-ghost use Rattle.botlink.specs.Opening.{MayLeave, AreOf};
+ghost use Rattle.storage.specs.State.{may_leave};
+ghost use Rattle.botlink.specs.Links.{BotEnd, MayLeave};
 ghost use Rattle.botcore.specs.declared.config.Config.{Config};
 ghost use Rattle.botcore.specs.Bots.{Bot};
+ghost use Rattle.botcore.specs.declared.event.Event.{Event};
+ghost use Rattle.botcore.specs.declared.report.Report.{Report};
 ghost use Rattle.botcore.specs.Making.{Finds};
+ghost use Rattle.botcore.specs.Steps.{TakesStep};
 ghost use Rattle.botworld.specs.Calling.{Calling, IsAlike};
-ghost use Rattle.processes.specs.Deeds.{Net, Step, Deed, Made, Nothing, IsOpened, LeavesIn, Run, IsFirst, net_after};
-ghost use Rattle.processes.specs.Deeds.{hub_end, leaf_end, shown_version, shown_records};
+ghost use Rattle.processes.specs.Deeds.{Net, Step, Deed, Made, Nothing, Telling, IsOpened, CrashesIn, LeavesIn, Run, IsFirst, net_after};
+ghost use Rattle.processes.specs.Deeds.{shown_version, shown_records};
 ghost use Rattle.processes.specs.Standing.{Stands, Reaches};
 ghost use Rattle.processes.specs.Promises.{Once, calling_of};
 
@@ -55,21 +50,12 @@ pub fn laws_of_processes<P: Promise, D: Disk>()
         → IsOpened config.number (config.leaves + 1) (D.state first).seen (D.state second).seen bot }
     // What a crash leaves on the disks of a bot that `Bot::into_disks` took apart is what one leaves that dies outside
     // a call.
-    ensures stopped { (first second : D) (link : BotEnd) → MayLeave D.state first second link → (x y : List ℕ)
-        → (D.state first).may_leave x → (D.state second).may_leave y → LeavesIn Nothing link x y }
-    // Bytes that mean what a hub's journal had, or that with the record that was being written, are what a hub leaves
-    // whose device failed then.
-    ensures hub_dies { (leaves : ℕ) (hub : Hub) (entry : HubRecord) (contents : Contents) (failures : Failures)
-        → hub_meaning leaves contents ≡ Some hub.kept → hub.kept.generation ≡ contents.generation
-        → IsHubState leaves hub.kept
-        → HubMay hub.kept entry → (x y : List ℕ)
-        → IsEither (Some contents) (Some (hub_written contents hub.kept entry)) x y
-        → AreOf (hub_end leaves (record hub { down = true; doubt = Some entry }) failures) x y }
-    // So are they what a leaf leaves.
-    ensures leaf_dies { (leaves place : ℕ) (leaf : Leaf) (entry : LeafRecord) (contents : Contents)
-        (failures : Failures) → leaf_meaning (suc place) contents ≡ Some leaf.kept
-        → leaf.kept.generation ≡ contents.generation
-        → AreSound leaf.kept.records → LeafMay leaf.kept entry → (x y : List ℕ)
-        → IsEither (Some contents) (Some (leaf_written (suc place) contents leaf.kept entry)) x y
-        → AreOf (leaf_end leaves place (record leaf { down = true; doubt = Some entry }) failures) x y }
+    ensures stopped { (first second : D) (link : BotEnd) → MayLeave (D.state first) (D.state second) link → (x y : List ℕ)
+        → may_leave (D.state first) x → may_leave (D.state second) y → LeavesIn Nothing link x y }
+    // What a crash at any moment of a step leaves on a bot's disks is what a process may leave that dies outside a call, or in
+    // that one. That a crash before it leaves what is the bot's is what `Bot::know_disks` says.
+    ensures died { (names : List (List ℕ)) (event : Event) (was after : Bot) (report : Report) (x y : List ℕ)
+        → MayLeave was.link.device.first was.link.device.second was.link
+        → TakesStep P.code_of P.may names was event report after → CrashesIn was.link after.link x y
+        → LeavesIn Nothing was.link x y ⊎ LeavesIn (Telling event) was.link x y }
 {}

@@ -12,7 +12,7 @@ use Rattle.storage.specs.State.{Rose}
 use Rattle.bytejournal.specs.declared.fault.JournalFault.{JournalFault}
 use Rattle.bytejournal.specs.declared.fault.JournalFault.TheVariants.{DiskFault, NotAJournal, Spent, GenerationsSpent}
 use Rattle.bytejournal.specs.Opening.{CannotCreate}
-use Rattle.botjournal.specs.Ledger.{Failures}
+use Rattle.botjournal.specs.Ledger.{Device}
 use Rattle.disks.specs.Memory.{Memory}
 use Rattle.bottimers.specs.Zones.{TzText}
 use Rattle.botcore.specs.declared.limits.TheConstants.{MAX_NICK}
@@ -98,27 +98,27 @@ never_refused leaves zone number config error fault first second first' second' 
 
 -- bots ------------------------------------------------------------------------------------------------------------------
 
-bots_from-at : (leaves : ℕ) (zone : TzText) (first : ℕ) (failures : List Failures) (place : ℕ) (b : Bot)
-    → slice_get (bots_from leaves zone first failures) place ≡ Some b
-    → b ≡ new_bot (config_of leaves zone (first + place)) b.link.failures
+bots_from-at : (leaves : ℕ) (zone : TzText) (first : ℕ) (devices : List Device) (place : ℕ) (b : Bot)
+    → slice_get (bots_from leaves zone first devices) place ≡ Some b
+    → b ≡ new_bot (config_of leaves zone (first + place)) b.link.device
 bots_from-at leaves zone first [] place b e = cc
 bots_from-at leaves zone first (f ∷ fs) zero b e =
     let same : first + 0 ≡ first = omega arith in
     let here : new_bot (config_of leaves zone first) f ≡ b = cc in
     sym here ∙ ap (λ n. new_bot (config_of leaves zone n) f) (sym same)
-    ∙ ap (new_bot (config_of leaves zone (first + 0))) (ap (λ (x : Bot). x.link.failures) here)
+    ∙ ap (new_bot (config_of leaves zone (first + 0))) (ap (λ (x : Bot). x.link.device) here)
 bots_from-at leaves zone first (f ∷ fs) (suc place) b e =
     let same : first + 1 + place ≡ first + suc place = omega arith in
-    bots_from-at leaves zone (first + 1) fs place b e ∙ ap (λ n. new_bot (config_of leaves zone n) b.link.failures) same
+    bots_from-at leaves zone (first + 1) fs place b e ∙ ap (λ n. new_bot (config_of leaves zone n) b.link.device) same
 
-length-bots_from : (leaves : ℕ) (zone : TzText) (first : ℕ) (failures : List Failures) → length (bots_from leaves zone first failures) ≡ length failures
+length-bots_from : (leaves : ℕ) (zone : TzText) (first : ℕ) (devices : List Device) → length (bots_from leaves zone first devices) ≡ length devices
 length-bots_from leaves zone first [] = refl
 length-bots_from leaves zone first (f ∷ fs) = ap suc (length-bots_from leaves zone (first + 1) fs)
 
 -- one bot more
-bots_from-more : (leaves : ℕ) (zone : TzText) (first : ℕ) (failures : List Failures) (f : Failures)
-    → bots_from leaves zone first (failures ++ f ∷ [])
-    ≡ bots_from leaves zone first failures ++ new_bot (config_of leaves zone (first + length failures)) f ∷ []
+bots_from-more : (leaves : ℕ) (zone : TzText) (first : ℕ) (devices : List Device) (f : Device)
+    → bots_from leaves zone first (devices ++ f ∷ [])
+    ≡ bots_from leaves zone first devices ++ new_bot (config_of leaves zone (first + length devices)) f ∷ []
 bots_from-more leaves zone first [] f = let same : first + 0 ≡ first = omega arith in ap (λ n. new_bot (config_of leaves zone n) f ∷ []) (sym same)
 bots_from-more leaves zone first (g ∷ gs) f =
     let same : first + 1 + length gs ≡ first + suc (length gs) = omega arith in
@@ -127,33 +127,33 @@ bots_from-more leaves zone first (g ∷ gs) f =
 
 -- none, and one more
 pub AreNew-none : (leaves : ℕ) (zone : TzText) (bots : List Bot) → bots ≡ [] → AreNew leaves zone 0 bots
-AreNew-none leaves zone bots none = record { failures = []; each = refl; are = none }
+AreNew-none leaves zone bots none = record { devices = []; each = refl; are = none }
 
 pub AreNew-next : (leaves : ℕ) (zone : TzText) (count : ℕ) (bots new : List Bot) (b : Bot) → AreNew leaves zone count bots
-    → b ≡ new_bot (config_of leaves zone count) b.link.failures
+    → b ≡ new_bot (config_of leaves zone count) b.link.device
     → new ≡ bots ++ b ∷ [] → AreNew leaves zone (count + 1) new
 AreNew-next leaves zone count bots new b old same added =
-    let f = b.link.failures in
-    let here : 0 + length old.failures ≡ count = zero-add (length old.failures) ∙ old.each in
+    let f = b.link.device in
+    let here : 0 + length old.devices ≡ count = zero-add (length old.devices) ∙ old.each in
     record {
-      failures = old.failures ++ f ∷ [];
-      each = length-append old.failures (f ∷ []) ∙ ap (λ n. n + 1) old.each;
-      are = added ∙ ap (λ (l : List Bot). l ++ b ∷ []) old.are ∙ ap (λ (x : Bot). bots_from leaves zone 0 old.failures ++ x ∷ []) same
-          ∙ ap (λ n. bots_from leaves zone 0 old.failures ++ new_bot (config_of leaves zone n) f ∷ []) (sym here) ∙ sym (bots_from-more leaves zone 0 old.failures f);
+      devices = old.devices ++ f ∷ [];
+      each = length-append old.devices (f ∷ []) ∙ ap (λ n. n + 1) old.each;
+      are = added ∙ ap (λ (l : List Bot). l ++ b ∷ []) old.are ∙ ap (λ (x : Bot). bots_from leaves zone 0 old.devices ++ x ∷ []) same
+          ∙ ap (λ n. bots_from leaves zone 0 old.devices ++ new_bot (config_of leaves zone n) f ∷ []) (sym here) ∙ sym (bots_from-more leaves zone 0 old.devices f);
     }
 
 pub AreNew-all_new : (leaves : ℕ) (zone : TzText) (count : ℕ) (bots : List Bot) → AreNew leaves zone count bots → AllNew bots
 AreNew-all_new leaves zone count bots are = λ place b e.
-    let same = bots_from-at leaves zone 0 are.failures place b (ap (λ (l : List Bot). slice_get l place) (sym are.are) ∙ e) in
-    same ∙ ap (λ (c : Config). new_bot c b.link.failures) (sym (ap (λ (x : Bot). x.config) same))
+    let same = bots_from-at leaves zone 0 are.devices place b (ap (λ (l : List Bot). slice_get l place) (sym are.are) ∙ e) in
+    same ∙ ap (λ (c : Config). new_bot c b.link.device) (sym (ap (λ (x : Bot). x.config) same))
 
 pub AreNew-numbered : (leaves : ℕ) (zone : TzText) (bots : List Bot) → AreNew leaves zone (leaves + 1) bots → AreNumbered bots
 AreNew-numbered leaves zone bots are =
-    let count : length bots ≡ leaves + 1 = ap length are.are ∙ length-bots_from leaves zone 0 are.failures ∙ are.each in
+    let count : length bots ≡ leaves + 1 = ap length are.are ∙ length-bots_from leaves zone 0 are.devices ∙ are.each in
     record {
       hub = omega (arith, count);
       each = λ place b e.
-          let here = bots_from-at leaves zone 0 are.failures place b (ap (λ (l : List Bot). slice_get l place) (sym are.are) ∙ e) in
+          let here = bots_from-at leaves zone 0 are.devices place b (ap (λ (l : List Bot). slice_get l place) (sym are.are) ∙ e) in
           record {
             number = ap (λ (x : Bot). x.config.number) here ∙ zero-add place;
             leaves = ap (λ (x : Bot). x.config.leaves + 1) here ∙ sym count;

@@ -1,6 +1,6 @@
 -- The botnet of a script before its first step.
 use Rattle.std.specs.Prelude.{◌≡◌, ℕ, ◌+◌, false, List, [], ◌∷◌, ◌++◌, length, Option, None, Some, pos, codes, decimal}
-use Rattle.botjournal.specs.Ledger.{Failures}
+use Rattle.botjournal.specs.Ledger.{Device}
 use Rattle.bottimers.specs.Zones.{TzText, fixed_rule}
 use Rattle.botcore.specs.declared.config.Config.{Config}
 use Rattle.botcore.specs.Bots.{Bot, new_bot}
@@ -22,16 +22,16 @@ config_of leaves zone number = record {
   zone = zone;
 }
 
--- new bots, numbered on from the first, one for each of these, which say how often its disks have failed
-abbrev pub bots_from : ℕ → TzText → ℕ → List Failures → List Bot
+-- new bots, numbered on from the first, one for each of these, its two disks
+abbrev pub bots_from : ℕ → TzText → ℕ → List Device → List Bot
 bots_from leaves zone first [] = []
 bots_from leaves zone first (f ∷ fs) = new_bot (config_of leaves zone first) f ∷ bots_from leaves zone (first + 1) fs
 
 -- these are so many new bots of a net of so many leaves in a zone, the hub first
 pub record AreNew (leaves : ℕ) (zone : TzText) (count : ℕ) (bots : List Bot) : Type 0 where
-  pub failures : List Failures
-  pub each : length failures ≡ count
-  pub are : bots ≡ bots_from leaves zone 0 failures
+  pub devices : List Device
+  pub each : length devices ≡ count
+  pub are : bots ≡ bots_from leaves zone 0 devices
 
 -- a hub and its leaves before the first step, with procs of these names
 pub record IsFirst (leaves : ℕ) (zone : TzText) (names : List (List ℕ)) (s : State) : Type 0 where

@@ -63,7 +63,7 @@ pub fn new_bots(alloc: Global, leaves: u16, zone: &Zone) -> Result<Vec<Bot<Stead
 fn bot(alloc: Global, leaves: u16, zone: &Zone, number: u16) -> Result<Bot<SteadyDisk>, NoMemory>
     requires few { leaves ≤ MAX_LEAVES }
     requires numbered { number ≤ leaves }
-    ensures { IfOk result (λ bot. bot ≡ new_bot (config_of leaves zone.now number) bot.link.failures) }
+    ensures { IfOk result (λ bot. bot ≡ new_bot (config_of leaves zone.now number) bot.link.device) }
 {
     let config = config(alloc, leaves, zone, number)?;
     match Bot::create(

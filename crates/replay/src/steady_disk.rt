@@ -1,8 +1,8 @@
 // A disk in memory that never fails.
 ghost use Rattle.std.specs.Prelude.{◌≡◌, ◌<◌, ◌≤◌, ◌+◌, ◌++◌, length, take, drop, IfOk, OnOk};
-ghost use Rattle.storage.specs.State.{IsSettled};
+ghost use Rattle.storage.specs.Events.{openings};
+ghost use Rattle.storage.specs.State.{IsSettled, may_leave};
 ghost use Rattle.storage.specs.Calls.{Holds, Tears, Elapses, HasCause, Spends, SameBytes, read_count};
-ghost use Rattle.disks.specs.Laws.{seen_is_left_of, counts_now_of, only_now_of};
 ghost use Rattle.disks.specs.Memory.{empty};
 ghost use Rattle.replay.specs.Steady.{steady_state};
 
@@ -47,12 +47,6 @@ impl SteadyDisk {
 
 impl Disk for SteadyDisk {
     ghost state = { steady_state };
-
-    ghost seen_is_left = { seen_is_left_of };
-
-    ghost counts_now = { counts_now_of };
-
-    ghost only_now = { only_now_of };
 
     fn len(&self) -> usize {
         self.disk.len()

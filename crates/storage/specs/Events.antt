@@ -1,17 +1,35 @@
--- What a history of writes and syncs says of what a crash may leave.
-use Rattle.std.specs.Prelude.{◌≡◌, ◌⊎◌, ◌==◌, Bool, IsTrue, ℕ, ◌≤◌, List, [], ◌∷◌, length, slice_index}
-use Rattle.storage.specs.Calls.{Torn}
+-- What a history of writes, syncs and openings says of what a crash may leave.
+use Rattle.std.specs.Prelude.{◌≡◌, ◌⊎◌, ◌==◌, ◌≤◌, ◌+◌, Bool, IsTrue, if◌then◌else◌, ℕ, zero, suc, max, List, [], ◌∷◌, length, take, drop, slice_index}
 
--- A write or a sync: whether it is a write, where, how long, and the bytes seen before it.
+-- A write, a sync or an opening: what it is, where, how long, and the bytes seen before it.
 pub record Event : Type 0 where
   pub is_write : Bool
+  pub is_opening : Bool
   pub at : ℕ
   pub len : ℕ
   pub seen : List ℕ
 
 -- the event that three numbers and the bytes before it stand for
 abbrev pub event_of : List ℕ → List ℕ → Event
-event_of numbers before = record { is_write = slice_index numbers 0 == 1; at = slice_index numbers 1; len = slice_index numbers 2; seen = before }
+event_of numbers before = record {
+  is_write = slice_index numbers 0 == 1;
+  is_opening = slice_index numbers 0 == 2;
+  at = slice_index numbers 1;
+  len = slice_index numbers 2;
+  seen = before;
+}
+
+-- how many of the events are openings
+abbrev pub openings : List Event → ℕ
+openings [] = zero
+openings (event ∷ past) = if event.is_opening then suc (openings past) else openings past
+
+-- After a write of n bytes that a crash cuts short: any bytes in the range and past the old end, the same elsewhere.
+pub record Torn (at n : ℕ) (old new : List ℕ) : Type 0 where
+  pub before : take at new ≡ take at old
+  pub after : drop (at + n) new ≡ drop (at + n) old
+  pub no_shorter : length old ≤ length new
+  pub no_longer : length new ≤ max (length old) (at + n)
 
 -- What a crash may leave after these events, the newest first, where a read gives `seen`: that, or since the last sync
 -- an image from before a write, with the written range torn.

@@ -1,7 +1,8 @@
 // A disk as a journal uses it.
 ghost use Rattle.std.specs.Prelude.{◌≡◌, ◌<◌, ◌≤◌, ◌+◌, ◌++◌, List, ℕ, length, take, drop, IfOk, OnOk};
-ghost use Rattle.storage.specs.State.{State, IsSettled};
-ghost use Rattle.storage.specs.Calls.{Holds, Tears, NoMoreLeft, Elapses, HasCause, Spends, SameBytes, read_count};
+ghost use Rattle.storage.specs.State.{State, IsSettled, may_leave};
+ghost use Rattle.storage.specs.Calls.{Holds, Tears, Elapses, HasCause, Spends, SameBytes, read_count};
+ghost use Rattle.storage.specs.Events.{openings};
 
 use bytetext::NoMemory;
 use thiserror::Error;
@@ -16,7 +17,7 @@ pub struct DiskFault;
 /// `read`, `write_at` and `sync` refuse with a fault of the disk alone, `reserve` for want of memory alone, and the
 /// other calls never.
 pub trait Disk: Drop {
-    /// What a read gives, what a crash may leave, and how often the disk has failed.
+    /// What a read gives, what happened to the disk, which says what a crash may leave, and how often it has failed.
     ghost state: { Self → State };
 
     /// How many bytes there are.
@@ -34,6 +35,7 @@ pub trait Disk: Drop {
     fn read(&mut self, at: usize, buf: &mut [u8]) -> Result<usize, DiskFault>
         ensures count { IfOk result (λ n. n ≡ read_count (state self.old).seen at (length buf.old)) }
         ensures bytes { IfOk result (λ n. buf.new ≡ take n (drop at (state self.old).seen) ++ drop n buf.old) }
+        ensures events { (state self.new).events ≡ (state self.old).events }
         ensures same { SameBytes (state self.old) (state self.new) }
         ensures room { Spends 0 (state self.old) (state self.new) }
         ensures cause { HasCause (state self.old) (state self.new) result };
@@ -45,6 +47,7 @@ pub trait Disk: Drop {
     fn reserve(&mut self, end: usize, calls: usize) -> Result<(), NoMemory>
         ensures calls { OnOk result (calls ≤ (state self.new).calls) }
         ensures end { OnOk result (end ≤ (state self.new).end) }
+        ensures events { (state self.new).events ≡ (state self.old).events }
         ensures same { SameBytes (state self.old) (state self.new) }
         ensures room { Spends 0 (state self.old) (state self.new) }
         ensures never_fails { (state self.new).failed ≡ (state self.old).failed };
@@ -76,17 +79,9 @@ pub trait Disk: Drop {
 
     /// Crashes the disk and starts it anew: it holds what the crash left, and nothing is pending.
     fn reopen(&mut self)
-        ensures left { (state self.old).may_leave (state self.new).seen }
+        ensures left { may_leave (state self.old) (state self.new).seen }
         ensures settled { IsSettled (state self.new) }
         ensures time { Elapses (state self.old) (state self.new) }
+        ensures opened { openings (state self.new).events ≡ openings (state self.old).events + 1 }
         ensures never_fails { (state self.new).failed ≡ (state self.old).failed };
-
-    /// What a read gives is one of the images that a crash may leave.
-    ghost seen_is_left: { (disk : Self) → (state disk).may_leave (state disk).seen };
-
-    /// This moment is one of those since an earlier one.
-    ghost counts_now: { (disk : Self) (t : ℕ) (image : List ℕ) → t ≤ (state disk).moment → (state disk).may_leave image → (state disk).left_since t image };
-
-    /// Since this moment there is no other.
-    ghost only_now: { (disk : Self) (image : List ℕ) → (state disk).left_since (state disk).moment image → (state disk).may_leave image };
 }

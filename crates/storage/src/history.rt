@@ -5,10 +5,10 @@ ghost use Rattle.storage.specs.Events.{Event, event_of};
 
 use std::marker::{Model, PhantomData};
 
-/// The writes and syncs of a disk, the newest first, each with the bytes that a read gave before it.
+/// The writes, syncs and openings of a disk, the newest first, each with the bytes that a read gave before it.
 ///
-/// Contracts see them; at run time there is nothing, so no memory is taken. A disk notes each write and sync in it,
-/// and what a crash may leave is then what the definitions say of the noted events.
+/// Contracts see them; at run time there is nothing, so no memory is taken. A disk notes each of them in it, and what a
+/// crash may leave is then what the definitions say of the noted events.
 #[derive(Drop)]
 pub struct History {
     marker: PhantomData<u8>,
@@ -29,8 +29,8 @@ impl History {
         }
     }
 
-    /// Notes an event: the numbers say whether it is a write (1) or a sync (0), where, and how many bytes; `_before`
-    /// is what a read gave before it.
+    /// Notes an event: the numbers say whether it is a write (1), a sync (0) or an opening (2), where, and how many
+    /// bytes; `_before` is what a read gave before it.
     pub fn note(&mut self, _numbers: &[u64], _before: &[u8])
         ensures { self.new.events ≡ event_of _numbers.now _before.now ∷ self.old.events }
     {}

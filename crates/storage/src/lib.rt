@@ -2,8 +2,9 @@
 //!
 //! A [`Disk`] is bytes that are read, written and synced. Between two syncs each range that was written, and the part
 //! past the old end, may hold any bytes after a crash; the rest stays. After a successful sync a crash leaves what a
-//! read gives. The model is our own; contracts speak of it through one ghost member, the disk's `state`, which also
-//! tells what a crash at any moment since an earlier one might have left.
+//! read gives. The model is our own; contracts speak of it through one ghost member, the disk's `state`: what a read
+//! gives, and the list of what happened to the disk. What a crash may leave now, and what one at any moment since an
+//! earlier one might have left, are definitions over that list (`specs/Events`, `specs/State`).
 //!
 //! A user makes room first, then writes and syncs without taking memory:
 //!
@@ -13,8 +14,8 @@
 //! disk.sync()?;
 //! ```
 //!
-//! [`History`] is for those who implement a disk: it holds nothing at run time, and contracts see in it each write and
-//! sync that was noted. What a crash may leave is then a definition over the noted events.
+//! [`History`] is for those who implement a disk: it holds nothing at run time, and contracts see in it each write,
+//! sync and opening that was noted, which is what the disk's `state` tells of it.
 #![tactic(auto)]
 
 mod disk;

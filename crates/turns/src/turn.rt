@@ -60,7 +60,7 @@ pub struct Told {
 /// no moment is refused in its report, as every refusal is, and the turn goes on.
 ///
 /// Out of memory, a front of these steps is made, and their reports are told; the step at which it ran out leaves the
-/// bot as it was, but for how often its disks have failed. The bytes may be taken in by `lines` then or not: connect
+/// bot as it was, but for what happened to its disks. The bytes may be taken in by `lines` then or not: connect
 /// anew, or end.
 pub fn take_turn<P: Promise, D: Disk, B: Run>(
     alloc: Global,

@@ -5,13 +5,14 @@ use Rattle.botcalls.specs.Dispatching.{told_from, told_of}
 use Rattle.botcalls.specs.Dispatched.{setting_of}
 use Rattle.botcalls.proofs.dispatch.call_procs.Given as goal
 
--- the occasions so far have been dispatched, and the rest are left
+-- the occasions so far have been dispatched, and the rest are left; the people are the scene's
 abbrev pub invariant-loop-occasion : goal.invariant-loop-occasion
 invariant-loop-occasion g l =
     let scene = l.fn.scene in
     let setting = setting_of g.P.Promise.code_of scene.store.now scene.userfile.now.users scene.binds.now.binds scene.exclusive in
     (done : List Telling) × IsMade g.P.Promise.code_of g.P.Promise.may l.made done
     × (done ++ told_from setting l.next l.rest ≡ told_of setting l.fn.occasions)
+    × (l.people ≡ scene.userfile.now.users)
 
 abbrev pub decreases-loop-occasion : goal.decreases-loop-occasion
 decreases-loop-occasion g l = length l.rest

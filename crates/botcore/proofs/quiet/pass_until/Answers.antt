@@ -1,6 +1,5 @@
 use Rattle.std.proofs.Common.{◌∙◌, Some, ap, sym, subst}
 use Rattle.bottimers.specs.Held.{Held}
-use Rattle.bottimers.specs.Seconds.{seconds_run}
 use Rattle.botcore.specs.Happenings.{passed_all}
 use Rattle.botcore.specs.Rising.{IsReached}
 use Rattle.botcore.proofs.RunningLemmas.{passed_run}

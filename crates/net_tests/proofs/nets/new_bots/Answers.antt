@@ -11,11 +11,11 @@ one_more (z ∷ xs) y zero x e = inl e
 one_more (z ∷ xs) y (suc i) x e = one_more xs y i x e
 
 -- one new bot more
-AllNew-more : (bots all : List Bot) (bot : Bot) → AllNew bots → bot ≡ new_bot bot.config bot.link.failures → all ≡ bots ++ bot ∷ [] → AllNew all
+AllNew-more : (bots all : List Bot) (bot : Bot) → AllNew bots → bot ≡ new_bot bot.config bot.link.device → all ≡ bots ++ bot ∷ [] → AllNew all
 AllNew-more bots all bot new made added = λ place b e.
     elim (one_more bots bot place b (ap (λ (l : List Bot). slice_get l place) (sym added) ∙ e)) [
       | inl h ↦ new place b h
-      | inr h ↦ subst (λ (x : Bot). x ≡ new_bot x.config x.link.failures) h made
+      | inr h ↦ subst (λ (x : Bot). x ≡ new_bot x.config x.link.device) h made
     ]
 
 pub loop-number-preserved : goal.loop-number-preserved

@@ -1,7 +1,7 @@
 use Rattle.protocol.specs.History.{start}
 use Rattle.processes.proofs.Running.{run_goes, first_stands, run_same_records, run_never_back, stands_once}
 use Rattle.processes.proofs.Calling.{run_same_calls}
-use Rattle.processes.proofs.Dying.{hub_dies, leaf_dies}
+use Rattle.processes.proofs.Dying.{step_dies}
 use Rattle.processes.proofs.laws.laws_of_processes.Goals as goal
 
 pub returns-clause-begins : goal.returns-clause-begins
@@ -29,8 +29,6 @@ returns-clause-same_calls g c =
     λ count w deeds is run i j one other s t a b. run_same_calls g.P.Promise.code_of g.P.Promise.may count w deeds is
     run i j one other s t a b
 
-pub returns-clause-hub_dies : goal.returns-clause-hub_dies
-returns-clause-hub_dies g c = hub_dies
-
-pub returns-clause-leaf_dies : goal.returns-clause-leaf_dies
-returns-clause-leaf_dies g c = leaf_dies
+pub returns-clause-died : goal.returns-clause-died
+returns-clause-died g c = λ names event was after report x y leaves takes crash.
+    step_dies g.P.Promise.code_of g.P.Promise.may names event was report after x y leaves takes crash

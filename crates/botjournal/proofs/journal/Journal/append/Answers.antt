@@ -16,9 +16,9 @@ returns-in_err-text-clause-any_moment g c going =
     let entry = c.args.entry.now in
     let after = option_map (added_text (entry_bytes entry)) (texts_of state j) in
     let rest = c.requires.sound going in
-    append_moments state g.met.D.Disk.seen_is_left g.met.D.Disk.counts_now j entry (entry_bytes entry) c.requires.good refl rest.some j
+    append_moments state j entry (entry_bytes entry) c.requires.good refl rest.some j
     (pair state j.swapped _ _ _ _ _ (either_comm (HoldsOne state j) (texts_of state j) after)
-    (nothing_happens state j rest.texts (g.met.D.Disk.only_now j.active) (g.met.D.Disk.only_now j.idle) after))
+    (nothing_happens state j rest.texts after))
 
 pub append_text-requires-clause-small : goal.append_text-requires-clause-small
 append_text-requires-clause-small g c =
@@ -26,17 +26,17 @@ append_text-requires-clause-small g c =
 
 pub returns-clause-sound : goal.returns-clause-sound
 returns-clause-sound g c =
-    append_sound g.D.Disk.state g.met.D.Disk.seen_is_left g.met.D.Disk.counts_now c.args.self.now c.append_text.new.self c.args.entry.now c.deref.result.now
+    append_sound g.D.Disk.state c.args.self.now c.append_text.new.self c.args.entry.now c.deref.result.now
     c.requires.good (c.deref.ensures.value ∙ c.in_ok-text.ensures) c.requires.sound c.append_text.ensures.any_moment c.append_text.ensures.sound
     c.append_text.result c.append_text.ensures.row
 
 pub returns-clause-row : goal.returns-clause-row
 returns-clause-row g c =
-    append_row g.D.Disk.state g.met.D.Disk.seen_is_left g.met.D.Disk.counts_now c.args.self.now c.append_text.new.self c.args.entry.now c.deref.result.now
+    append_row g.D.Disk.state c.args.self.now c.append_text.new.self c.args.entry.now c.deref.result.now
     c.requires.good (c.deref.ensures.value ∙ c.in_ok-text.ensures) c.requires.sound c.append_text.ensures.any_moment c.append_text.result
     c.append_text.ensures.row
 
 pub returns-clause-any_moment : goal.returns-clause-any_moment
 returns-clause-any_moment g c going =
-    append_moments g.D.Disk.state g.met.D.Disk.seen_is_left g.met.D.Disk.counts_now c.args.self.now c.args.entry.now c.deref.result.now c.requires.good
+    append_moments g.D.Disk.state c.args.self.now c.args.entry.now c.deref.result.now c.requires.good
     (c.deref.ensures.value ∙ c.in_ok-text.ensures) (c.requires.sound going).some c.append_text.new.self (c.append_text.ensures.any_moment going)

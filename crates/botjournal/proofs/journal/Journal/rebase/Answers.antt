@@ -16,9 +16,9 @@ returns-then-generations_spent-clause-any_moment g c going =
     let base = c.args.base.now in
     let after = option_map (rebased_text (base_bytes base)) (texts_of state j) in
     let rest = c.requires.sound going in
-    rebase_moments state g.met.D.Disk.seen_is_left g.met.D.Disk.counts_now j base (base_bytes base) c.requires.good refl rest.some j
+    rebase_moments state j base (base_bytes base) c.requires.good refl rest.some j
     (pair state j.swapped _ _ _ _ _ (either_comm (HoldsOne state j) (texts_of state j) after)
-    (nothing_happens state j rest.texts (g.met.D.Disk.only_now j.active) (g.met.D.Disk.only_now j.idle) after))
+    (nothing_happens state j rest.texts after))
 
 pub write_base-requires : goal.write_base-requires
 write_base-requires g c = shapes_are c.args.base.now c.requires.good
@@ -30,9 +30,9 @@ returns-in_err-text-clause-any_moment g c going =
     let base = c.args.base.now in
     let after = option_map (rebased_text (base_bytes base)) (texts_of state j) in
     let rest = c.requires.sound going in
-    rebase_moments state g.met.D.Disk.seen_is_left g.met.D.Disk.counts_now j base (base_bytes base) c.requires.good refl rest.some j
+    rebase_moments state j base (base_bytes base) c.requires.good refl rest.some j
     (pair state j.swapped _ _ _ _ _ (either_comm (HoldsOne state j) (texts_of state j) after)
-    (nothing_happens state j rest.texts (g.met.D.Disk.only_now j.active) (g.met.D.Disk.only_now j.idle) after))
+    (nothing_happens state j rest.texts after))
 
 pub rebase_text-requires-clause-small : goal.rebase_text-requires-clause-small
 rebase_text-requires-clause-small g c =
@@ -40,17 +40,17 @@ rebase_text-requires-clause-small g c =
 
 pub returns-clause-sound : goal.returns-clause-sound
 returns-clause-sound g c =
-    rebase_sound g.D.Disk.state g.met.D.Disk.seen_is_left g.met.D.Disk.counts_now c.args.self.now c.rebase_text.new.self c.args.base.now c.deref.result.now
+    rebase_sound g.D.Disk.state c.args.self.now c.rebase_text.new.self c.args.base.now c.deref.result.now
     c.requires.good (c.deref.ensures.value ∙ c.in_ok-text.ensures) c.requires.sound c.rebase_text.ensures.any_moment c.rebase_text.ensures.sound
     c.rebase_text.result c.rebase_text.ensures.row
 
 pub returns-clause-row : goal.returns-clause-row
 returns-clause-row g c =
-    rebase_row g.D.Disk.state g.met.D.Disk.seen_is_left g.met.D.Disk.counts_now c.args.self.now c.rebase_text.new.self c.args.base.now c.deref.result.now
+    rebase_row g.D.Disk.state c.args.self.now c.rebase_text.new.self c.args.base.now c.deref.result.now
     c.requires.good (c.deref.ensures.value ∙ c.in_ok-text.ensures) c.requires.sound c.rebase_text.ensures.any_moment c.rebase_text.result
     c.rebase_text.ensures.row
 
 pub returns-clause-any_moment : goal.returns-clause-any_moment
 returns-clause-any_moment g c going =
-    rebase_moments g.D.Disk.state g.met.D.Disk.seen_is_left g.met.D.Disk.counts_now c.args.self.now c.args.base.now c.deref.result.now c.requires.good
+    rebase_moments g.D.Disk.state c.args.self.now c.args.base.now c.deref.result.now c.requires.good
     (c.deref.ensures.value ∙ c.in_ok-text.ensures) (c.requires.sound going).some c.rebase_text.new.self (c.rebase_text.ensures.any_moment going)

@@ -1,4 +1,3 @@
-use Rattle.bytejournal.proofs.Lasting.{HasLaws}
 use Rattle.botjournal.specs.Stores.{account_of}
 use Rattle.botjournal.proofs.LedgerLaws.{stand_leaves}
 use Rattle.botjournal.proofs.ledger.Ledger.into_disks.Goals as goal
@@ -6,11 +5,9 @@ use Rattle.botjournal.proofs.ledger.Ledger.into_disks.Goals as goal
 pub returns : goal.returns
 returns g c =
     let state = g.D.Disk.state in
-    let d = g.met.D.Disk in
-    let laws : HasLaws state = record { seen_is_left = d.seen_is_left; counts_now = d.counts_now; only_now = d.only_now } in
     let inside = c.self.inside in
     rw (← c.self.view_is)
     (record {
-      left = stand_leaves state laws inside.down inside.store (account_of state inside.rested.value inside.doubt inside.down) c.into_disks.result
+      left = stand_leaves state inside.down inside.store (account_of state inside.rested.value inside.doubt inside.down) c.into_disks.result
           c.self.invariant c.into_disks.ensures;
     })

@@ -1,6 +1,6 @@
 use Rattle.std.proofs.Common.{Some, sym, ap, ◌∙◌}
 use Rattle.botjournal.specs.Ledger.{Account, settled}
-use Rattle.botjournal.proofs.LedgerLaws.{opened_shows}
+use Rattle.botjournal.proofs.LedgerLaws.{opened_shows, still_is}
 use Rattle.botjournal.proofs.ledger.Ledger.open.Goals as goal
 
 pub returns-else-not-opened-clause-row : goal.returns-else-not-opened-clause-row
@@ -11,3 +11,8 @@ returns-else-not-opened-clause-row g c =
       shows ∙ sym (ap (λ (a : Account). settled a.contents) shows),
       (sym (ap (λ (a : Account). a.contents.base) shows), sym (ap (λ (a : Account). a.contents.entries) shows)),
     )
+
+pub returns-else-not-opened-clause-still : goal.returns-else-not-opened-clause-still
+returns-else-not-opened-clause-still g c =
+    let opens = c.in-Ok.ensures.row in
+    still_is g.D.Disk.state c.args.first c.args.second _ _ _ c.at_rest.ensures.device opens.1 opens.2

@@ -1,10 +1,9 @@
 use Rattle.std.proofs.Common.{Err, sym, ap, subst, ◌∙◌}
-use Rattle.bytejournal.proofs.Lasting.{HasLaws}
 use Rattle.botjournal.specs.Contents.{rebased}
 use Rattle.botjournal.specs.Journal.{Rebases}
 use Rattle.botjournal.specs.Ledger.{Ledger}
-use Rattle.botjournal.specs.Stores.{account_of, failures_of}
-use Rattle.botjournal.proofs.LedgerLaws.{going_of, generation_is, fault_leaves, same_failures}
+use Rattle.botjournal.specs.Stores.{account_of, device_of}
+use Rattle.botjournal.proofs.LedgerLaws.{going_of, generation_is, fault_leaves, same_device, still_moments, writes_moments}
 use Rattle.botjournal.proofs.ledger.Ledger.rebase.Goals as goal
 
 pub returns-then-generations_spent : goal.returns-then-generations_spent
@@ -18,21 +17,21 @@ returns-then-generations_spent g c =
     record {
       row = (
         same ∙ c.generations_spent.ensures.0 c.if-generations_spent.true,
-        ap (λ s. (let l : Ledger = record { account = account; failures = failures_of state s } in l)) (sym c.in-Open.is) ∙ c.self.view_is,
+        ap (λ s. (let l : Ledger = record { account = account; device = device_of state s } in l)) (sym c.in-Open.is) ∙ c.self.view_is,
       );
+      any_moment = rw (← c.self.view_is, c.in-Open.is)
+          (still_moments state c.in-Open.journal account (rebased c.args.base.now account.contents) going);
     }
 
 pub invariant_of-self-in-Err-Refused : goal.invariant_of-self-in-Err-Refused
 invariant_of-self-in-Err-Refused g c x y left right =
     let state = g.D.Disk.state in
-    let d = g.met.D.Disk in
-    let laws : HasLaws state = record { seen_is_left = d.seen_is_left; counts_now = d.counts_now; only_now = d.only_now } in
     let inside = c.self.inside in
     let account = account_of state inside.rested.value inside.doubt inside.down in
     let going = going_of state inside.down inside.store account c.in-Open.journal c.self.invariant (ap (λ l. l.account.down) c.self.view_is ∙ c.requires.up)
     c.in-Open.is in
     rw c.of-in-Err-Refused.ensures
-    (fault_leaves state laws c.in-Open.journal c.rebase.new.self account (rebased c.args.base.now) going (c.rebase.ensures.any_moment going.going) x y left
+    (fault_leaves state c.in-Open.journal c.rebase.new.self account (rebased c.args.base.now) going (c.rebase.ensures.any_moment going.going) x y left
     right)
 
 pub returns-in-Err-NoMemory : goal.returns-in-Err-NoMemory
@@ -49,7 +48,29 @@ returns-in-Err-NoMemory g c =
     record {
       row = (
         λ last. row.1 (sym same ∙ last),
-        ap (λ f. (let l : Ledger = record { account = account; failures = f } in l)) (same_failures state journal new row.3)
-            ∙ ap (λ s. (let l : Ledger = record { account = account; failures = failures_of state s } in l)) (sym c.in-Open.is) ∙ c.self.view_is,
+        ap (λ f. (let l : Ledger = record { account = account; device = f } in l)) (same_device state journal new row.3)
+            ∙ ap (λ s. (let l : Ledger = record { account = account; device = device_of state s } in l)) (sym c.in-Open.is) ∙ c.self.view_is,
       );
+      any_moment = rw (← c.self.view_is, c.in-Open.is)
+          (writes_moments state journal new account (rebased c.args.base.now) going (c.rebase.ensures.any_moment going.going));
     }
+
+pub returns-in-Ok-clause-any_moment : goal.returns-in-Ok-clause-any_moment
+returns-in-Ok-clause-any_moment g c =
+    let state = g.D.Disk.state in
+    let inside = c.self.inside in
+    let account = account_of state inside.rested.value inside.doubt inside.down in
+    let going = going_of state inside.down inside.store account c.in-Open.journal c.self.invariant (ap (λ l. l.account.down) c.self.view_is ∙ c.requires.up)
+    c.in-Open.is in
+    rw (← c.self.view_is, c.in-Open.is)
+    (writes_moments state c.in-Open.journal c.rebase.new.self account (rebased c.args.base.now) going (c.rebase.ensures.any_moment going.going))
+
+pub returns-in-Err-Refused-clause-any_moment : goal.returns-in-Err-Refused-clause-any_moment
+returns-in-Err-Refused-clause-any_moment g c =
+    let state = g.D.Disk.state in
+    let inside = c.self.inside in
+    let account = account_of state inside.rested.value inside.doubt inside.down in
+    let going = going_of state inside.down inside.store account c.in-Open.journal c.self.invariant (ap (λ l. l.account.down) c.self.view_is ∙ c.requires.up)
+    c.in-Open.is in
+    rw (← c.self.view_is, c.in-Open.is)
+    (writes_moments state c.in-Open.journal c.rebase.new.self account (rebased c.args.base.now) going (c.rebase.ensures.any_moment going.going))

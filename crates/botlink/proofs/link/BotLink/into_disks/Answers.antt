@@ -1,7 +1,7 @@
 use Rattle.std.proofs.Common.{◌∙◌, ap, sym, subst}
 use Rattle.botlink.specs.Links.{BotEnd}
 use Rattle.botlink.specs.Ends.{bot_of, IsNumbered}
-use Rattle.botlink.specs.Opening.{AreOf}
+use Rattle.botlink.specs.Links.{AreOf}
 use Rattle.botlink.proofs.LeftLaws.{hub_left, leaf_left}
 use Rattle.botlink.proofs.link.BotLink.into_disks.Goals as goal
 

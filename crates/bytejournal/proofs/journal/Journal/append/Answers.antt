@@ -13,14 +13,14 @@ returns-in_err-text-clause-any_moment g c going =
     let j = c.args.self.now in
     let after = option_map (added c.args.entry.now) (contents_of g.D.Disk.state j) in
     pair g.D.Disk.state j.swapped _ _ _ _ _ (either_comm (HoldsOne g.D.Disk.state j) (contents_of g.D.Disk.state j) after)
-    (nothing_happens g.D.Disk.state j (c.requires.sound going) (g.met.D.Disk.only_now j.active) (g.met.D.Disk.only_now j.idle) after)
+    (nothing_happens g.D.Disk.state j (c.requires.sound going) after)
 
 pub returns-in-Ok-clause-any_moment : goal.returns-in-Ok-clause-any_moment
 returns-in-Ok-clause-any_moment g c going =
     let j = c.args.self.now in
     let after = option_map (added c.args.entry.now) (contents_of g.D.Disk.state j) in
     pair g.D.Disk.state j.swapped _ _ _ _ _ (either_comm (HoldsOne g.D.Disk.state j) (contents_of g.D.Disk.state j) after)
-    (append_moments g.D.Disk.state j (c.requires.sound going) c.args.entry.now c.requires.small c.put_after_gate.new.disk (g.met.D.Disk.only_now j.idle)
+    (append_moments g.D.Disk.state j (c.requires.sound going) c.args.entry.now c.requires.small c.put_after_gate.new.disk
     (subst (λ (t : List ℕ). LeavesOnly (g.D.Disk.state j.active) (g.D.Disk.state c.put_after_gate.new.disk)
     (IsHalfWritten (g.D.Disk.state j.active).seen j.gate t)) (c.deref.ensures.value ∙ c.in_ok-text.ensures) c.put_after_gate.ensures.any_moment))
 
@@ -29,7 +29,7 @@ returns-in-Err-NoMemory-clause-any_moment g c going =
     let j = c.args.self.now in
     let after = option_map (added c.args.entry.now) (contents_of g.D.Disk.state j) in
     pair g.D.Disk.state j.swapped _ _ _ _ _ (either_comm (HoldsOne g.D.Disk.state j) (contents_of g.D.Disk.state j) after)
-    (append_moments g.D.Disk.state j (c.requires.sound going) c.args.entry.now c.requires.small c.put_after_gate.new.disk (g.met.D.Disk.only_now j.idle)
+    (append_moments g.D.Disk.state j (c.requires.sound going) c.args.entry.now c.requires.small c.put_after_gate.new.disk
     (subst (λ (t : List ℕ). LeavesOnly (g.D.Disk.state j.active) (g.D.Disk.state c.put_after_gate.new.disk)
     (IsHalfWritten (g.D.Disk.state j.active).seen j.gate t)) (c.deref.ensures.value ∙ c.in_ok-text.ensures) c.put_after_gate.ensures.any_moment))
 
@@ -38,7 +38,7 @@ returns-clause-any_moment g c going =
     let j = c.args.self.now in
     let after = option_map (added c.args.entry.now) (contents_of g.D.Disk.state j) in
     pair g.D.Disk.state j.swapped _ _ _ _ _ (either_comm (HoldsOne g.D.Disk.state j) (contents_of g.D.Disk.state j) after)
-    (append_moments g.D.Disk.state j (c.requires.sound going) c.args.entry.now c.requires.small c.put_after_gate.new.disk (g.met.D.Disk.only_now j.idle)
+    (append_moments g.D.Disk.state j (c.requires.sound going) c.args.entry.now c.requires.small c.put_after_gate.new.disk
     (subst (λ (t : List ℕ). LeavesOnly (g.D.Disk.state j.active) (g.D.Disk.state c.put_after_gate.new.disk)
     (IsHalfWritten (g.D.Disk.state j.active).seen j.gate t)) (c.deref.ensures.value ∙ c.in_ok-text.ensures) c.put_after_gate.ensures.any_moment))
 

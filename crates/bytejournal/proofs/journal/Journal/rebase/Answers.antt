@@ -14,14 +14,14 @@ returns-then-generations_spent-clause-any_moment g c going =
     let j = c.args.self.now in
     let after = option_map (rebased c.args.base.now) (contents_of g.D.Disk.state j) in
     pair g.D.Disk.state j.swapped _ _ _ _ _ (either_comm (HoldsOne g.D.Disk.state j) (contents_of g.D.Disk.state j) after)
-    (nothing_happens g.D.Disk.state j (c.requires.sound going) (g.met.D.Disk.only_now j.active) (g.met.D.Disk.only_now j.idle) after)
+    (nothing_happens g.D.Disk.state j (c.requires.sound going) after)
 
 pub returns-in_err-text-clause-any_moment : goal.returns-in_err-text-clause-any_moment
 returns-in_err-text-clause-any_moment g c going =
     let j = c.args.self.now in
     let after = option_map (rebased c.args.base.now) (contents_of g.D.Disk.state j) in
     pair g.D.Disk.state j.swapped _ _ _ _ _ (either_comm (HoldsOne g.D.Disk.state j) (contents_of g.D.Disk.state j) after)
-    (nothing_happens g.D.Disk.state j (c.requires.sound going) (g.met.D.Disk.only_now j.active) (g.met.D.Disk.only_now j.idle) after)
+    (nothing_happens g.D.Disk.state j (c.requires.sound going) after)
 
 pub returns-in-Err-NoMemory-clause-any_moment : goal.returns-in-Err-NoMemory-clause-any_moment
 returns-in-Err-NoMemory-clause-any_moment g c going =
@@ -30,7 +30,7 @@ returns-in-Err-NoMemory-clause-any_moment g c going =
     let left : j.generation + 1 < 2 ^ 32 = search rules in
     let after = option_map (rebased c.args.base.now) (contents_of state j) in
     pair g.D.Disk.state j.swapped _ _ _ _ _ (either_comm (HoldsOne g.D.Disk.state j) (contents_of g.D.Disk.state j) after)
-    (rebase_moments g.D.Disk.state j (c.requires.sound going) c.args.base.now c.requires.small left c.replace.new.disk (g.met.D.Disk.only_now j.active)
+    (rebase_moments g.D.Disk.state j (c.requires.sound going) c.args.base.now c.requires.small left c.replace.new.disk
     (subst (λ (t : List ℕ). LeavesOnly (g.D.Disk.state j.idle) (g.D.Disk.state c.replace.new.disk)
     (IsHalfReplaced j.idle_open (g.D.Disk.state j.idle).seen t)) (c.deref.ensures.value ∙ c.in_ok-text.ensures) c.replace.ensures.any_moment))
 
@@ -41,7 +41,7 @@ returns-clause-any_moment g c going =
     let left : j.generation + 1 < 2 ^ 32 = search rules in
     let after = option_map (rebased c.args.base.now) (contents_of state j) in
     pair g.D.Disk.state j.swapped _ _ _ _ _ (either_comm (HoldsOne g.D.Disk.state j) (contents_of g.D.Disk.state j) after)
-    (rebase_moments g.D.Disk.state j (c.requires.sound going) c.args.base.now c.requires.small left c.replace.new.disk (g.met.D.Disk.only_now j.active)
+    (rebase_moments g.D.Disk.state j (c.requires.sound going) c.args.base.now c.requires.small left c.replace.new.disk
     (subst (λ (t : List ℕ). LeavesOnly (g.D.Disk.state j.idle) (g.D.Disk.state c.replace.new.disk)
     (IsHalfReplaced j.idle_open (g.D.Disk.state j.idle).seen t)) (c.deref.ensures.value ∙ c.in_ok-text.ensures) c.replace.ensures.any_moment))
 
@@ -52,13 +52,12 @@ returns-in-Ok-clause-any_moment g c going =
     let left : j.generation + 1 < 2 ^ 32 = search rules in
     let after = option_map (rebased c.args.base.now) (contents_of g.D.Disk.state j) in
     let moments = rebase_moments g.D.Disk.state j (c.requires.sound going) c.args.base.now c.requires.small left c.replace.new.disk
-    (g.met.D.Disk.only_now j.active)
     (subst (λ (t : List ℕ). LeavesOnly (g.D.Disk.state j.idle) (g.D.Disk.state c.replace.new.disk)
     (IsHalfReplaced j.idle_open (g.D.Disk.state j.idle).seen t)) (c.deref.ensures.value ∙ c.in_ok-text.ensures) c.replace.ensures.any_moment) in
     pair_swapped g.D.Disk.state j.swapped j.active j.idle c.swap.new.y c.swap.new.x (IsEither (HoldsOne g.D.Disk.state j) (contents_of g.D.Disk.state j) after)
     (either_comm (HoldsOne g.D.Disk.state j) (contents_of g.D.Disk.state j) after)
-    (subst (λ y. EachMoment g.D.Disk.state j.active j.idle y c.swap.new.x (IsEither (HoldsOne g.D.Disk.state j) (contents_of g.D.Disk.state j) after)) (sym c.swap.ensures.y_after)
-    (subst (λ x. EachMoment g.D.Disk.state j.active j.idle j.active x (IsEither (HoldsOne g.D.Disk.state j) (contents_of g.D.Disk.state j) after)) (sym c.swap.ensures.x_after) moments))
+    (subst (λ y. EachMoment (g.D.Disk.state j.active) (g.D.Disk.state j.idle) (g.D.Disk.state y) (g.D.Disk.state c.swap.new.x) (IsEither (HoldsOne g.D.Disk.state j) (contents_of g.D.Disk.state j) after)) (sym c.swap.ensures.y_after)
+    (subst (λ x. EachMoment (g.D.Disk.state j.active) (g.D.Disk.state j.idle) (g.D.Disk.state j.active) (g.D.Disk.state x) (IsEither (HoldsOne g.D.Disk.state j) (contents_of g.D.Disk.state j) after)) (sym c.swap.ensures.x_after) moments))
 
 pub returns-in-Ok-clause-row : goal.returns-in-Ok-clause-row
 returns-in-Ok-clause-row g c =

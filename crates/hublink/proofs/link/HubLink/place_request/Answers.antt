@@ -4,7 +4,7 @@ use Rattle.userfile.specs.Apply.{refusal}
 use Rattle.protocol.specs.Numbers.{item_at, place_of}
 use Rattle.protocol.specs.HubRules.{HubState, last_request, request_placed}
 use Rattle.linkcalls.specs.Calls.{outgoings_of}
-use Rattle.linkstate.specs.Ends.{Calls}
+use Rattle.hublink.specs.Link.{Calls}
 use Rattle.hublink.specs.Link.{HubEnd, hub_end}
 use Rattle.hublink.proofs.Sending.{goes-repeated}
 use Rattle.hublink.proofs.PacketLaws.{placed-next, placed-accepts}

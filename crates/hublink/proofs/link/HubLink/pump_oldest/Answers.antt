@@ -2,7 +2,7 @@ use Rattle.std.proofs.Common.{◌≡◌, ◌∷◌, ◌∙◌, Ok, Err, drop, re
 use Rattle.userfile.specs.Records.{Records}
 use Rattle.userfile.specs.Apply.{refusal}
 use Rattle.protocol.specs.HubRules.{HubState, hub_pumped_up}
-use Rattle.linkstate.specs.Ends.{Calls}
+use Rattle.hublink.specs.Link.{Calls}
 use Rattle.hublink.specs.Link.{HubEnd, hub_end}
 use Rattle.hublink.proofs.PacketLaws.{first-of, pumped-kept, pumped-unkept}
 use Rattle.hublink.proofs.link.HubLink.pump_oldest.Goals as goal

@@ -6,9 +6,10 @@ use Rattle.linkcalls.specs.Calls.{note_of}
 use Rattle.linkcalls.specs.declared.answer.Answer.{Answer}
 use Rattle.protocol.specs.Numbers.{last_number}
 use Rattle.protocol.specs.Snapshots.{records_from, joined, set_for, with_part}
+use Rattle.protocol.specs.Journals.{leaf_meaning}
 use Rattle.protocol.specs.LeafRules.{LeafState, LeafRecord, LeafLoose, Install, leaf_folded}
-use Rattle.linkstate.specs.Kept.{Journals}
-use Rattle.linkstate.specs.Ends.{Calls}
+use Rattle.linkstate.specs.Kept.{Journals, LeavesOwn}
+use Rattle.leaflink.specs.Link.{Calls}
 use Rattle.leaflink.specs.Parts.{left}
 use Rattle.leaflink.specs.Link.{LeafEnd, leaf_end, part_taken_at}
 use Rattle.leaflink.proofs.InstallLaws.{installs, installs-none}
@@ -36,7 +37,9 @@ returns-in-Ok-clause-row g c =
     (subst (λ (l : List Record). joined (with_part (set_for inside.parts a.version a.count) a.part l).parts ≡ Some all) c.as_slice.ensures
     c.in-Some.ensures.whole)
     (sym c.stand_together.ensures ∙ c.if-not-stand_together.false) numbered c.only-in-Ok.result
-    (subst (λ (r : LeafRecord). Journals leaf_folded r inside.kept (Ok tt) c.journal.new.self) entry c.in-Ok.ensures)
+    (subst (λ (r : LeafRecord). LeavesOwn (leaf_meaning inside.kept.who) leaf_folded inside.kept.state (Some r) inside.kept.device
+    c.journal.new.self.device) entry c.journal.ensures.any_moment)
+    (subst (λ (r : LeafRecord). Journals leaf_folded r inside.kept (Ok tt) c.journal.new.self) entry c.in-Ok.ensures.row)
     (ap (λ (answer : Answer). note_of answer.note) c.only-in-Ok.ensures) (ap (λ (answer : Answer). answer.packets) c.only-in-Ok.ensures))
 
 pub returns-in-Err-clause-row : goal.returns-in-Err-clause-row
@@ -57,4 +60,6 @@ returns-in-Err-clause-row g c =
     (subst (λ (l : List Record). joined (with_part (set_for inside.parts a.version a.count) a.part l).parts ≡ Some all) c.as_slice.ensures
     c.in-Some.ensures.whole)
     (sym c.stand_together.ensures ∙ c.if-not-stand_together.false) numbered c.in-Err.error
-    (subst (λ (r : LeafRecord). Journals leaf_folded r inside.kept (Err c.in-Err.error) c.journal.new.self) entry c.in-Err.ensures))
+    (subst (λ (r : LeafRecord). LeavesOwn (leaf_meaning inside.kept.who) leaf_folded inside.kept.state (Some r) inside.kept.device
+    c.journal.new.self.device) entry c.journal.ensures.any_moment)
+    (subst (λ (r : LeafRecord). Journals leaf_folded r inside.kept (Err c.in-Err.error) c.journal.new.self) entry c.in-Err.ensures.row))
