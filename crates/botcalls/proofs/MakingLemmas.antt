@@ -2,11 +2,11 @@
 use Rattle.std.proofs.Common.{◌≡◌, ℕ, List, [], ◌∷◌, ◌++◌, map, Bool, true, false, cond, refl, ap, sym, subst, ◌∙◌, append_assoc, drop, slice_get}
 use Rattle.std.proofs.lemmas.List.{append-nil, map-append}
 use Rattle.std.proofs.lemmas.List.Elements.{filter_map-append}
-use Rattle.procstore.specs.declared.action.Action.{Action}
+use Rattle.procstore.specs.Seen.{Seen}
 use Rattle.procstore.specs.declared.call.Call.{Call}
 use Rattle.procstore.specs.declared.reply.Code.{Code}
 use Rattle.procstore.specs.declared.reply.Reply.{Reply}
-use Rattle.procstore.specs.Promises.{IsKept}
+use Rattle.procstore.specs.Promises.{Promised, IsKept, code_at}
 use Rattle.std.specs.Prelude.{None, Some, Err}
 use Rattle.bytetext.specs.declared.failure.Failure.{Failure}
 use Rattle.bytetext.specs.declared.failure.Failure.TheVariants.{Refused}
@@ -20,98 +20,98 @@ use Rattle.botcalls.specs.Calls.{Entry, Telling, told_proc, told_all, called_in,
 use Rattle.botcalls.specs.Calls.Telling.{Called, Missing}
 use Rattle.botcalls.specs.Made.{Made, entry_of, AllKept, IsMade, IsFrontMade, Adds, AddsFront}
 
-module _ (code_of : List ℕ → Call → Code) (may : List ℕ → Call → List Action → Type 0) where
-  pub AllKept-append : (xs : List MadeCall) (m : MadeCall) → AllKept code_of may xs → IsKept code_of may m.proc m.call m.reply
-      → AllKept code_of may (xs ++ m ∷ [])
+module _ (promised : Promised) (seen : Seen) where
+  pub AllKept-append : (xs : List MadeCall) (m : MadeCall) → AllKept promised seen xs → IsKept promised m.proc m.call seen m.reply
+      → AllKept promised seen (xs ++ m ∷ [])
   AllKept-append [] m all kept = (kept, tt)
   AllKept-append (x ∷ xs) m all kept = (all.0, AllKept-append xs m all.1 kept)
 
   -- ---- one more
 
   -- a call more
-  IsMade-called : (old new : Made) (before : List Telling) (m : MadeCall) → IsMade code_of may old before
-      → new.calls ≡ old.calls ++ m ∷ [] → new.unbound ≡ old.unbound → IsKept code_of may m.proc m.call m.reply
-      → IsMade code_of may new (before ++ Called (entry_of m) ∷ [])
+  IsMade-called : (old new : Made) (before : List Telling) (m : MadeCall) → IsMade promised seen old before
+      → new.calls ≡ old.calls ++ m ∷ [] → new.unbound ≡ old.unbound → IsKept promised m.proc m.call seen m.reply
+      → IsMade promised seen new (before ++ Called (entry_of m) ∷ [])
   IsMade-called old new before m made calls unbound kept = record {
     calls = ap (map entry_of) calls ∙ map-append entry_of old.calls (m ∷ []) ∙ ap (λ es. es ++ entry_of m ∷ []) made.calls
         ∙ sym (filter_map-append called_in before (Called (entry_of m) ∷ []));
     unbound = unbound ∙ made.unbound ∙ sym (filter_map-append missing_in before (Called (entry_of m) ∷ []) ∙ append-nil (unbound_in before));
-    kept = subst (AllKept code_of may) (sym calls) (AllKept-append old.calls m made.kept kept);
+    kept = subst (AllKept promised seen) (sym calls) (AllKept-append old.calls m made.kept kept);
   }
 
   -- a bind more that is left out
-  IsMade-missing : (old new : Made) (before : List Telling) (u : Unbound) → IsMade code_of may old before
+  IsMade-missing : (old new : Made) (before : List Telling) (u : Unbound) → IsMade promised seen old before
       → new.calls ≡ old.calls → new.unbound ≡ old.unbound ++ u ∷ []
-      → IsMade code_of may new (before ++ Missing u ∷ [])
+      → IsMade promised seen new (before ++ Missing u ∷ [])
   IsMade-missing old new before u made calls unbound = record {
     calls = ap (map entry_of) calls ∙ made.calls ∙ sym (filter_map-append called_in before (Missing u ∷ []) ∙ append-nil (calls_in before));
     unbound = unbound ∙ ap (λ us. us ++ u ∷ []) made.unbound ∙ sym (filter_map-append missing_in before (Missing u ∷ []));
-    kept = subst (AllKept code_of may) (sym calls) made.kept;
+    kept = subst (AllKept promised seen) (sym calls) made.kept;
   }
 
   -- a call whose proc is held, and whose reply keeps the promise
   pub Adds-called : (names : List (List ℕ)) (call : Call) (number : ℕ) (name : List ℕ) (old new : Made) (proc : List ℕ) (given : Call) (reply : Reply)
       → new.calls ≡ old.calls ++ record { bind = number; proc = proc; call = given; reply = reply } ∷ [] → new.unbound ≡ old.unbound
-      → proc ≡ name → given ≡ call → (holds names name ≡ true) × IsKept code_of may name call reply
-      → Adds code_of may old (told_proc code_of names call number name ∷ []) new
+      → proc ≡ name → given ≡ call → (holds names name ≡ true) × IsKept promised name call seen reply
+      → Adds promised seen old (told_proc (code_at promised seen.sight) names call number name ∷ []) new
   Adds-called names call number name old new proc given reply calls unbound same_name same answer =
       λ before made.
       let m : MadeCall = record { bind = number; proc = name; call = call; reply = reply } in
       let here : new.calls ≡ old.calls ++ m ∷ []
       = subst (λ (p : List ℕ). new.calls ≡ old.calls ++ record { bind = number; proc = p; call = call; reply = reply } ∷ []) same_name
       (subst (λ (c : Call). new.calls ≡ old.calls ++ record { bind = number; proc = proc; call = c; reply = reply } ∷ []) same calls) in
-      let promised : Entry = record { bind = number; proc = name; call = call; code = code_of name call } in
-      let entry : entry_of m ≡ promised = ap (λ (c : Code). record { bind = number; proc = name; call = call; code = c }) answer.1.code in
-      let told : told_proc code_of names call number name ≡ Called (entry_of m)
-      = ap (λ (h : Bool). cond h (Called promised) (Missing (record { bind = number; proc = name }))) answer.0
+      let due : Entry = record { bind = number; proc = name; call = call; code = promised.code_of name call seen.sight } in
+      let entry : entry_of m ≡ due = ap (λ (c : Code). record { bind = number; proc = name; call = call; code = c }) answer.1.code in
+      let told : told_proc (code_at promised seen.sight) names call number name ≡ Called (entry_of m)
+      = ap (λ (h : Bool). cond h (Called due) (Missing (record { bind = number; proc = name }))) answer.0
       ∙ ap Called (sym entry) in
-      subst (λ (t : Telling). IsMade code_of may new (before ++ t ∷ [])) (sym told) (IsMade-called old new before m made here unbound answer.1)
+      subst (λ (t : Telling). IsMade promised seen new (before ++ t ∷ [])) (sym told) (IsMade-called old new before m made here unbound answer.1)
 
   -- one whose proc is not held
   pub Adds-missing : (names : List (List ℕ)) (call : Call) (number : ℕ) (name : List ℕ) (old new : Made) (proc : List ℕ)
       → new.calls ≡ old.calls → new.unbound ≡ old.unbound ++ record { bind = number; proc = proc } ∷ []
       → proc ≡ name → holds names name ≡ false
-      → Adds code_of may old (told_proc code_of names call number name ∷ []) new
+      → Adds promised seen old (told_proc (code_at promised seen.sight) names call number name ∷ []) new
   Adds-missing names call number name old new proc calls unbound same_name absent =
       λ before made.
       let u : Unbound = record { bind = number; proc = name } in
       let here : new.unbound ≡ old.unbound ++ u ∷ []
       = subst (λ (p : List ℕ). new.unbound ≡ old.unbound ++ record { bind = number; proc = p } ∷ []) same_name unbound in
-      let promised : Entry = record { bind = number; proc = name; call = call; code = code_of name call } in
-      let told : told_proc code_of names call number name ≡ Missing u = ap (λ (h : Bool). cond h (Called promised) (Missing u)) absent in
-      subst (λ (t : Telling). IsMade code_of may new (before ++ t ∷ [])) (sym told) (IsMade-missing old new before u made calls here)
+      let due : Entry = record { bind = number; proc = name; call = call; code = promised.code_of name call seen.sight } in
+      let told : told_proc (code_at promised seen.sight) names call number name ≡ Missing u = ap (λ (h : Bool). cond h (Called due) (Missing u)) absent in
+      subst (λ (t : Telling). IsMade promised seen new (before ++ t ∷ [])) (sym told) (IsMade-missing old new before u made calls here)
 
   -- ---- one after another
 
   -- nothing was made
-  pub Adds-none : (made : Made) → Adds code_of may made [] made
-  Adds-none made = λ before is. subst (IsMade code_of may made) (sym (append-nil before)) is
+  pub Adds-none : (made : Made) → Adds promised seen made [] made
+  Adds-none made = λ before is. subst (IsMade promised seen made) (sym (append-nil before)) is
 
-  pub Adds-append : (old mid new : Made) (xs ys : List Telling) → Adds code_of may old xs mid → Adds code_of may mid ys new
-      → Adds code_of may old (xs ++ ys) new
+  pub Adds-append : (old mid new : Made) (xs ys : List Telling) → Adds promised seen old xs mid → Adds promised seen mid ys new
+      → Adds promised seen old (xs ++ ys) new
   Adds-append old mid new xs ys first then_more =
-      λ before made. subst (IsMade code_of may new) (append_assoc before xs ys) (then_more (before ++ xs) (first before made))
+      λ before made. subst (IsMade promised seen new) (append_assoc before xs ys) (then_more (before ++ xs) (first before made))
 
   -- what stops early has made the first of all
-  pub AddsFront-Adds : (old new : Made) (xs ys : List Telling) → Adds code_of may old xs new → AddsFront code_of may old (xs ++ ys) new
+  pub AddsFront-Adds : (old new : Made) (xs ys : List Telling) → Adds promised seen old xs new → AddsFront promised seen old (xs ++ ys) new
   AddsFront-Adds old new xs ys adds = λ before made. (before ++ xs, ys, sym (append_assoc before xs ys), adds before made)
 
   -- what stops at once has made nothing of it
-  pub front_none : (old : Made) (part : List Telling) → AddsFront code_of may old part old
+  pub front_none : (old : Made) (part : List Telling) → AddsFront promised seen old part old
   front_none old part = AddsFront-Adds old old [] part (Adds-none old)
 
   -- whatever is missing is not held
-  pub absent : (may_lack : List ℕ → Call → Type 0) (names : List (List ℕ)) (name : List ℕ) (call : Call) (e : Failure CallFault) (fault : CallFault)
-      → e ≡ Refused fault → IsCalled code_of may may_lack names name call (Err e) → holds names name ≡ false
-  absent may_lack names name call e fault is called =
-      by fault (subst (λ (e : Failure CallFault). IsCalled code_of may may_lack names name call (Err e)) is called)
+  pub absent : (names : List (List ℕ)) (name : List ℕ) (call : Call) (e : Failure CallFault) (fault : CallFault)
+      → e ≡ Refused fault → IsCalled promised names name call seen (Err e) → holds names name ≡ false
+  absent names name call e fault is called =
+      by fault (subst (λ (e : Failure CallFault). IsCalled promised names name call seen (Err e)) is called)
     where
-      by : (fault : CallFault) → IsCalled code_of may may_lack names name call (Err (Refused fault)) → holds names name ≡ false
+      by : (fault : CallFault) → IsCalled promised names name call seen (Err (Refused fault)) → holds names name ≡ false
       by NoSuchProc absent = absent
 
   -- the first of some binds
   pub told_all-first : (names : List (List ℕ)) (call : Call) (binds rest : List Bind) (b : Bind) → Some b ≡ slice_get binds 0 → rest ≡ drop 1 binds
-      → told_all code_of names call binds ≡ told_all code_of names call (b ∷ []) ++ told_all code_of names call rest
+      → told_all (code_at promised seen.sight) names call binds ≡ told_all (code_at promised seen.sight) names call (b ∷ []) ++ told_all (code_at promised seen.sight) names call rest
   told_all-first names call [] rest b first next = cc
   told_all-first names call (x ∷ xs) rest b first next =
       let here : b ≡ x = cc in
@@ -121,31 +121,31 @@ module _ (code_of : List ℕ → Call → Code) (may : List ℕ → Call → Lis
   -- one more of the binds is called
   pub goes_on : (names : List (List ℕ)) (call : Call) (binds rest : List Bind) (b : Bind) (old mid new : Made) (done all : List Telling)
       → Some b ≡ slice_get binds 0 → rest ≡ drop 1 binds
-      → Adds code_of may old done mid → done ++ told_all code_of names call binds ≡ all
-      → Adds code_of may mid (told_all code_of names call (b ∷ [])) new
-      → (so_far : List Telling) × Adds code_of may old so_far new × (so_far ++ told_all code_of names call rest ≡ all)
+      → Adds promised seen old done mid → done ++ told_all (code_at promised seen.sight) names call binds ≡ all
+      → Adds promised seen mid (told_all (code_at promised seen.sight) names call (b ∷ [])) new
+      → (so_far : List Telling) × Adds promised seen old so_far new × (so_far ++ told_all (code_at promised seen.sight) names call rest ≡ all)
   goes_on names call binds rest b old mid new done all first next before whole more = (
-    done ++ told_all code_of names call (b ∷ []),
-    Adds-append old mid new done (told_all code_of names call (b ∷ [])) before more,
-    append_assoc done (told_all code_of names call (b ∷ [])) (told_all code_of names call rest)
+    done ++ told_all (code_at promised seen.sight) names call (b ∷ []),
+    Adds-append old mid new done (told_all (code_at promised seen.sight) names call (b ∷ [])) before more,
+    append_assoc done (told_all (code_at promised seen.sight) names call (b ∷ [])) (told_all (code_at promised seen.sight) names call rest)
         ∙ ap (λ (ts : List Telling). done ++ ts) (sym (told_all-first names call binds rest b first next)) ∙ whole,
   )
 
   -- no bind is left
   pub all_done : (names : List (List ℕ)) (call : Call) (binds : List Bind) (old new : Made) (done all : List Telling)
-      → None ≡ slice_get binds 0 → Adds code_of may old done new → done ++ told_all code_of names call binds ≡ all → Adds code_of may old all new
-  all_done names call [] old new done all none adds whole = subst (λ (ts : List Telling). Adds code_of may old ts new) (sym (append-nil done) ∙ whole) adds
+      → None ≡ slice_get binds 0 → Adds promised seen old done new → done ++ told_all (code_at promised seen.sight) names call binds ≡ all → Adds promised seen old all new
+  all_done names call [] old new done all none adds whole = subst (λ (ts : List Telling). Adds promised seen old ts new) (sym (append-nil done) ∙ whole) adds
   all_done names call (x ∷ xs) old new done all none adds whole = cc
 
   -- memory ran out at one of them
-  pub stopped : (old mid new : Made) (done rest all : List Telling) → new ≡ mid → Adds code_of may old done mid → done ++ rest ≡ all
-      → AddsFront code_of may old all new
+  pub stopped : (old mid new : Made) (done rest all : List Telling) → new ≡ mid → Adds promised seen old done mid → done ++ rest ≡ all
+      → AddsFront promised seen old all new
   stopped old mid new done rest all same adds whole =
-      subst (λ (ts : List Telling). AddsFront code_of may old ts new) whole
-      (AddsFront-Adds old new done rest (subst (λ (m : Made). Adds code_of may old done m) (sym same) adds))
+      subst (λ (ts : List Telling). AddsFront promised seen old ts new) whole
+      (AddsFront-Adds old new done rest (subst (λ (m : Made). Adds promised seen old done m) (sym same) adds))
 
   -- what follows stops early
-  pub AddsFront-after : (old mid new : Made) (xs ys : List Telling) → Adds code_of may old xs mid → AddsFront code_of may mid ys new
-      → AddsFront code_of may old (xs ++ ys) new
+  pub AddsFront-after : (old mid new : Made) (xs ys : List Telling) → Adds promised seen old xs mid → AddsFront promised seen mid ys new
+      → AddsFront promised seen old (xs ++ ys) new
   AddsFront-after old mid new xs ys first front =
-      λ before made. subst (IsFrontMade code_of may new) (append_assoc before xs ys) (front (before ++ xs) (first before made))
+      λ before made. subst (IsFrontMade promised seen new) (append_assoc before xs ys) (front (before ++ xs) (first before made))

@@ -2,9 +2,8 @@
 use Rattle.std.proofs.Common.{◌≡◌, ◌∙◌, ℕ, List, [], ◌∷◌, ◌++◌, Bool, ◌||◌, ◌&&◌, not, map, length, drop, refl, ap, sym, append_assoc}
 use Rattle.std.proofs.Math.Seq.{drop-append_seam}
 use Rattle.std.proofs.lemmas.List.Elements.{filter_map-append}
-use Rattle.procstore.specs.declared.action.Action.{Action}
-use Rattle.procstore.specs.declared.call.Call.{Call}
-use Rattle.procstore.specs.declared.reply.Code.{Code}
+use Rattle.procstore.specs.Promises.{Promised}
+use Rattle.procstore.specs.Seen.{Seen}
 use Rattle.botcalls.specs.Calls.{Telling, called_in, calls_in}
 use Rattle.std.specs.List.{list_any}
 use Rattle.std.proofs.lemmas.List.{length-map, drop-map}
@@ -36,21 +35,21 @@ has_raw_one_entries [] = refl
 has_raw_one_entries (m ∷ ms) = ap (λ b. (is_raw m.call.kind && is_one m.reply.code) || b) (has_raw_one_entries ms)
 
 -- the calls that came with a part of what was made
-pub calls_since-part : (code_of : List ℕ → Call → Code) (may : List ℕ → Call → List Action → Type 0) (old new : Made) (before part : List Telling) (count : ℕ)
-    → IsMade code_of may old before → IsMade code_of may new (before ++ part) → count ≡ length old.calls
+pub calls_since-part : (promised : Promised) (seen : Seen) (old new : Made) (before part : List Telling) (count : ℕ)
+    → IsMade promised seen old before → IsMade promised seen new (before ++ part) → count ≡ length old.calls
     → map entry_of (drop count new.calls) ≡ calls_in part
-calls_since-part code_of may old new before part count made more is =
+calls_since-part promised seen old new before part count made more is =
     let count_is : count ≡ length (calls_in before) = is ∙ sym (length-map old.calls entry_of) ∙ ap length made.calls in
     let all : map entry_of new.calls ≡ calls_in before ++ calls_in part = more.calls ∙ filter_map-append called_in before part in
     sym (drop-map entry_of count new.calls) ∙ ap (drop count) all ∙ ap (λ (n : ℕ). drop n (calls_in before ++ calls_in part)) count_is
     ∙ drop-append_seam (calls_in before) (calls_in part)
 
 -- where an occasion stops early, the first calls of all have been made
-pub IsFrontMade-occasion : (setting : Setting) (may : List ℕ → Call → List Action → Type 0) (new : Made)
+pub IsFrontMade-occasion : (promised : Promised) (seen : Seen) (setting : Setting) (new : Made)
     (next : Next) (taken : Bool) (occasion : Occasion) (rest behind : List Occasion) (done all : List Telling)
     → rest ≡ occasion ∷ behind → next ≡ Go taken → done ++ told_from setting next rest ≡ all
-    → IsFrontMade setting.code_of may new (done ++ told setting taken occasion) → IsFrontMade setting.code_of may new all
-IsFrontMade-occasion setting may new next taken occasion rest behind done all first goes whole front =
+    → IsFrontMade promised seen new (done ++ told setting taken occasion) → IsFrontMade promised seen new all
+IsFrontMade-occasion promised seen setting new next taken occasion rest behind done all first goes whole front =
     let more : List Telling = told_from setting (next_after (kind_for occasion) (told setting taken occasion)) behind in
     let split : told_from setting next rest ≡ told setting taken occasion ++ more = rw (goes, first) refl in
     let shown : all ≡ (done ++ told setting taken occasion) ++ more

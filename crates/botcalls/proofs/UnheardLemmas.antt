@@ -1,13 +1,13 @@
 -- The events of a message call nothing where no bind waits for messages.
-use Rattle.std.proofs.Common.{◌≡◌, ◌∙◌, ℕ, ◌<◌, ◌||◌, ◌&&◌, Bool, true, false, if◌then◌else◌, List, [], ◌∷◌, ◌++◌, map, refl, ap, sym, subst, arith, ne_eqb, lit<}
+use Rattle.std.proofs.Common.{◌≡◌, ◌∙◌, ◌<◌, ◌||◌, ◌&&◌, Bool, true, false, if◌then◌else◌, List, [], ◌∷◌, ◌++◌, map, refl, ap, sym, subst, arith, ne_eqb, lit<}
 use Rattle.chanstate.specs.declared.event.Event.{Event}
 use Rattle.chanstate.specs.declared.event.Kind.{Kind as EventKind}
 use Rattle.chanstate.specs.declared.event.Kind.TheVariants.{Raw as raw_event, Msg as msg_event, Msgm as msgm_event, Notc as notc_event}
 use Rattle.chanstate.specs.declared.event.Kind.TheVariants.{Pub as pub_event, Pubm as pubm_event, Join as join_event, Part as part_event}
 use Rattle.chanstate.specs.declared.event.Kind.TheVariants.{Sign as sign_event, Kick as kick_event, Nick as nick_event}
 use Rattle.chanstate.specs.declared.event.Kind.TheVariants.{Mode as mode_event, Topc as topc_event}
-use Rattle.procstore.specs.declared.action.Action.{Action}
-use Rattle.procstore.specs.declared.call.Call.{Call}
+use Rattle.procstore.specs.Promises.{Promised}
+use Rattle.procstore.specs.Seen.{Seen}
 use Rattle.bindtable.specs.declared.bind.Bind.{Bind}
 use Rattle.bindtable.specs.declared.bind_kind.BindKind.{BindKind}
 use Rattle.bindtable.specs.declared.bind_kind.BindKind.TheVariants.{Raw, Msg, Msgm, Notc, Pub, Pubm, Join, Part, Sign, Kick, Nick, Mode, Topc}
@@ -17,7 +17,6 @@ use Rattle.bindtable.specs.Hearing.{is_of_messages, hear_messages}
 use Rattle.bindtable.specs.Kinds.{place_of, is_kind}
 use Rattle.botcalls.specs.declared.next.Next.{Next}
 use Rattle.botcalls.specs.declared.next.Next.TheVariants.{Stop, Go}
-use Rattle.botcalls.specs.declared.occasion.Occasion.{Occasion}
 use Rattle.botcalls.specs.declared.occasion.Occasion.TheVariants.{Heard}
 use Rattle.botcalls.specs.Calls.{Telling, told_all}
 use Rattle.botcalls.specs.Dispatching.{Setting, occurrence_of, told_heard, is_word, told, next_after, told_from, told_of}
@@ -100,9 +99,9 @@ module _ (setting : Setting) (none : hear_messages setting.binds ≡ false) wher
       ap (λ (ts : List Telling). ts ++ told_from setting after (map (λ e. Heard e) es)) (told-silent taken e) ∙ from-silent after es
 
   -- so nothing is all that they come to
-  pub made-silent : (may : List ℕ → Call → List Action → Type 0) (events : List Event) (made : Made) → made ≡ record { calls = []; unbound = [] }
-      → IsMade setting.code_of may made (told_of setting (map (λ e. Heard e) events))
-  made-silent may events made is =
+  pub made-silent : (promised : Promised) (seen : Seen) (events : List Event) (made : Made) → made ≡ record { calls = []; unbound = [] }
+      → IsMade promised seen made (told_of setting (map (λ e. Heard e) events))
+  made-silent promised seen events made is =
       let nothing : Made = record { calls = []; unbound = [] } in
-      subst (λ (m : Made). IsMade setting.code_of may m (told_of setting (map (λ e. Heard e) events))) (sym is)
-      (subst (IsMade setting.code_of may nothing) (sym (from-silent (Go false) events)) (record { calls = refl; unbound = refl; kept = tt }))
+      subst (λ (m : Made). IsMade promised seen m (told_of setting (map (λ e. Heard e) events))) (sym is)
+      (subst (IsMade promised seen nothing) (sym (from-silent (Go false) events)) (record { calls = refl; unbound = refl; kept = tt }))

@@ -1,9 +1,10 @@
 -- Occasions that were dispatched, against what they come to.
 use Rattle.std.specs.Prelude.{◌≡◌, ℕ, Bool, List, ◌++◌, Result, Ok, Err}
 use Rattle.userfile.specs.declared.user.User.{User}
-use Rattle.procstore.specs.declared.action.Action.{Action}
 use Rattle.procstore.specs.declared.call.Call.{Call}
 use Rattle.procstore.specs.declared.reply.Code.{Code}
+use Rattle.procstore.specs.Promises.{Promised, code_at}
+use Rattle.procstore.specs.Seen.{Seen}
 use Rattle.bindtable.specs.declared.bind.Bind.{Bind}
 use Rattle.botcalls.specs.declared.next.Next.{Next}
 use Rattle.botcalls.specs.declared.occasion.Occasion.{Occasion}
@@ -19,17 +20,18 @@ setting_of code_of names users binds exclusive =
     record { code_of = code_of; names = names; users = users; binds = binds; exclusive = exclusive }
 
 -- the same, of the scene that a bot hands in
-abbrev pub setting_in : {P B : Type 0} → (List ℕ → Call → Code) → Scene P B → Setting
-setting_in code_of scene = setting_of code_of scene.store.now scene.userfile.now.users scene.binds.now.binds scene.exclusive
+abbrev pub setting_in : {P B : Type 0} → Promised → Scene P B → Setting
+setting_in promised scene =
+    setting_of (code_at promised scene.view.now.sight) scene.store.now scene.view.now.sight.records.users scene.binds.now.binds scene.exclusive
 
 -- one occasion more was dispatched, and this follows it
-abbrev pub AddsOccasion : Setting → (List ℕ → Call → List Action → Type 0) → Made → Bool → Occasion → Next → Made → Type 0
-AddsOccasion setting may old taken occasion next new =
-    (before : List Telling) → IsMade setting.code_of may old before
-    → IsMade setting.code_of may new (before ++ told setting taken occasion)
+abbrev pub AddsOccasion : Promised → Seen → Setting → Made → Bool → Occasion → Next → Made → Type 0
+AddsOccasion promised seen setting old taken occasion next new =
+    (before : List Telling) → IsMade promised seen old before
+    → IsMade promised seen new (before ++ told setting taken occasion)
     × (next ≡ next_after (kind_for occasion) (told setting taken occasion))
 
 -- all occasions were dispatched, or the first calls of them were made before memory ran out
-abbrev pub IsDispatched : Setting → (List ℕ → Call → List Action → Type 0) → List Occasion → Result Made Made → Type 0
-IsDispatched setting may occasions (Ok made) = IsMade setting.code_of may made (told_of setting occasions)
-IsDispatched setting may occasions (Err made) = IsFrontMade setting.code_of may made (told_of setting occasions)
+abbrev pub IsDispatched : Promised → Seen → Setting → List Occasion → Result Made Made → Type 0
+IsDispatched promised seen setting occasions (Ok made) = IsMade promised seen made (told_of setting occasions)
+IsDispatched promised seen setting occasions (Err made) = IsFrontMade promised seen made (told_of setting occasions)

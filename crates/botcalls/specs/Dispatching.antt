@@ -58,13 +58,13 @@ told_heard setting event = told_by_person setting event (person_of setting.users
 abbrev pub told_seen : Setting → Occurrence → Call → List Telling
 told_seen setting seen call = told_all setting.code_of setting.names call (called seen setting.binds)
 
--- the proc of a timer, for no bind
-abbrev pub told_due : Setting → List ℕ → List Telling
-told_due setting proc = told_proc setting.code_of setting.names due_call 0 proc ∷ []
+-- the proc of a timer with its text, for no bind
+abbrev pub told_due : Setting → List ℕ → List ℕ → List Telling
+told_due setting proc text = told_proc setting.code_of setting.names (due_call text) 0 proc ∷ []
 
 abbrev pub told_alone : Setting → Occasion → List Telling
 told_alone setting (Heard event) = told_heard setting event
-told_alone setting (Due proc) = told_due setting proc
+told_alone setting (Due proc text) = told_due setting proc text
 told_alone setting (Time minute) = told_seen setting (time_seen minute) (time_call minute)
 told_alone setting (Cron minute) = told_seen setting (cron_seen minute) (cron_call minute)
 told_alone setting (Said from text) = told_seen setting (said_seen text) (said_call from text)

@@ -32,8 +32,8 @@ said_seen text = by_nobody bot_bind (first_word text) None
 
 -- ---- what procs are called with
 
-abbrev pub due_call : Call
-due_call = record { kind = timer_call; args = [] }
+abbrev pub due_call : List ℕ → Call
+due_call text = record { kind = timer_call; args = text ∷ [] }
 
 abbrev pub time_call : CivilMinute → Call
 time_call minute = record { kind = time_kind; args = time_words minute }
@@ -52,7 +52,7 @@ said_call from text = record { kind = bot_kind; args = bot_name from ∷ first_w
 -- the kind of its calls
 abbrev pub kind_for : Occasion → Kind
 kind_for (Heard event) = call_kind_of (kind_of event.kind)
-kind_for (Due proc) = timer_call
+kind_for (Due proc text) = timer_call
 kind_for (Time minute) = time_kind
 kind_for (Cron minute) = cron_kind
 kind_for (Said from text) = bot_kind

@@ -17,7 +17,7 @@ use bottimers::{CivilMinute, time_text};
 use bytetext::{Failure, NoMemory, Seq, Text, TryCopy};
 use chanstate::Event;
 use flagexpr::Flags;
-use procstore::{Call, CallFault, Kind, ProcStore, Promise, Run};
+use procstore::{Call, CallFault, Kind, Promise, Run};
 use std::alloc::Global;
 use std::marker::Model;
 
@@ -40,6 +40,7 @@ impl Model for Dispatch {
 impl Dispatch {
     ghost use Rattle.std.specs.Prelude.{◌≡◌, ◌∷◌, [], OnOk, OnErr, IfOk, drop, length, false};
     ghost use Rattle.bindtable.specs.Calls.{seen};
+    ghost use Rattle.procstore.specs.Promises.{code_at};
     ghost use Rattle.botcalls.specs.Calls.{told_proc, told_all};
     ghost use Rattle.botcalls.specs.Occasions.{time_seen, cron_seen, said_seen, time_call, cron_call, said_call};
     ghost use Rattle.botcalls.specs.Made.{Adds, AddsFront};
@@ -68,20 +69,20 @@ impl Dispatch {
     fn call_proc<P: Promise, B: Run>(
         &mut self,
         alloc: Global,
-        store: &ProcStore<P, B>,
+        scene: &Scene<'_, P, B>,
         call: &Call,
         number: u32,
         name: &Text,
     ) -> Result<(), NoMemory>
-        ensures ok { OnOk result (Adds P.code_of P.may self.old
-            (told_proc P.code_of store.now call.now number name.now ∷ []) self.new) }
+        ensures ok { OnOk result (Adds P.promised scene.now.view.now self.old
+            (told_proc (code_at P.promised scene.now.view.now.sight) scene.now.store.now call.now number name.now ∷ []) self.new) }
         ensures err { OnErr result (self.new ≡ self.old) }
     {
         // Room for the call is made before it, so that each call that is made is told.
         self.calls.reserve(1)?;
         let proc = name.copy(alloc)?;
         let call_copy = call.copy(alloc)?;
-        match store.call(name.as_bytes(), call) {
+        match scene.store.call(name.as_bytes(), call, scene.view) {
             Ok(reply) => self.calls.push_reserved(MadeCall {
                 bind: number,
                 proc,
@@ -100,17 +101,17 @@ impl Dispatch {
     fn call_each<P: Promise, B: Run>(
         &mut self,
         alloc: Global,
-        store: &ProcStore<P, B>,
+        scene: &Scene<'_, P, B>,
         call: &Call,
         mut binds: Called<'_, '_>,
     ) -> Result<(), NoMemory>
-        ensures ok { OnOk result (Adds P.code_of P.may self.old
-            (told_all P.code_of store.now call.now binds.entry) self.new) }
-        ensures err { OnErr result (AddsFront P.code_of P.may self.old
-            (told_all P.code_of store.now call.now binds.entry) self.new) }
+        ensures ok { OnOk result (Adds P.promised scene.now.view.now self.old
+            (told_all (code_at P.promised scene.now.view.now.sight) scene.now.store.now call.now binds.entry) self.new) }
+        ensures err { OnErr result (AddsFront P.promised scene.now.view.now self.old
+            (told_all (code_at P.promised scene.now.view.now.sight) scene.now.store.now call.now binds.entry) self.new) }
     {
         while let Some(bind) = binds.next() {
-            match self.call_proc(alloc, store, call, bind.number, &bind.proc) {
+            match self.call_proc(alloc, scene, call, bind.number, &bind.proc) {
                 Ok(()) => {}
                 Err(NoMemory) => return Err(NoMemory),
             }
@@ -122,21 +123,21 @@ impl Dispatch {
     fn call_first<P: Promise, B: Run>(
         &mut self,
         alloc: Global,
-        store: &ProcStore<P, B>,
+        scene: &Scene<'_, P, B>,
         call: &Call,
         first: &Bind,
         rest: Called<'_, '_>,
     ) -> Result<(), NoMemory>
-        ensures ok { OnOk result (Adds P.code_of P.may self.old
-            (told_all P.code_of store.now call.now (first.now ∷ rest.entry)) self.new) }
-        ensures err { OnErr result (AddsFront P.code_of P.may self.old
-            (told_all P.code_of store.now call.now (first.now ∷ rest.entry)) self.new) }
+        ensures ok { OnOk result (Adds P.promised scene.now.view.now self.old
+            (told_all (code_at P.promised scene.now.view.now.sight) scene.now.store.now call.now (first.now ∷ rest.entry)) self.new) }
+        ensures err { OnErr result (AddsFront P.promised scene.now.view.now self.old
+            (told_all (code_at P.promised scene.now.view.now.sight) scene.now.store.now call.now (first.now ∷ rest.entry)) self.new) }
     {
-        match self.call_proc(alloc, store, call, first.number, &first.proc) {
+        match self.call_proc(alloc, scene, call, first.number, &first.proc) {
             Ok(()) => {}
             Err(NoMemory) => return Err(NoMemory),
         }
-        match self.call_each(alloc, store, call, rest) {
+        match self.call_each(alloc, scene, call, rest) {
             Ok(()) => Ok(()),
             Err(NoMemory) => Err(NoMemory),
         }
@@ -150,13 +151,13 @@ impl Dispatch {
         seen_by: &Occurrence<'_>,
         call: &Call,
     ) -> Result<(), NoMemory>
-        ensures ok { OnOk result (Adds P.code_of P.may self.old
-            (told_seen (setting_in P.code_of scene.now) (seen seen_by.now) call.now) self.new) }
-        ensures err { OnErr result (AddsFront P.code_of P.may self.old
-            (told_seen (setting_in P.code_of scene.now) (seen seen_by.now) call.now) self.new) }
+        ensures ok { OnOk result (Adds P.promised scene.now.view.now self.old
+            (told_seen (setting_in P.promised scene.now) (seen seen_by.now) call.now) self.new) }
+        ensures err { OnErr result (AddsFront P.promised scene.now.view.now self.old
+            (told_seen (setting_in P.promised scene.now) (seen seen_by.now) call.now) self.new) }
     {
         let found = scene.binds.called(seen_by);
-        match self.call_each(alloc, scene.store, call, found) {
+        match self.call_each(alloc, scene, call, found) {
             Ok(()) => Ok(()),
             Err(NoMemory) => Err(NoMemory),
         }
@@ -169,14 +170,18 @@ impl Dispatch {
         alloc: Global,
         scene: &Scene<'_, P, B>,
         proc: &Text,
+        text: &Text,
     ) -> Result<(), NoMemory>
-        ensures ok { OnOk result (Adds P.code_of P.may self.old
-            (told_due (setting_in P.code_of scene.now) proc.now) self.new) }
-        ensures err { OnErr result (AddsFront P.code_of P.may self.old
-            (told_due (setting_in P.code_of scene.now) proc.now) self.new) }
+        ensures ok { OnOk result (Adds P.promised scene.now.view.now self.old
+            (told_due (setting_in P.promised scene.now) proc.now text.now) self.new) }
+        ensures err { OnErr result (AddsFront P.promised scene.now.view.now self.old
+            (told_due (setting_in P.promised scene.now) proc.now text.now) self.new) }
     {
-        let call = due_call(alloc);
-        match self.call_proc(alloc, scene.store, &call, 0, proc) {
+        let call = match due_call(alloc, text) {
+            Ok(call) => call,
+            Err(NoMemory) => return Err(NoMemory),
+        };
+        match self.call_proc(alloc, scene, &call, 0, proc) {
             Ok(()) => Ok(()),
             Err(NoMemory) => Err(NoMemory),
         }
@@ -190,10 +195,10 @@ impl Dispatch {
         scene: &Scene<'_, P, B>,
         minute: &CivilMinute,
     ) -> Result<(), NoMemory>
-        ensures ok { OnOk result (Adds P.code_of P.may self.old
-            (told_seen (setting_in P.code_of scene.now) (time_seen minute.now) (time_call minute.now)) self.new) }
-        ensures err { OnErr result (AddsFront P.code_of P.may self.old
-            (told_seen (setting_in P.code_of scene.now) (time_seen minute.now) (time_call minute.now)) self.new) }
+        ensures ok { OnOk result (Adds P.promised scene.now.view.now self.old
+            (told_seen (setting_in P.promised scene.now) (time_seen minute.now) (time_call minute.now)) self.new) }
+        ensures err { OnErr result (AddsFront P.promised scene.now.view.now self.old
+            (told_seen (setting_in P.promised scene.now) (time_seen minute.now) (time_call minute.now)) self.new) }
     {
         let text = match time_text(alloc, minute) {
             Ok(text) => text,
@@ -215,10 +220,10 @@ impl Dispatch {
         scene: &Scene<'_, P, B>,
         minute: &CivilMinute,
     ) -> Result<(), NoMemory>
-        ensures ok { OnOk result (Adds P.code_of P.may self.old
-            (told_seen (setting_in P.code_of scene.now) (cron_seen minute.now) (cron_call minute.now)) self.new) }
-        ensures err { OnErr result (AddsFront P.code_of P.may self.old
-            (told_seen (setting_in P.code_of scene.now) (cron_seen minute.now) (cron_call minute.now)) self.new) }
+        ensures ok { OnOk result (Adds P.promised scene.now.view.now self.old
+            (told_seen (setting_in P.promised scene.now) (cron_seen minute.now) (cron_call minute.now)) self.new) }
+        ensures err { OnErr result (AddsFront P.promised scene.now.view.now self.old
+            (told_seen (setting_in P.promised scene.now) (cron_seen minute.now) (cron_call minute.now)) self.new) }
     {
         let call = match cron_call(alloc, minute) {
             Ok(call) => call,
@@ -237,10 +242,10 @@ impl Dispatch {
         from: u16,
         text: &Text,
     ) -> Result<(), NoMemory>
-        ensures ok { OnOk result (Adds P.code_of P.may self.old
-            (told_seen (setting_in P.code_of scene.now) (said_seen text.now) (said_call from text.now)) self.new) }
-        ensures err { OnErr result (AddsFront P.code_of P.may self.old
-            (told_seen (setting_in P.code_of scene.now) (said_seen text.now) (said_call from text.now)) self.new) }
+        ensures ok { OnOk result (Adds P.promised scene.now.view.now self.old
+            (told_seen (setting_in P.promised scene.now) (said_seen text.now) (said_call from text.now)) self.new) }
+        ensures err { OnErr result (AddsFront P.promised scene.now.view.now self.old
+            (told_seen (setting_in P.promised scene.now) (said_seen text.now) (said_call from text.now)) self.new) }
     {
         let call = match said_call(alloc, from, text.as_bytes()) {
             Ok(call) => call,
@@ -259,11 +264,11 @@ impl Dispatch {
         people: &mut People<'_>,
         event: &Event,
     ) -> Result<(), NoMemory>
-        requires { people.old ≡ scene.now.userfile.now.users }
-        ensures ok { OnOk result (Adds P.code_of P.may self.old
-            (told_heard (setting_in P.code_of scene.now) event.now) self.new) }
-        ensures err { OnErr result (AddsFront P.code_of P.may self.old
-            (told_heard (setting_in P.code_of scene.now) event.now) self.new) }
+        requires { people.old ≡ scene.now.view.now.sight.records.users }
+        ensures ok { OnOk result (Adds P.promised scene.now.view.now self.old
+            (told_heard (setting_in P.promised scene.now) event.now) self.new) }
+        ensures err { OnErr result (AddsFront P.promised scene.now.view.now self.old
+            (told_heard (setting_in P.promised scene.now) event.now) self.new) }
         ensures people { people.new ≡ people.old }
     {
         let person = match person_of(alloc, people, event) {
@@ -286,7 +291,7 @@ impl Dispatch {
             Ok(call) => call,
             Err(NoMemory) => return Err(NoMemory),
         };
-        self.call_first(alloc, scene.store, &call, first, found)
+        self.call_first(alloc, scene, &call, first, found)
     }
 
     // Calls the procs of an occasion, as if it were the only one.
@@ -297,16 +302,16 @@ impl Dispatch {
         people: &mut People<'_>,
         occasion: &Occasion,
     ) -> Result<(), NoMemory>
-        requires { people.old ≡ scene.now.userfile.now.users }
-        ensures ok { OnOk result (Adds P.code_of P.may self.old
-            (told_alone (setting_in P.code_of scene.now) occasion.now) self.new) }
-        ensures err { OnErr result (AddsFront P.code_of P.may self.old
-            (told_alone (setting_in P.code_of scene.now) occasion.now) self.new) }
+        requires { people.old ≡ scene.now.view.now.sight.records.users }
+        ensures ok { OnOk result (Adds P.promised scene.now.view.now self.old
+            (told_alone (setting_in P.promised scene.now) occasion.now) self.new) }
+        ensures err { OnErr result (AddsFront P.promised scene.now.view.now self.old
+            (told_alone (setting_in P.promised scene.now) occasion.now) self.new) }
         ensures people { people.new ≡ people.old }
     {
         match occasion {
             Occasion::Heard(event) => self.call_heard(alloc, scene, people, event),
-            Occasion::Due(proc) => self.call_due(alloc, scene, proc),
+            Occasion::Due { proc, text } => self.call_due(alloc, scene, proc, text),
             Occasion::Time(minute) => self.call_time(alloc, scene, minute),
             Occasion::Cron(minute) => self.call_cron(alloc, scene, minute),
             Occasion::Said { from, text } => self.call_said(alloc, scene, *from, text),
@@ -322,11 +327,11 @@ impl Dispatch {
         occasion: &Occasion,
         taken: bool,
     ) -> Result<(), NoMemory>
-        requires { people.old ≡ scene.now.userfile.now.users }
-        ensures ok { OnOk result (Adds P.code_of P.may self.old
-            (told (setting_in P.code_of scene.now) taken occasion.now) self.new) }
-        ensures err { OnErr result (AddsFront P.code_of P.may self.old
-            (told (setting_in P.code_of scene.now) taken occasion.now) self.new) }
+        requires { people.old ≡ scene.now.view.now.sight.records.users }
+        ensures ok { OnOk result (Adds P.promised scene.now.view.now self.old
+            (told (setting_in P.promised scene.now) taken occasion.now) self.new) }
+        ensures err { OnErr result (AddsFront P.promised scene.now.view.now self.old
+            (told (setting_in P.promised scene.now) taken occasion.now) self.new) }
         ensures people { people.new ≡ people.old }
     {
         if is_silent(scene.exclusive, taken, occasion.kind()) {
@@ -347,11 +352,11 @@ impl Dispatch {
         occasion: &Occasion,
         taken: bool,
     ) -> Result<Next, NoMemory>
-        requires { people.old ≡ scene.now.userfile.now.users }
+        requires { people.old ≡ scene.now.view.now.sight.records.users }
         ensures ok { IfOk result (λ next.
-            AddsOccasion (setting_in P.code_of scene.now) P.may self.old taken occasion.now next self.new) }
-        ensures err { OnErr result (AddsFront P.code_of P.may self.old
-            (told (setting_in P.code_of scene.now) taken occasion.now) self.new) }
+            AddsOccasion P.promised scene.now.view.now (setting_in P.promised scene.now) self.old taken occasion.now next self.new) }
+        ensures err { OnErr result (AddsFront P.promised scene.now.view.now self.old
+            (told (setting_in P.promised scene.now) taken occasion.now) self.new) }
         ensures people { people.new ≡ people.old }
     {
         let before = self.call_count();
@@ -381,9 +386,10 @@ impl Dispatch {
 
 /// Calls the procs that occasions call.
 ///
-/// Each calls the binds of its kind whose mask and flags let it, oldest first; a due timer calls its proc. Where a raw proc
-/// answers 1, nothing follows the raw event. Where the scene is exclusive, the first word of a text calls nothing once a
-/// proc was called for the whole of that text. A bind or timer whose proc is not in the store is left out and told.
+/// Each calls the binds of its kind whose mask and flags let it, oldest first; a due timer calls its proc with its text.
+/// Each proc sees the scene's view. Where a raw proc answers 1, nothing follows the raw event. Where the scene is exclusive,
+/// the first word of a text calls nothing once a proc was called for the whole of that text. A bind or timer whose proc is
+/// not in the store is left out and told.
 ///
 /// # Errors
 /// An error has the calls that were made before memory ran out: they are the first of those that would be made.
@@ -392,10 +398,10 @@ pub fn call_procs<P: Promise, B: Run>(
     scene: &Scene<'_, P, B>,
     occasions: &[Occasion],
 ) -> Result<Dispatch, Dispatch>
-    ensures { IsDispatched (setting_in P.code_of scene.now) P.may occasions.now result }
+    ensures { IsDispatched P.promised scene.now.view.now (setting_in P.promised scene.now) occasions.now result }
 {
     let mut made = Dispatch::new(alloc);
-    let mut people = People::new(scene.userfile);
+    let mut people = People::new(scene.view.userfile());
     let mut next = Next::Go { taken: false };
     let mut rest = occasions;
     while let Some((occasion, behind)) = rest.split_first() {

@@ -4,10 +4,11 @@
 //! [`call_procs`] calls those that a list of occasions calls, one after another, and gives the calls that it made and the
 //! binds that it left out, as a [`Dispatch`]. What it may call is stated in `specs/Dispatching.antt`: each bind of the
 //! occasion's kind whose mask and flags let it, oldest first. What a proc is called with is in `specs/Occasions.antt` and,
-//! for messages, in `specs/Heard.antt`.
+//! for messages, in `specs/Heard.antt`. All procs see what the [`Scene`] shows of their bot.
 //!
 //! ```text
-//! let scene = Scene { store: &store, binds: &binds, userfile: &userfile, exclusive: false };
+//! let view = View::new(&userfile, &channels, Some(1_000_000_000));
+//! let scene = Scene { store: &store, binds: &binds, view: &view, exclusive: false };
 //! let made = call_procs(alloc, &scene, &[Occasion::Heard(event)])?;
 //! let (calls, unbound) = made.into_parts();
 //! ```

@@ -5,7 +5,7 @@ ghost use Rattle.botcalls.specs.Occasions.{due_call, time_call, cron_call, said_
 use crate::heard::kind_of;
 use crate::words::{after_word, bot_name, first_word};
 use bottimers::{CivilMinute, cron_args, time_args};
-use bytetext::{NoMemory, Text, Texts};
+use bytetext::{NoMemory, Text, Texts, TryCopy};
 use chanstate::Event;
 use procstore::{Call, Kind};
 use std::alloc::Global;
@@ -15,8 +15,13 @@ use std::alloc::Global;
 pub enum Occasion {
     /// An event of a message.
     Heard(Event),
-    /// A timer of this proc is due.
-    Due(Text),
+    /// A timer is due.
+    Due {
+        /// The name of the proc that it calls.
+        proc: Text,
+        /// The argument of its calls.
+        text: Text,
+    },
     /// A minute begins, for time binds.
     Time(CivilMinute),
     /// A minute begins, for cron binds.
@@ -40,7 +45,7 @@ impl Occasion {
     {
         match self {
             Occasion::Heard(event) => kind_of(event.kind).kind(),
-            Occasion::Due(_) => Kind::Timer,
+            Occasion::Due { .. } => Kind::Timer,
             Occasion::Time(_) => Kind::Time,
             Occasion::Cron(_) => Kind::Cron,
             Occasion::Said { .. } => Kind::Bot,
@@ -48,14 +53,15 @@ impl Occasion {
     }
 }
 
-// What a due timer calls its proc with. Takes no memory.
-pub(crate) fn due_call(alloc: Global) -> Call
-    ensures { result ≡ due_call }
+// What a due timer of this text calls its proc with.
+pub(crate) fn due_call(alloc: Global, text: &Text) -> Result<Call, NoMemory>
+    ensures { IfOk result (λ call. call ≡ due_call text.now) }
 {
-    Call {
+    let text = text.copy(alloc)?;
+    Ok(Call {
         kind: Kind::Timer,
-        args: Texts::new(Vec::new(alloc)),
-    }
+        args: Texts::new(vec![in alloc; text]?),
+    })
 }
 
 // What time binds call their procs with.

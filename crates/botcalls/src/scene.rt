@@ -1,7 +1,6 @@
 // What calls depend on.
 use bindtable::BindTable;
-use procstore::{ProcStore, Promise, Run};
-use userfile::Userfile;
+use procstore::{ProcStore, Promise, Run, View};
 
 /// What the calls for occasions depend on, beside the occasions.
 #[derive(Drop)]
@@ -10,8 +9,8 @@ pub struct Scene<'a, P: Promise, B: Run> {
     pub store: &'a ProcStore<P, B>,
     /// The binds.
     pub binds: &'a BindTable,
-    /// Who people are, and with which flags.
-    pub userfile: &'a Userfile,
+    /// What the procs see of their bot. People have the flags of its userfile.
+    pub view: &'a View<'a>,
     /// Whether a text for which a `msgm` or `pubm` proc was called is no event for `msg` or `pub` binds.
     pub exclusive: bool,
 }

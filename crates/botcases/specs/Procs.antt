@@ -1,10 +1,9 @@
 -- What the procs of a case answer.
 use Rattle.std.specs.Prelude.{ℕ, List, codes, if◌then◌else◌}
 use Rattle.std.specs.Str.{bytes_eq}
-use Rattle.procstore.specs.declared.call.Call.{Call}
 use Rattle.procstore.specs.declared.reply.Code.{Code}
 use Rattle.procstore.specs.declared.reply.Code.TheVariants.{Zero, One}
 
 -- `stop` answers 1, any other proc 0
-abbrev pub code_of : List ℕ → Call → Code
-code_of name call = if bytes_eq name (codes "stop") then One else Zero
+abbrev pub code_of : List ℕ → Code
+code_of name = if bytes_eq name (codes "stop") then One else Zero

@@ -16,9 +16,10 @@
 //!
 //! The binds of a `script` or a `live` script may call the procs `quiet`, which answers 0, `stop`, which answers 1,
 //! `adduser`, which answers 0 and asks for a user by the call's last argument, `echo`, which answers 0 and says what was said
-//! again, and `texts`, which answers 0 and tells leaf 1 `op me` eight times. `commands` writes each step as its bot and what
-//! that is told, steps of one command with `, ` between, or `none` where there is no step. `live` opens sockets of this
-//! machine.
+//! again, and `texts`, which answers 0 and tells leaf 1 `op me` eight times. `look` answers 0 and tells who spoke on a
+//! channel what it sees: the handle, `op` or `no op`, and the clock's second. `later` answers 0 and has `quiet` called with
+//! its last argument five seconds on; `never` answers 0 and ends that. `commands` writes each step as its bot and what that
+//! is told, steps of one command with `, ` between, or `none` where there is no step. `live` opens sockets of this machine.
 //!
 //! `bot` makes the bot `egg` of this number, 0 for the hub and 1 for its only leaf; EXCLUSIVE is `all` or `exclusive`. Its
 //! steps are `bind KIND FLAGS PROC MASK`, which answers the bind's number; `runs`, which answers how often procs have run;

@@ -1,12 +1,13 @@
-// The procs that a script's binds may call: `quiet`, `stop`, `adduser`, `echo` and `texts`.
+// The procs that a script's binds may call: `quiet`, `stop`, `adduser`, `echo`, `texts`, `look`, `later` and `never`.
 ghost use Rattle.std.specs.Prelude.{◌≡◌};
-ghost use Rattle.procstore.specs.declared.call.Call.{Call};
 ghost use Rattle.botcases.specs.Procs.{code_of};
 
 use bytetext::{NoMemory, Text, TryCopy};
+use itoa::Buffer;
 use outqueue::Queue;
 use procstore::{
     Action, Actions, BotWish, Call, Code, Kind, Proc, ProcStore, Promise, PutWish, Reply, Run,
+    TimerName, TimerWish, View,
 };
 use std::alloc::Global;
 use std::cell::Cell;
@@ -18,11 +19,10 @@ use userfile::Change;
 pub struct Ours;
 
 impl Promise for Ours {
+    ghost use Rattle.procstore.specs.Promises.{promised};
     ghost use Rattle.botcases.specs.Procs.{code_of};
 
-    ghost code_of = { code_of };
-
-    ghost may = { λ name call actions. Unit {0} };
+    ghost promised = { promised (λ name _ _. code_of name) (λ _ _ _ _. Unit {0}) };
 }
 
 /// What a body asks for, of the call's last argument.
@@ -36,6 +36,12 @@ enum Wish {
     Echo,
     /// Eight texts to leaf 1.
     Texts,
+    /// A line for the server that tells whoever spoke on a channel what the proc sees.
+    Look,
+    /// A utimer of five seconds, by which `quiet` is called with it.
+    Later,
+    /// The end of such a utimer.
+    Never,
 }
 
 /// How often the bodies of a store have run.
@@ -55,20 +61,20 @@ impl Run for Built {
 
     ghost can_run = { λ body. Unit {0} };
 
-    ghost answers = { λ body call answer. IfOk answer (λ reply. reply.code ≡ body.code) };
+    ghost answers = { λ body _ _ answer. IfOk answer (λ reply. reply.code ≡ body.code) };
 
-    fn run(&self, call: &Call) -> Result<Reply, NoMemory> {
+    fn run(&self, call: &Call, view: &View<'_>) -> Result<Reply, NoMemory> {
         self.runs.set(self.runs.get().wrapping_add(1));
         Ok(Reply {
             code: self.code,
-            actions: self.actions(call)?,
+            actions: self.actions(call, view)?,
         })
     }
 }
 
 impl Built {
     // What the body asks for.
-    fn actions(&self, call: &Call) -> Result<Actions, NoMemory> {
+    fn actions(&self, call: &Call, view: &View<'_>) -> Result<Actions, NoMemory> {
         let Some(last) = call.args.as_slice().last() else {
             return Ok(Actions::empty(self.alloc));
         };
@@ -77,6 +83,9 @@ impl Built {
             Wish::User => asked(self.alloc, last),
             Wish::Echo => echoed(self.alloc, call, last),
             Wish::Texts => eight_texts(self.alloc),
+            Wish::Look => looked(self.alloc, call, view),
+            Wish::Later => later(self.alloc, last),
+            Wish::Never => never(self.alloc, last),
         }
     }
 }
@@ -92,11 +101,16 @@ fn echoed(alloc: Global, call: &Call, text: &Text) -> Result<Actions, NoMemory> 
     let Some(target) = target_of(call) else {
         return Ok(Actions::empty(alloc));
     };
+    said(alloc, target, text.as_bytes())
+}
+
+// PRIVMSG TARGET :TEXT
+fn said(alloc: Global, target: &Text, text: &[u8]) -> Result<Actions, NoMemory> {
     let mut line = Vec::new(alloc);
     line.extend_from_slice(b"PRIVMSG ")?;
     line.extend_from_slice(target.as_bytes())?;
     line.extend_from_slice(b" :")?;
-    line.extend_from_slice(text.as_bytes())?;
+    line.extend_from_slice(text)?;
     let wish = PutWish {
         queue: Queue::Help,
         line: Text::new(line),
@@ -115,6 +129,54 @@ fn eight_texts(alloc: Global) -> Result<Actions, NoMemory> {
         }
     }
     Ok(actions)
+}
+
+// Who spoke on a channel is told the own handle, `op` or `no op`, and the second of the clock.
+fn looked(alloc: Global, call: &Call, view: &View<'_>) -> Result<Actions, NoMemory> {
+    let [nick, at, _, channel, ..] = call.args.as_slice() else {
+        return Ok(Actions::empty(alloc));
+    };
+    let who = person(alloc, nick, at)?;
+    let mut text = Vec::from_slice(alloc, view.userfile().handle_of(who.as_slice()))?;
+    text.extend_from_slice(op_word(view.channels().is_op(channel.as_bytes(), nick.as_bytes())))?;
+    let mut digits = Buffer::new();
+    text.extend_from_slice(digits.format(view.second().unwrap_or(0)).as_bytes())?;
+    said(alloc, channel, text.as_slice())
+}
+
+// NICK!USER@HOST
+fn person(alloc: Global, nick: &Text, at: &Text) -> Result<Vec<u8>, NoMemory> {
+    let mut who = Vec::from_slice(alloc, nick.as_bytes())?;
+    who.extend_from_slice(b"!")?;
+    who.extend_from_slice(at.as_bytes())?;
+    Ok(who)
+}
+
+fn op_word(is_op: bool) -> &'static [u8] {
+    match is_op {
+        true => b" op ",
+        false => b" no op ",
+    }
+}
+
+// `quiet` is called with this text five seconds on, once.
+fn later(alloc: Global, text: &Text) -> Result<Actions, NoMemory> {
+    let wish = TimerWish {
+        interval: 5,
+        count: 1,
+        proc: Text::from_slice(alloc, b"quiet")?,
+        text: text.copy(alloc)?,
+    };
+    Actions::one(alloc, Action::Utimer(wish))
+}
+
+// It is not.
+fn never(alloc: Global, text: &Text) -> Result<Actions, NoMemory> {
+    let name = TimerName {
+        proc: Text::from_slice(alloc, b"quiet")?,
+        text: text.copy(alloc)?,
+    };
+    Actions::one(alloc, Action::KillTimer(name))
 }
 
 // The channel on which something was said, or the nick that said it privately.
@@ -145,6 +207,9 @@ pub fn counted_store(alloc: Global, runs: &Runs) -> Result<ProcStore<Ours, Built
     add(alloc, &mut store, b"adduser", Code::Zero, Wish::User, runs)?;
     add(alloc, &mut store, b"echo", Code::Zero, Wish::Echo, runs)?;
     add(alloc, &mut store, b"texts", Code::Zero, Wish::Texts, runs)?;
+    add(alloc, &mut store, b"look", Code::Zero, Wish::Look, runs)?;
+    add(alloc, &mut store, b"later", Code::Zero, Wish::Later, runs)?;
+    add(alloc, &mut store, b"never", Code::Zero, Wish::Never, runs)?;
     Ok(store)
 }
 
@@ -157,7 +222,7 @@ fn add(
     wish: Wish,
     runs: &Runs,
 ) -> Result<(), NoMemory>
-    requires { (call : Call) → code ≡ code_of name.now call }
+    requires { code ≡ code_of name.now }
 {
     let runs = Rc::clone(runs)?;
     let body = Built {

@@ -51,42 +51,42 @@ same_minute n a b one other =
 
 heard_as : (event : MessageEvent) (o : Occasion) → IsShown (heard_event event) o → o ≡ Heard event
 heard_as event (Heard e) is = ap (λ (x : MessageEvent). Heard x) is
-heard_as event (Due p) is = absurd is
+heard_as event (Due p t) is = absurd is
 heard_as event (Time m) is = absurd is
 heard_as event (Cron m) is = absurd is
 heard_as event (Said f t) is = absurd is
 
-due_as : (proc : List ℕ) (o : Occasion) → IsShown (due_proc proc) o → o ≡ Due proc
-due_as proc (Heard e) is = absurd is
-due_as proc (Due p) is = ap (λ (x : List ℕ). Due x) is
-due_as proc (Time m) is = absurd is
-due_as proc (Cron m) is = absurd is
-due_as proc (Said f t) is = absurd is
+due_as : (proc text : List ℕ) (o : Occasion) → IsShown (due_proc proc text) o → o ≡ Due proc text
+due_as proc text (Heard e) is = absurd is
+due_as proc text (Due p t) is = ap (λ (x : List ℕ). Due x t) is.0 ∙ ap (λ (x : List ℕ). Due proc x) is.1
+due_as proc text (Time m) is = absurd is
+due_as proc text (Cron m) is = absurd is
+due_as proc text (Said f t) is = absurd is
 
 time_as : (n : ℤ) (o : Occasion) → IsShown (time_minute n) o → (m : CivilMinute) × (o ≡ Time m) × IsCalendarMinute n m
 time_as n (Heard e) is = absurd is
-time_as n (Due p) is = absurd is
+time_as n (Due p t) is = absurd is
 time_as n (Time m) is = (m, refl, is)
 time_as n (Cron m) is = absurd is
 time_as n (Said f t) is = absurd is
 
 cron_as : (n : ℤ) (o : Occasion) → IsShown (cron_minute n) o → (m : CivilMinute) × (o ≡ Cron m) × IsCalendarMinute n m
 cron_as n (Heard e) is = absurd is
-cron_as n (Due p) is = absurd is
+cron_as n (Due p t) is = absurd is
 cron_as n (Time m) is = absurd is
 cron_as n (Cron m) is = (m, refl, is)
 cron_as n (Said f t) is = absurd is
 
 said_as : (from : ℕ) (text : List ℕ) (o : Occasion) → IsShown (said_text from text) o → o ≡ Said from text
 said_as from text (Heard e) is = absurd is
-said_as from text (Due p) is = absurd is
+said_as from text (Due p t) is = absurd is
 said_as from text (Time m) is = absurd is
 said_as from text (Cron m) is = absurd is
 said_as from text (Said f t) is = ap (λ (x : ℕ). Said x t) is.0 ∙ ap (λ (x : List ℕ). Said from x) is.1
 
 same_shown : (h : Happening) (x y : Occasion) → IsShown h x → IsShown h y → x ≡ y
 same_shown (heard_event event) x y one other = heard_as event x one ∙ sym (heard_as event y other)
-same_shown (due_proc proc) x y one other = due_as proc x one ∙ sym (due_as proc y other)
+same_shown (due_proc proc text) x y one other = due_as proc text x one ∙ sym (due_as proc text y other)
 same_shown (time_minute n) x y one other =
     let a = time_as n x one in let b = time_as n y other in
     a.1 ∙ ap (λ (m : CivilMinute). Time m) (same_minute n a.0 b.0 a.2 b.2) ∙ sym b.1

@@ -1,11 +1,10 @@
 -- What is reported of what calls procs, by the calls that were made.
-use Rattle.std.proofs.Common.{◌≡◌, ◌≢◌, ◌∙◌, ℕ, List, [], ◌++◌, Option, None, Result, Ok, Err, OnOk, OnErr, refl, ap, sym, subst}
+use Rattle.std.proofs.Common.{◌≡◌, ◌≢◌, ◌∙◌, ℕ, List, [], ◌++◌, Option, None, Some, Result, Ok, Err, OnOk, OnErr, refl, ap, sym, subst}
 use Rattle.std.specs.Prelude.{IsOk, IfOk}
 use Rattle.std.proofs.lemmas.List.{append-nil}
 use Rattle.std.proofs.lemmas.List.Elements.{filter_map-append}
-use Rattle.procstore.specs.declared.action.Action.{Action}
-use Rattle.procstore.specs.declared.call.Call.{Call}
-use Rattle.procstore.specs.declared.reply.Code.{Code}
+use Rattle.procstore.specs.Promises.{Promised}
+use Rattle.procstore.specs.Seen.{Seen}
 use Rattle.botcalls.specs.declared.made_call.MadeCall.{MadeCall}
 use Rattle.bytetext.specs.declared.memory.NoMemory.{NoMemory}
 use Rattle.outqueue.specs.Sending.{sent, after as after_sending}
@@ -14,7 +13,7 @@ use Rattle.botcore.specs.declared.report.Note.{Note}
 use Rattle.botcore.specs.declared.report.Report.{Report}
 use Rattle.bottimers.specs.Seconds.{seconds_run}
 use Rattle.botcalls.specs.declared.occasion.Occasion.{Occasion}
-use Rattle.botcore.specs.Bots.{Bot, bot_setting}
+use Rattle.botcore.specs.Bots.{Bot, bot_seen, bot_setting, seen_at}
 use Rattle.botcalls.specs.Calls.{Telling, called_in, calls_in}
 use Rattle.botcalls.specs.Dispatching.{told_of}
 use Rattle.botcore.specs.Happenings.{seconds_of}
@@ -25,11 +24,11 @@ use Rattle.botcore.specs.Steps.{IsCutShort, TakesCalls, TakesSeconds, run_to}
 use Rattle.botcore.specs.Shown.{AreOccasions, AreTaken}
 use Rattle.botcore.proofs.RunningLemmas.{AreFirst-all}
 
-module _ (code_of : List ℕ → Call → Code) (may : List ℕ → Call → List Action → Type 0) where
+module _ (promised : Promised) where
   -- the first calls were made
-  IsCutShort-front : (told : List Telling) (old new : Bot) (made : Made) → IsFrontMade code_of may made told → new ≡ old
-      → IsCutShort code_of may told old (cut_short made.calls) new
-  IsCutShort-front told old new made front same = record {
+  IsCutShort-front : (seen : Seen) (told : List Telling) (old new : Bot) (made : Made) → IsFrontMade promised seen made told → new ≡ old
+      → IsCutShort promised seen told old (cut_short made.calls) new
+  IsCutShort-front seen told old new made front same = record {
     rest = calls_in front.1;
     calls = ap (λ es. es ++ calls_in front.1) front.3.calls ∙ sym (ap calls_in front.2 ∙ filter_map-append called_in front.0 front.1);
     kept = front.3.kept;
@@ -43,29 +42,29 @@ module _ (code_of : List ℕ → Call → Code) (may : List ℕ → Call → Lis
 
   -- a report of the first calls
   pub cut_short-takes : (told : List Telling) (old new start : Bot) (came : Option Note) (finish : List MadeCall → Finish) (made : Made) (calls : List MadeCall)
-      (report : Report) → IsFrontMade code_of may made told → calls ≡ made.calls → new ≡ old → report ≡ cut_short calls
-      → TakesCalls report.end code_of may told old start came finish report new
+      (report : Report) → IsFrontMade promised (bot_seen start) made told → calls ≡ made.calls → new ≡ old → report ≡ cut_short calls
+      → TakesCalls report.end promised told old start came finish report new
   cut_short-takes told old new start came finish made calls report front same_calls same told_as =
-      subst (λ (r : Report). TakesCalls r.end code_of may told old start came finish r new)
+      subst (λ (r : Report). TakesCalls r.end promised told old start came finish r new)
       (sym (told_as ∙ ap cut_short same_calls))
-      (IsCutShort-front told old new made front same)
+      (IsCutShort-front (bot_seen start) told old new made front same)
 
   -- the seconds of a reading, of which the first calls were made
   pub cut_short-seconds : (names : List (List ℕ)) (old new : Bot) (now : ℕ) (occasions : List Occasion) (made : Made) (calls : List MadeCall) (report : Report)
       → AreOccasions (seconds_of old.config.zone old.timers (seconds_run old.clock now)) occasions
-      → IsFrontMade code_of may made (told_of (bot_setting code_of names old) occasions) → calls ≡ made.calls → new ≡ old → report ≡ cut_short calls
-      → TakesSeconds code_of may names old now report new
+      → IsFrontMade promised (seen_at old (Some now)) made (told_of (bot_setting promised names old) occasions) → calls ≡ made.calls → new ≡ old → report ≡ cut_short calls
+      → TakesSeconds promised names old now report new
   cut_short-seconds names old new now occasions made calls report all front same_calls same reported = (
     occasions,
     subst (λ (r : Report). AreTaken r.end (seconds_of old.config.zone old.timers (seconds_run old.clock now)) occasions) (sym reported)
         (AreFirst-all (seconds_of old.config.zone old.timers (seconds_run old.clock now)) occasions all),
-    cut_short-takes (told_of (bot_setting code_of names old) occasions) old new (run_to old now) None (finish_reading (run_to old now) now) made calls report
+    cut_short-takes (told_of (bot_setting promised names old) occasions) old new (run_to old now) None (finish_reading (run_to old now) now) made calls report
         front same_calls same reported,
   )
 
   -- all is the first of it
-  pub front_all : (made : Made) (told : List Telling) → IsMade code_of may made told → IsFrontMade code_of may made told
-  front_all made told is = (told, [], sym (append-nil told), is)
+  pub front_all : (seen : Seen) (made : Made) (told : List Telling) → IsMade promised seen made told → IsFrontMade promised seen made told
+  front_all seen made told is = (told, [], sym (append-nil told), is)
 
   -- the seconds of a reading that bring nothing: the lines that may go are sent, or memory runs out for them
   pub quiet_takes : (names : List (List ℕ)) (old new : Bot) (now : ℕ) (lines : Result (List (List ℕ)) NoMemory) (report : Report)
@@ -73,9 +72,9 @@ module _ (code_of : List ℕ → Call → Code) (may : List ℕ → Call → Lis
       → IfOk lines (λ ls. report ≡ told_as None [] [] ls []) → OnErr lines (report ≡ cut_short [])
       → IfOk lines (λ ls. ls ≡ sent old.queues now)
       → OnOk lines (new ≡ record (run_to old now) { queues = after_sending old.queues now }) → OnErr lines (new ≡ old)
-      → TakesSeconds code_of may names old now report new
+      → TakesSeconds promised names old now report new
   quiet_takes names old new now (Ok ls) report none said lacks goes ok err =
-      subst (λ (r : Report). TakesSeconds code_of may names old now r new) (sym said) (
+      subst (λ (r : Report). TakesSeconds promised names old now r new) (sym said) (
         [],
         subst (λ hs. AreOccasions hs []) (sym none) tt,
         record {
@@ -90,7 +89,7 @@ module _ (code_of : List ℕ → Call → Code) (may : List ℕ → Call → Lis
         },
       )
   quiet_takes names old new now (Err e) report none said lacks goes ok err =
-      subst (λ (r : Report). TakesSeconds code_of may names old now r new) (sym lacks) (
+      subst (λ (r : Report). TakesSeconds promised names old now r new) (sym lacks) (
         [],
         tt,
         record {

@@ -5,13 +5,13 @@ use Rattle.bytetext.specs.declared.failure.Failure.TheVariants.{Refused as refus
 use Rattle.bottimers.specs.declared.fault.ClockFault.{ClockFault}
 use Rattle.bottimers.specs.declared.timer.Timer.{Timer}
 use Rattle.bottimers.specs.declared.timer.TimerKind.TheVariants.{Minutes, Seconds}
-use Rattle.bottimers.specs.Held.{add_fault, holds}
+use Rattle.bottimers.specs.Held.{add_fault, holds_named}
 use Rattle.bottimers.specs.Seconds.{reading_fault}
 use Rattle.procstore.specs.declared.action.Action.{Action}
+use Rattle.procstore.specs.Promises.{Promised}
 use Rattle.procstore.specs.declared.action.Action.TheVariants.{Ask, Timer as timer_wished, Utimer, KillTimer, SendBot, Put}
 use Rattle.procstore.specs.declared.action.PutWish.{PutWish}
-use Rattle.procstore.specs.declared.call.Call.{Call}
-use Rattle.procstore.specs.declared.reply.Code.{Code}
+use Rattle.procstore.specs.declared.action.TimerName.{TimerName}
 use Rattle.ircline.specs.declared.line.Line.{Line as ReadLine}
 use Rattle.ircline.specs.declared.line.Line.TheVariants.{Message as a_message, Bad as a_bad_line}
 use Rattle.ircline.specs.declared.message.Message.{Message}
@@ -106,9 +106,9 @@ timer_good : (acting : Acting) (timer : Timer) (fault : Option ClockFault) → A
 timer_good acting timer None good = good
 timer_good acting timer (Some fault) good = good
 
-kill_good : (acting : Acting) (id : ℕ) (held : Bool) → AreGood acting.sent → AreGood (killed_if held acting id).after.sent
-kill_good acting id true good = good
-kill_good acting id false good = good
+kill_good : (acting : Acting) (name : TimerName) (held : Bool) → AreGood acting.sent → AreGood (killed_if held acting name).after.sent
+kill_good acting name true good = good
+kill_good acting name false good = good
 
 put_good : (acting : Acting) (wish : PutWish) (fault : Option QueueFault) → AreGood acting.sent → AreGood (put_unless fault acting wish).after.sent
 put_good acting wish None good = good
@@ -129,7 +129,7 @@ act_good acting (Ask change) good = ask_good acting (asked acting.link change).a
 act_good acting (timer_wished wish) good =
     timer_good acting (timer_of acting Minutes wish) (add_fault acting.timers wish.interval acting.last) good
 act_good acting (Utimer wish) good = timer_good acting (timer_of acting Seconds wish) (add_fault acting.timers wish.interval acting.last) good
-act_good acting (KillTimer id) good = kill_good acting id (holds acting.timers id) good
+act_good acting (KillTimer name) good = kill_good acting name (holds_named acting.timers name.proc name.text) good
 act_good acting (SendBot wish) good =
     send_good acting (told acting.link wish.to wish.text).sends (told acting.link wish.to wish.text).told
     (told_good acting.link.leaves acting.link.number acting.link.end wish.to wish.text) good
@@ -140,23 +140,23 @@ acts_good acting [] good = good
 acts_good acting (a ∷ actions) good = acts_good (acted acting a).after actions (act_good acting a good)
 
 -- whatever is called, its packets are good
-pub calls_good : (code_of : List ℕ → Call → Code) (may : List ℕ → Call → List Action → Type 0) (told : List Telling) (old start : Bot)
+pub calls_good : (promised : Promised) (told : List Telling) (old start : Bot)
     (came : Option Note) (finish : List MadeCall → Finish) (report : Report) (new : Bot) (end : End)
-    → TakesCalls end code_of may told old start came finish report new → AreGood report.packets
-calls_good code_of may told old start came finish report new Done c =
+    → TakesCalls end promised told old start came finish report new → AreGood report.packets
+calls_good promised told old start came finish report new Done c =
     subst AreGood (sym c.packets) (acts_good (acting_of start) (actions_of report.calls) tt)
-calls_good code_of may told old start came finish report new (Refused why) c = absurd c
-calls_good code_of may told old start came finish report new NoMemory c = subst AreGood (sym c.packets) tt
+calls_good promised told old start came finish report new (Refused why) c = absurd c
+calls_good promised told old start came finish report new NoMemory c = subst AreGood (sym c.packets) tt
 
-module _ (code_of : List ℕ → Call → Code) (may : List ℕ → Call → List Action → Type 0) (names : List (List ℕ)) (old : Bot) where
-  pub text_good_told : (saying : Saying) (report : Report) (new : Bot) → TakesText code_of may names old saying report new → AreGood report.packets
+module _ (promised : Promised) (names : List (List ℕ)) (old : Bot) where
+  pub text_good_told : (saying : Saying) (report : Report) (new : Bot) → TakesText promised names old saying report new → AreGood report.packets
   text_good_told saying report new c =
-      calls_good code_of may (told_of (bot_setting code_of names old) (said_occasions saying)) old old (Some (text_note saying)) (finish_text old)
+      calls_good promised (told_of (bot_setting promised names old) (said_occasions saying)) old old (Some (text_note saying)) (finish_text old)
       report new report.end c
 
   -- so where a packet may bring a text
   pub packet_good : (answer : Answer) (report : Report) (new : Bot) → AreGood answer.packets
-      → ((saying : Saying) → saying_in (note_of answer.note) ≡ Some saying → TakesText code_of may names old saying report new)
+      → ((saying : Saying) → saying_in (note_of answer.note) ≡ Some saying → TakesText promised names old saying report new)
       → (saying_in (note_of answer.note) ≡ None → report ≡ answer_report (Ok answer)) → AreGood report.packets
   packet_good answer report new good texts reports = by (saying_in (note_of answer.note)) refl
     where
@@ -165,25 +165,25 @@ module _ (code_of : List ℕ → Call → Code) (may : List ℕ → Call → Lis
       by (Some saying) e = text_good_told saying report new (texts saying e)
 
   -- so a message of the server, and any line
-  pub message_good : (message : Message) (report : Report) (new : Bot) → TakesMessage code_of may names old message report new → AreGood report.packets
+  pub message_good : (message : Message) (report : Report) (new : Bot) → TakesMessage promised names old message report new → AreGood report.packets
   message_good message report new c =
-      calls_good code_of may (message_told code_of names old message) old old None (finish_line old message) report new report.end c
+      calls_good promised (message_told promised names old message) old old None (finish_line old message) report new report.end c
 
-  pub line_good : (line : ReadLine) (report : Report) (new : Bot) → TakesStep code_of may names old (Line line) report new → AreGood report.packets
+  pub line_good : (line : ReadLine) (report : Report) (new : Bot) → TakesStep promised names old (Line line) report new → AreGood report.packets
   line_good (a_message message) report new c = message_good message report new c
   line_good (a_bad_line fault) report new c = subst (λ (r : Report). AreGood r.packets) (sym c.0) tt
 
   -- so a reading of the clock
-  moment_good : (stale : Bool) (now : ℕ) (report : Report) (new : Bot) → TakesMoment stale code_of may names old now report new → AreGood report.packets
+  moment_good : (stale : Bool) (now : ℕ) (report : Report) (new : Bot) → TakesMoment stale promised names old now report new → AreGood report.packets
   moment_good true now report new c = subst (λ (r : Report). AreGood r.packets) (sym c.0) tt
   moment_good false now report new c =
-      calls_good code_of may (told_of (bot_setting code_of names old) c.0) old (run_to old now) None (finish_reading (run_to old now) now)
+      calls_good promised (told_of (bot_setting promised names old) c.0) old (run_to old now) None (finish_reading (run_to old now) now)
       report new report.end c.2
 
-  reading_good : (fault : Option ClockFault) (now : ℕ) (report : Report) (new : Bot) → TakesReading fault code_of may names old now report new
+  reading_good : (fault : Option ClockFault) (now : ℕ) (report : Report) (new : Bot) → TakesReading fault promised names old now report new
       → AreGood report.packets
   reading_good (Some fault) now report new c = subst (λ (r : Report). AreGood r.packets) (sym c.0) tt
   reading_good None now report new c = moment_good (is_stale old.clock now) now report new c
 
-  pub clock_good : (now : ℕ) (report : Report) (new : Bot) → TakesStep code_of may names old (Clock now) report new → AreGood report.packets
+  pub clock_good : (now : ℕ) (report : Report) (new : Bot) → TakesStep promised names old (Clock now) report new → AreGood report.packets
   clock_good now report new c = reading_good (reading_fault now) now report new c

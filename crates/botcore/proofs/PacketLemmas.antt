@@ -2,9 +2,7 @@
 use Rattle.std.proofs.Common.{◌≡◌, ◌∙◌, ℕ, List, Option, Some, None, Result, Ok, Err, refl, ap, sym, subst}
 use Rattle.bytetext.specs.declared.failure.Failure.{Failure}
 use Rattle.bytetext.specs.declared.failure.Failure.TheVariants.{Refused, NoMemory}
-use Rattle.procstore.specs.declared.action.Action.{Action}
-use Rattle.procstore.specs.declared.call.Call.{Call}
-use Rattle.procstore.specs.declared.reply.Code.{Code}
+use Rattle.procstore.specs.Promises.{Promised}
 use Rattle.sharewire.specs.declared.packet.Packet.{Packet}
 use Rattle.protocol.specs.Notes.{Note as Meaning, LinkFault as Meant}
 use Rattle.protocol.specs.Packets.{from_wire}
@@ -47,27 +45,27 @@ refused_silent said why saying is some =
     let none : saying_of said ≡ None = ap saying_of is in
     let different : None ≡ Some saying = sym none ∙ some in cc
 
-module _ (code_of : List ℕ → Call → Code) (may : List ℕ → Call → List Action → Type 0) (names : List (List ℕ)) where
+module _ (promised : Promised) (names : List (List ℕ)) where
   -- the link has answered
   pub answered : (old : Bot) (link : BotEnd) (new : Bot) (packet : Packet) (answer : Answer) (report : Report)
       → Calls old.link (took old.link packet) (Ok answer) link
       → ((saying : Saying) → saying_in (note_of answer.note) ≡ Some saying
-      → TakesText code_of may names (record old { link = link }) saying report new)
+      → TakesText promised names (record old { link = link }) saying report new)
       → (saying_in (note_of answer.note) ≡ None → report ≡ answer_report (Ok answer))
       → (saying_in (note_of answer.note) ≡ None → new ≡ record old { link = link })
-      → TakesPacket (saying_of (took old.link packet Works).told) code_of may names old packet report new
+      → TakesPacket (saying_of (took old.link packet Works).told) promised names old packet report new
   answered old link new packet answer report calls texts reports stays =
-      subst (λ (s : Option Saying). TakesPacket s code_of may names old packet report new) (sym told)
+      subst (λ (s : Option Saying). TakesPacket s promised names old packet report new) (sym told)
       (by (saying_in (note_of answer.note)) refl)
     where
       told : saying_of (took old.link packet Works).told ≡ saying_in (note_of answer.note)
       told = ap saying_of calls.row.told
 
-      by : (s : Option Saying) → saying_in (note_of answer.note) ≡ s → TakesPacket s code_of may names old packet report new
+      by : (s : Option Saying) → saying_in (note_of answer.note) ≡ s → TakesPacket s promised names old packet report new
       by (Some saying) e = (
         link.device,
         calls.moments,
-        subst (λ (l : BotEnd). TakesText code_of may names (record old { link = l }) saying report new)
+        subst (λ (l : BotEnd). TakesText promised names (record old { link = l }) saying report new)
             (text_leaves old.link link packet answer saying calls (told ∙ e)) (texts saying e),
       )
       by None e = record {
@@ -91,10 +89,10 @@ module _ (code_of : List ℕ → Call → Code) (may : List ℕ → Call → Lis
   -- the link has refused, or memory ran out
   pub failed : (old new : Bot) (link : BotEnd) (packet : Packet) (why : Failure LinkFault) (report : Report)
       → Calls old.link (took old.link packet) (Err why) link → new ≡ record old { link = link } → report ≡ answer_report (Err why)
-      → TakesPacket (saying_of (took old.link packet Works).told) code_of may names old packet report new
+      → TakesPacket (saying_of (took old.link packet Works).told) promised names old packet report new
   failed old new link packet (Refused fault) report calls after reported = by (saying_of (took old.link packet Works).told) refl
     where
-      by : (s : Option Saying) → saying_of (took old.link packet Works).told ≡ s → TakesPacket s code_of may names old packet report new
+      by : (s : Option Saying) → saying_of (took old.link packet Works).told ≡ s → TakesPacket s promised names old packet report new
       by None e = GivesRow-err old new link packet (Refused fault) report calls after reported
       by (Some saying) e =
           let same = (end_text old.link.leaves old.link.number old.link.end (from_wire packet) saying e).1 (how_of fault) in
@@ -106,13 +104,13 @@ module _ (code_of : List ℕ → Call → Code) (may : List ℕ → Call → Lis
       same : new ≡ with_device old link.device
       same = after ∙ ap (λ (l : BotEnd). record old { link = l }) (link_is old.link link calls.number calls.leaves calls.row.1)
 
-      by : (s : Option Saying) → TakesPacket s code_of may names old packet report new
+      by : (s : Option Saying) → TakesPacket s promised names old packet report new
       by None = GivesRow-err old new link packet NoMemory report calls after reported
       by (Some saying) = (
         link.device,
         calls.moments,
-        subst (λ (r : Report). TakesText code_of may names (with_device old link.device) saying r new) (sym reported) (record {
-          rest = calls_in (told_of (bot_setting code_of names (with_device old link.device)) (said_occasions saying));
+        subst (λ (r : Report). TakesText promised names (with_device old link.device) saying r new) (sym reported) (record {
+          rest = calls_in (told_of (bot_setting promised names (with_device old link.device)) (said_occasions saying));
           calls = refl;
           kept = tt;
           note = refl;

@@ -4,10 +4,11 @@ use Rattle.bottimers.specs.declared.fault.ClockFault.{ClockFault}
 use Rattle.bottimers.specs.declared.timer.Timer.{Timer}
 use Rattle.bottimers.specs.declared.timer.TimerKind.{TimerKind}
 use Rattle.bottimers.specs.declared.timer.TimerKind.TheVariants.{Minutes, Seconds}
-use Rattle.bottimers.specs.Held.{add_fault, holds}
+use Rattle.bottimers.specs.Held.{add_fault, holds_named}
 use Rattle.procstore.specs.declared.action.Action.{Action}
 use Rattle.procstore.specs.declared.action.Action.TheVariants.{Ask, Timer as timer_wished, Utimer, KillTimer, SendBot, Put}
 use Rattle.procstore.specs.declared.action.PutWish.{PutWish}
+use Rattle.procstore.specs.declared.action.TimerName.{TimerName}
 use Rattle.procstore.specs.declared.action.TimerWish.{TimerWish}
 use Rattle.outqueue.specs.declared.fault.QueueFault.{QueueFault}
 use Rattle.outqueue.specs.Refusals.{refusal}
@@ -38,9 +39,9 @@ timer_keeps kind a wish reached =
     by None none = cc
     by (Some t) none = omega arith
 
-killed_keeps : (held : Bool) (a : Acting) (id : ℕ) → IsReached a.timers.last a.last → Keeps a (killed_if held a id).after
-killed_keeps true a id reached = (refl, reached)
-killed_keeps false a id reached = (refl, reached)
+killed_keeps : (held : Bool) (a : Acting) (name : TimerName) → IsReached a.timers.last a.last → Keeps a (killed_if held a name).after
+killed_keeps true a name reached = (refl, reached)
+killed_keeps false a name reached = (refl, reached)
 
 asked_keeps : (said : Result Meaning Meant) (a : Acting) (after : End) → IsReached a.timers.last a.last → Keeps a (asked_if said a after).after
 asked_keeps (Ok note) a after reached = (refl, reached)
@@ -58,7 +59,7 @@ acted_keeps : (a : Acting) (x : Action) → IsReached a.timers.last a.last → K
 acted_keeps a (Ask change) reached = asked_keeps (asked a.link change).told a (asked a.link change).after reached
 acted_keeps a (timer_wished wish) reached = timer_keeps Minutes a wish reached
 acted_keeps a (Utimer wish) reached = timer_keeps Seconds a wish reached
-acted_keeps a (KillTimer id) reached = killed_keeps (holds a.timers id) a id reached
+acted_keeps a (KillTimer name) reached = killed_keeps (holds_named a.timers name.proc name.text) a name reached
 acted_keeps a (SendBot wish) reached = sent_keeps (link_text a.link wish.to wish.text (length a.sent)) a reached
 acted_keeps a (Put wish) reached = put_keeps (refusal a.queues wish.queue wish.line) a wish reached
 

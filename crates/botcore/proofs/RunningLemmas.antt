@@ -5,6 +5,7 @@ use Rattle.std.proofs.Math.Nat.{le-max_left, max-le, max-eq_right}
 use Rattle.std.proofs.lemmas.Bool.Decides.{nat_tests}
 use Rattle.std.specs.List.{range_with_len}
 use Rattle.bytetext.specs.declared.moment.TheConstants.{MOMENTS_END}
+use Rattle.bottimers.specs.declared.call.TimerCall.{TimerCall}
 use Rattle.bottimers.specs.Held.{Held, IsAbove, passed}
 use Rattle.bottimers.specs.Seconds.{seconds_run, last_after}
 use Rattle.bottimers.specs.Zones.{TzText}
@@ -34,9 +35,9 @@ AreFirst-all (h ∷ hs) [] all = absurd all
 AreFirst-all (h ∷ hs) (o ∷ os) all = (all.0, AreFirst-all hs os all.1)
 
 -- due timers
-pub due_occasions : (calls : List (ℕ × List ℕ)) → AreOccasions (map (λ c. Due c.1) calls) (map (λ c. due_occasion c.1) calls)
+pub due_occasions : (calls : List TimerCall) → AreOccasions (map (λ c. Due c.proc c.text) calls) (map (λ c. due_occasion c.proc c.text) calls)
 due_occasions [] = tt
-due_occasions (c ∷ cs) = (refl, due_occasions cs)
+due_occasions (c ∷ cs) = ((refl, refl), due_occasions cs)
 
 -- ---- seconds
 

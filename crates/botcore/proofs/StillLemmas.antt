@@ -3,6 +3,7 @@ use Rattle.std.proofs.Common.{◌≡◌, ◌∙◌, ℕ, suc, ◌+◌, ◌-◌, 
 use Rattle.std.proofs.lemmas.Bool.Decides.{nat_tests}
 use Rattle.std.specs.Prelude.{IfSome}
 use Rattle.std.specs.List.{list_all, list_any, range_with_len}
+use Rattle.bottimers.specs.declared.call.TimerCall.{TimerCall}
 use Rattle.bottimers.specs.declared.timer.Timer.{Timer}
 use Rattle.bottimers.specs.declared.timer.TimerKind.{TimerKind}
 use Rattle.bottimers.specs.declared.timer.TimerKind.TheVariants.{Minutes, Seconds}
@@ -103,7 +104,7 @@ all_left q timers (t ∷ ts) all =
 
 second_none : (zone : TzText) (t : ℕ) (timers : Held) → is_still timers.timers t ≡ true → second_of zone t timers ≡ []
 second_none zone t timers still =
-    ap (λ (cs : List (ℕ × List ℕ)). map (λ c. Due c.1) cs ++ minute_of zone t) (calls_none t timers (none_due timers.timers t still))
+    ap (λ (cs : List TimerCall). map (λ c. Due c.proc c.text) cs ++ minute_of zone t) (calls_none t timers (none_due timers.timers t still))
     ∙ ap (λ b. if b then Time (minute_at zone t) ∷ Cron (minute_at zone t) ∷ [] else []) (no_minute timers.timers t still)
 
 pub seconds_none : (zone : TzText) (timers : Held) (ts : List ℕ) → list_all (is_still timers.timers) ts ≡ true → seconds_of zone timers ts ≡ []

@@ -6,13 +6,14 @@ use Rattle.bottimers.specs.declared.fault.ClockFault.TheVariants.{NoSuchTimer}
 use Rattle.bottimers.specs.declared.timer.Timer.{Timer}
 use Rattle.bottimers.specs.declared.timer.TimerKind.{TimerKind}
 use Rattle.bottimers.specs.declared.timer.TimerKind.TheVariants.{Minutes, Seconds}
-use Rattle.bottimers.specs.Held.{Held, add_fault, with_timer, holds, without}
+use Rattle.bottimers.specs.Held.{Held, add_fault, with_timer, holds_named, without_named}
 use Rattle.procstore.specs.declared.action.Action.{Action}
 use Rattle.outqueue.specs.declared.fault.QueueFault.{QueueFault}
 use Rattle.outqueue.specs.Refusals.{refusal, put_last}
 use Rattle.outqueue.specs.Sending.{Sending}
 use Rattle.procstore.specs.declared.action.Action.TheVariants.{Ask, Timer as timer_wished, Utimer, KillTimer, SendBot, Put}
 use Rattle.procstore.specs.declared.action.PutWish.{PutWish}
+use Rattle.procstore.specs.declared.action.TimerName.{TimerName}
 use Rattle.procstore.specs.declared.action.TimerWish.{TimerWish}
 use Rattle.linkcalls.specs.declared.answer.Outgoing.{Outgoing}
 use Rattle.linkcalls.specs.declared.error.LinkFault.{LinkFault}
@@ -68,6 +69,7 @@ timer_of old kind wish =
       interval = wish.interval;
       count = wish.count;
       proc = wish.proc;
+      text = wish.text;
     }
 
 abbrev pub made_unless : Option ClockFault → Acting → Timer → Acted
@@ -77,10 +79,10 @@ made_unless None old timer = done_to (record old { timers = with_timer old.timer
 abbrev pub timer_made : TimerKind → Acting → TimerWish → Acted
 timer_made kind old wish = made_unless (add_fault old.timers wish.interval old.last) old (timer_of old kind wish)
 
--- a timer is taken away, if it is held
-abbrev pub killed_if : Bool → Acting → ℕ → Acted
-killed_if true old id = done_to (record old { timers = without old.timers id })
-killed_if false old id = refused_to old (clock_fault NoSuchTimer)
+-- the oldest timer of a proc and text is taken away, if one is held
+abbrev pub killed_if : Bool → Acting → TimerName → Acted
+killed_if true old name = done_to (record old { timers = without_named old.timers name.proc name.text })
+killed_if false old name = refused_to old (clock_fault NoSuchTimer)
 
 -- a text goes out after those that went out so far
 abbrev pub sent_if : Result (List Outgoing) LinkFault → Acting → Acted
@@ -96,7 +98,7 @@ abbrev pub acted : Acting → Action → Acted
 acted old (Ask change) = asked_to old (asked old.link change)
 acted old (timer_wished wish) = timer_made Minutes old wish
 acted old (Utimer wish) = timer_made Seconds old wish
-acted old (KillTimer id) = killed_if (holds old.timers id) old id
+acted old (KillTimer name) = killed_if (holds_named old.timers name.proc name.text) old name
 acted old (SendBot wish) = sent_if (link_text old.link wish.to wish.text (length old.sent)) old
 acted old (Put wish) = put_unless (refusal old.queues wish.queue wish.line) old wish
 

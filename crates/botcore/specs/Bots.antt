@@ -6,8 +6,8 @@ use Rattle.botlink.specs.Links.{BotEnd, new_bot_end}
 use Rattle.chanstate.specs.declared.state.ChanState.{ChanState}
 use Rattle.chanstate.specs.Views.{connected}
 use Rattle.outqueue.specs.Sending.{Sending, idle}
-use Rattle.procstore.specs.declared.call.Call.{Call}
-use Rattle.procstore.specs.declared.reply.Code.{Code}
+use Rattle.procstore.specs.Promises.{Promised, code_at}
+use Rattle.procstore.specs.Seen.{Sight, Seen}
 use Rattle.bindtable.specs.Tables.{Table, no_binds}
 use Rattle.botcore.specs.declared.config.Config.{Config}
 use Rattle.botcalls.specs.Dispatching.{Setting}
@@ -55,6 +55,20 @@ restarted old link = record (begun old.config link) { binds = old.binds }
 abbrev pub with_device : Bot → Device → Bot
 with_device bot device = record bot { link = record bot.link { device = device } }
 
+-- ---- what its procs see
+
+abbrev pub bot_sight : Bot → Sight
+bot_sight bot = record { records = link_records bot.link; channels = bot.channels }
+
+-- at this second
+abbrev pub seen_at : Bot → Option ℕ → Seen
+seen_at bot second = record { sight = bot_sight bot; second = second }
+
+-- at the last second of its clock
+abbrev pub bot_seen : Bot → Seen
+bot_seen bot = seen_at bot bot.clock
+
 -- what the calls of a bot depend on, with a store of these names
-abbrev pub bot_setting : (List ℕ → Call → Code) → List (List ℕ) → Bot → Setting
-bot_setting code_of names bot = setting_of code_of names (link_records bot.link).users bot.binds.binds bot.config.exclusive
+abbrev pub bot_setting : Promised → List (List ℕ) → Bot → Setting
+bot_setting promised names bot =
+    setting_of (code_at promised (bot_sight bot)) names (link_records bot.link).users bot.binds.binds bot.config.exclusive

@@ -19,8 +19,8 @@ use Rattle.botcore.specs.Bots.{Bot}
 pub data Happening : Type 0 where
   -- an event of a message
   Heard : (event : MessageEvent) → Happening
-  -- a timer of this proc is due
-  Due : (proc : List ℕ) → Happening
+  -- a timer of this proc and text is due
+  Due : (proc text : List ℕ) → Happening
   -- a minute begins, by its number from the start of 1970 on the bot's clock: once for time binds and once for cron binds
   Time : (minute : ℤ) → Happening
   Cron : (minute : ℤ) → Happening
@@ -59,7 +59,7 @@ minute_of zone t = if t % 60 == 0 then Time (minute_at zone t) ∷ Cron (minute_
 
 -- what a second brings: the timers that are due, and its minute where it begins one
 abbrev pub second_of : TzText → ℕ → Held → List Happening
-second_of zone t timers = map (λ c. Due c.1) (calls_at t timers) ++ minute_of zone t
+second_of zone t timers = map (λ c. Due c.proc c.text) (calls_at t timers) ++ minute_of zone t
 
 -- what seconds bring, one after another
 abbrev pub seconds_of : TzText → Held → List ℕ → List Happening

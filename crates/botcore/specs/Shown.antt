@@ -11,7 +11,7 @@ use Rattle.botcore.specs.Happenings.Happening.{Heard as heard_event, Due as due_
 -- the same, where a minute is the one of its number
 abbrev pub IsShown : Happening → Occasion → Type 0
 IsShown (heard_event event) (Heard e) = e ≡ event
-IsShown (due_proc proc) (Due p) = p ≡ proc
+IsShown (due_proc proc text) (Due p t) = (p ≡ proc) × (t ≡ text)
 IsShown (time_minute number) (Time minute) = IsCalendarMinute number minute
 IsShown (cron_minute number) (Cron minute) = IsCalendarMinute number minute
 IsShown (said_text from text) (Said f t) = (f ≡ from) × (t ≡ text)

@@ -8,9 +8,8 @@ use Rattle.chanstate.specs.Speech.{first_word}
 use Rattle.chanstate.specs.Views.{connected}
 use Rattle.bottimers.specs.declared.fault.ClockFault.{ClockFault}
 use Rattle.bottimers.specs.Seconds.{reading_fault, seconds_run}
-use Rattle.procstore.specs.declared.action.Action.{Action}
-use Rattle.procstore.specs.declared.call.Call.{Call}
-use Rattle.procstore.specs.declared.reply.Code.{Code}
+use Rattle.procstore.specs.Promises.{Promised}
+use Rattle.procstore.specs.Seen.{Seen}
 use Rattle.bindtable.specs.declared.bind.Bind.{Bind as HeldBind}
 use Rattle.bindtable.specs.declared.fault.BindFault.{BindFault}
 use Rattle.bindtable.specs.declared.fault.BindFault.TheVariants.{NoSuchBind}
@@ -39,7 +38,7 @@ use Rattle.botcalls.specs.declared.occasion.Occasion.TheVariants.{Heard, Said}
 use Rattle.botcore.specs.declared.report.Note.{Note}
 use Rattle.botcore.specs.declared.report.Note.TheVariants.{Link as link_note, Bound, Unbound, Bad}
 use Rattle.botcore.specs.declared.report.Report.{Report}
-use Rattle.botcore.specs.Bots.{Bot, bot_setting, restarted, with_device}
+use Rattle.botcore.specs.Bots.{Bot, bot_seen, bot_setting, restarted, with_device}
 use Rattle.botcalls.specs.Calls.{Entry, Telling, calls_in, unbound_in}
 use Rattle.botcalls.specs.Dispatching.{told_of, is_logged}
 use Rattle.botcore.specs.Acting.{faults_of}
@@ -134,12 +133,12 @@ GivesRestart old report new = GivesCall (CallsRestart old.link) (after_restart o
 
 -- ---- events that call procs
 
--- All these calls were made, each answered by its proc, and what they ask for was done, from the bot `start` on; `finish` makes
--- what the event leaves of that.
-pub record IsCalled (code_of : List ℕ → Call → Code) (may : List ℕ → Call → List Action → Type 0) (told : List Telling)
+-- All these calls were made, each answered by its proc, which saw the bot `start`, and what they ask for was done, from that bot
+-- on; `finish` makes what the event leaves of that.
+pub record IsCalled (promised : Promised) (told : List Telling)
     (start : Bot) (came : Option Note) (finish : List MadeCall → Finish) (report : Report) (new : Bot) : Type 0 where
   pub calls : map entry_of report.calls ≡ calls_in told
-  pub kept : AllKept code_of may report.calls
+  pub kept : AllKept promised (bot_seen start) report.calls
   pub note : report.note ≡ came
   pub packets : report.packets ≡ (acting_after start report.calls).sent
   pub lines : report.lines ≡ (finish report.calls).lines
@@ -148,11 +147,10 @@ pub record IsCalled (code_of : List ℕ → Call → Code) (may : List ℕ → C
   pub after : new ≡ (finish report.calls).after
 
 -- the first of these calls were made before memory ran out, and the bot is as it was
-pub record IsCutShort (code_of : List ℕ → Call → Code) (may : List ℕ → Call → List Action → Type 0)
-    (told : List Telling) (old : Bot) (report : Report) (new : Bot) : Type 0 where
+pub record IsCutShort (promised : Promised) (seen : Seen) (told : List Telling) (old : Bot) (report : Report) (new : Bot) : Type 0 where
   pub rest : List Entry
   pub calls : map entry_of report.calls ++ rest ≡ calls_in told
-  pub kept : AllKept code_of may report.calls
+  pub kept : AllKept promised seen report.calls
   pub note : report.note ≡ None
   pub packets : report.packets ≡ []
   pub lines : report.lines ≡ []
@@ -161,20 +159,20 @@ pub record IsCutShort (code_of : List ℕ → Call → Code) (may : List ℕ →
   pub after : new ≡ old
 
 -- what calls procs is never refused
-abbrev pub TakesCalls : End → (List ℕ → Call → Code) → (List ℕ → Call → List Action → Type 0) → List Telling → Bot
+abbrev pub TakesCalls : End → Promised → List Telling → Bot
     → Bot → Option Note → (List MadeCall → Finish) → Report → Bot → Type 0
-TakesCalls Done code_of may told old start came finish report new = IsCalled code_of may told start came finish report new
-TakesCalls (Refused why) code_of may told old start came finish report new = ⊥
-TakesCalls NoMemory code_of may told old start came finish report new = IsCutShort code_of may told old report new
+TakesCalls Done promised told old start came finish report new = IsCalled promised told start came finish report new
+TakesCalls (Refused why) promised told old start came finish report new = ⊥
+TakesCalls NoMemory promised told old start came finish report new = IsCutShort promised (bot_seen start) told old report new
 
 -- a message: its events call procs, their actions are done, it is taken into the channel state, and the bot's own lines are put
-abbrev pub message_told : (List ℕ → Call → Code) → List (List ℕ) → Bot → Message → List Telling
-message_told code_of names bot message = told_of (bot_setting code_of names bot) (map Heard (events_of message bot.channels))
+abbrev pub message_told : Promised → List (List ℕ) → Bot → Message → List Telling
+message_told promised names bot message = told_of (bot_setting promised names bot) (map Heard (events_of message bot.channels))
 
-abbrev pub TakesMessage : (List ℕ → Call → Code) → (List ℕ → Call → List Action → Type 0) → List (List ℕ)
+abbrev pub TakesMessage : Promised → List (List ℕ)
     → Bot → Message → Report → Bot → Type 0
-TakesMessage code_of may names old message report new =
-    TakesCalls report.end code_of may (message_told code_of names old message) old old None (finish_line old message) report new
+TakesMessage promised names old message report new =
+    TakesCalls report.end promised (message_told promised names old message) old old None (finish_line old message) report new
 
 -- a text of another bot calls procs by its first word, if it begins with one
 abbrev pub said_occasions : Saying → List Occasion
@@ -183,20 +181,20 @@ said_occasions saying = if length (first_word saying.text) == 0 then [] else Sai
 abbrev pub text_note : Saying → Note
 text_note saying = link_note (told_text saying.from saying.text)
 
-abbrev pub TakesText : (List ℕ → Call → Code) → (List ℕ → Call → List Action → Type 0) → List (List ℕ)
+abbrev pub TakesText : Promised → List (List ℕ)
     → Bot → Saying → Report → Bot → Type 0
-TakesText code_of may names old saying report new =
-    TakesCalls report.end code_of may (told_of (bot_setting code_of names old) (said_occasions saying)) old old
+TakesText promised names old saying report new =
+    TakesCalls report.end promised (told_of (bot_setting promised names old) (said_occasions saying)) old old
     (Some (text_note saying)) (finish_text old) report new
 
 -- a packet is one call of the link, and its text, if it brings one to this bot, is told; what a text does doesn't depend on what
 -- happened to the disks
-abbrev pub TakesPacket : Option Saying → (List ℕ → Call → Code) → (List ℕ → Call → List Action → Type 0) → List (List ℕ)
+abbrev pub TakesPacket : Option Saying → Promised → List (List ℕ)
     → Bot → Packet → Report → Bot → Type 0
-TakesPacket None code_of may names old packet report new = GivesRow old (took old.link packet) report new
-TakesPacket (Some saying) code_of may names old packet report new =
+TakesPacket None promised names old packet report new = GivesRow old (took old.link packet) report new
+TakesPacket (Some saying) promised names old packet report new =
     (device : Device) × ((device ≡ old.link.device) ⊎ LeavesOwn (record old.link { end = (took old.link packet Fails).after }) old.link.device device)
-    × TakesText code_of may names (with_device old device) saying report new
+    × TakesText promised names (with_device old device) saying report new
 
 -- ---- readings of the clock
 
@@ -211,25 +209,25 @@ run_to old now = record old { clock = Some now; timers = passed_all old.timers (
 
 -- the seconds of a reading call procs, then all actions are done, and then the lines that may go are sent; where memory runs
 -- out, the first of all may be called
-abbrev pub TakesSeconds : (List ℕ → Call → Code) → (List ℕ → Call → List Action → Type 0) → List (List ℕ)
+abbrev pub TakesSeconds : Promised → List (List ℕ)
     → Bot → ℕ → Report → Bot → Type 0
-TakesSeconds code_of may names old now report new =
+TakesSeconds promised names old now report new =
     (occasions : List Occasion)
     × AreTaken report.end (seconds_of old.config.zone old.timers (seconds_run old.clock now)) occasions
-    × TakesCalls report.end code_of may (told_of (bot_setting code_of names old) occasions) old (run_to old now)
+    × TakesCalls report.end promised (told_of (bot_setting promised names old) occasions) old (run_to old now)
     None (finish_reading (run_to old now) now) report new
 
 -- one that is not above the last does nothing, and takes no memory
-abbrev pub TakesMoment : Bool → (List ℕ → Call → Code) → (List ℕ → Call → List Action → Type 0) → List (List ℕ)
+abbrev pub TakesMoment : Bool → Promised → List (List ℕ)
     → Bot → ℕ → Report → Bot → Type 0
-TakesMoment true code_of may names old now report new = (report ≡ done None) × (new ≡ old)
-TakesMoment false code_of may names old now report new = TakesSeconds code_of may names old now report new
+TakesMoment true promised names old now report new = (report ≡ done None) × (new ≡ old)
+TakesMoment false promised names old now report new = TakesSeconds promised names old now report new
 
 -- one that is no moment is refused
-abbrev pub TakesReading : Option ClockFault → (List ℕ → Call → Code) → (List ℕ → Call → List Action → Type 0) → List (List ℕ)
+abbrev pub TakesReading : Option ClockFault → Promised → List (List ℕ)
     → Bot → ℕ → Report → Bot → Type 0
-TakesReading (Some fault) code_of may names old now report new = (report ≡ refused (clock_refusal fault)) × (new ≡ old)
-TakesReading None code_of may names old now report new = TakesMoment (is_stale old.clock now) code_of may names old now report new
+TakesReading (Some fault) promised names old now report new = (report ≡ refused (clock_refusal fault)) × (new ≡ old)
+TakesReading None promised names old now report new = TakesMoment (is_stale old.clock now) promised names old now report new
 
 -- ---- any event
 
@@ -247,17 +245,17 @@ IsGoodEvent Compact = Unit {0}
 IsGoodEvent Restart = Unit {0}
 
 -- one step with a store of these names, from old to new
-abbrev pub TakesStep : (List ℕ → Call → Code) → (List ℕ → Call → List Action → Type 0) → List (List ℕ)
+abbrev pub TakesStep : Promised → List (List ℕ)
     → Bot → Event → Report → Bot → Type 0
-TakesStep code_of may names old Connect report new = Gives report.end (Unit {0}) old (connect_due old) report new
-TakesStep code_of may names old (Line (a_message message)) report new = TakesMessage code_of may names old message report new
-TakesStep code_of may names old (Line (a_bad_line fault)) report new = (report ≡ done (Some (Bad fault))) × (new ≡ old)
-TakesStep code_of may names old (Ask change) report new = GivesAsk old change report new
-TakesStep code_of may names old Pump report new = GivesRow old (did old.link pumps) report new
-TakesStep code_of may names old (Receive packet) report new =
-    TakesPacket (saying_of (took old.link packet Works).told) code_of may names old packet report new
-TakesStep code_of may names old (Clock now) report new = TakesReading (reading_fault now) code_of may names old now report new
-TakesStep code_of may names old (Bind asked) report new = GivesBind old (asked_of asked) report new
-TakesStep code_of may names old (Unbind gone) report new = GivesUnbind old gone report new
-TakesStep code_of may names old Compact report new = GivesRow old (did old.link compacts) report new
-TakesStep code_of may names old Restart report new = GivesRestart old report new
+TakesStep promised names old Connect report new = Gives report.end (Unit {0}) old (connect_due old) report new
+TakesStep promised names old (Line (a_message message)) report new = TakesMessage promised names old message report new
+TakesStep promised names old (Line (a_bad_line fault)) report new = (report ≡ done (Some (Bad fault))) × (new ≡ old)
+TakesStep promised names old (Ask change) report new = GivesAsk old change report new
+TakesStep promised names old Pump report new = GivesRow old (did old.link pumps) report new
+TakesStep promised names old (Receive packet) report new =
+    TakesPacket (saying_of (took old.link packet Works).told) promised names old packet report new
+TakesStep promised names old (Clock now) report new = TakesReading (reading_fault now) promised names old now report new
+TakesStep promised names old (Bind asked) report new = GivesBind old (asked_of asked) report new
+TakesStep promised names old (Unbind gone) report new = GivesUnbind old gone report new
+TakesStep promised names old Compact report new = GivesRow old (did old.link compacts) report new
+TakesStep promised names old Restart report new = GivesRestart old report new

@@ -9,7 +9,7 @@ use bottimers::{TimerKind, Timers};
 use bytetext::{Failure, NoMemory, Seq, TryCopy};
 use linkcalls::Outgoings;
 use outqueue::Queues;
-use procstore::{Action, BotWish, PutWish, TimerWish};
+use procstore::{Action, BotWish, PutWish, TimerName, TimerWish};
 use std::alloc::Global;
 use std::marker::Model;
 use storage::Disk;
@@ -45,7 +45,7 @@ impl Model for Doing {
 
 impl Doing {
     ghost use Rattle.std.specs.Prelude.{◌≡◌, ◌++◌, ◌∷◌, [], length, OnOk};
-    ghost use Rattle.bottimers.specs.Held.{IsNotBelow, holds};
+    ghost use Rattle.bottimers.specs.Held.{IsNotBelow, holds_named};
     ghost use Rattle.botcore.specs.declared.fault.Fault.TheVariants.{Action as action_fault};
     ghost use Rattle.botlink.specs.Links.{BotEnd, asked};
     ghost use Rattle.botcore.specs.Acting.{acted, actions_of, asked_to, killed_if, put_unless, sent_if, timer_made};
@@ -125,7 +125,7 @@ impl Doing {
             Action::Ask(change) => self.ask(alloc, link, change),
             Action::Timer(wish) => self.make_timer(alloc, TimerKind::Minutes, wish),
             Action::Utimer(wish) => self.make_timer(alloc, TimerKind::Seconds, wish),
-            Action::KillTimer(id) => self.kill_timer(*id),
+            Action::KillTimer(name) => self.kill_timer(name),
             Action::SendBot(wish) => self.send_text(alloc, link, wish),
             Action::Put(wish) => self.put(alloc, wish),
         }
@@ -164,9 +164,10 @@ impl Doing {
         ensures queues { self.new.queues ≡ self.old.queues }
     {
         let proc = wish.proc.copy(alloc)?;
+        let text = wish.text.copy(alloc)?;
         match self
             .timers
-            .add(kind, wish.interval, wish.count, proc, self.last)
+            .add(kind, wish.interval, wish.count, proc, text, self.last)
         {
             Ok(_) => Ok(()),
             Err(Failure::Refused(fault)) => self.tell(ActionFault::Clock(fault)),
@@ -175,12 +176,15 @@ impl Doing {
     }
 
     // Takes a timer away, or tells why not.
-    fn kill_timer(&mut self, id: u32) -> Result<(), NoMemory>
-        ensures done { OnOk result ((link : BotEnd) →
-            Leaves self.old (killed_if (holds self.old.timers id) (acting_at link self.old) id) link self.new) }
+    fn kill_timer(&mut self, name: &TimerName) -> Result<(), NoMemory>
+        ensures done { OnOk result ((link : BotEnd) → Leaves self.old (killed_if
+            (holds_named self.old.timers name.now.proc name.now.text) (acting_at link self.old) name.now) link self.new) }
         ensures queues { self.new.queues ≡ self.old.queues }
     {
-        match self.timers.kill(id) {
+        match self
+            .timers
+            .kill_named(name.proc.as_bytes(), name.text.as_bytes())
+        {
             Ok(()) => Ok(()),
             Err(fault) => self.tell(ActionFault::Clock(fault)),
         }

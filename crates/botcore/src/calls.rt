@@ -12,7 +12,7 @@ use bottimers::Timers;
 use bytetext::{NoMemory, Seq, Texts, TryCopy};
 use linkcalls::Outgoings;
 use outqueue::Queues;
-use procstore::{ProcStore, Promise, Run};
+use procstore::{ProcStore, Promise, Run, View};
 use std::alloc::Global;
 use std::mem;
 use storage::Disk;
@@ -44,24 +44,28 @@ impl<D: Disk> Bot<D> {
     ghost use Rattle.botcore.specs.Rising.{IsReached};
     ghost use Rattle.linkcalls.specs.declared.TheConstants.{MAX_TEXTS};
     ghost use Rattle.botcore.specs.Acting.{action_faults, actions_of, faults_of};
-    ghost use Rattle.botcore.specs.Bots.{bot_setting};
+    ghost use Rattle.botcore.specs.Bots.{bot_setting, seen_at};
     ghost use Rattle.botcalls.specs.Dispatched.{IsDispatched};
     ghost use Rattle.botcore.specs.Lines.{acting_of, acting_after};
     ghost use Rattle.botcore.specs.Progress.{HasMore};
 
-    // Calls the procs that occasions call: all of them, or the first ones before memory ran out.
+    // Calls the procs that occasions call, which see the bot at this second: all of them, or the first ones before memory ran
+    // out.
     pub(crate) fn call_procs<P: Promise, B: Run>(
         &self,
         alloc: Global,
         store: &ProcStore<P, B>,
+        second: Option<u64>,
         occasions: &[Occasion],
     ) -> Result<Dispatch, Dispatch>
-        ensures { IsDispatched (bot_setting P.code_of store.now self.now) P.may occasions.now result }
+        ensures { IsDispatched P.promised (seen_at self.now second) (bot_setting P.promised store.now self.now)
+            occasions.now result }
     {
+        let view = View::new(self.link.userfile(), self.channels.current(), second);
         let scene = Scene {
             store,
             binds: &self.binds,
-            userfile: self.link.userfile(),
+            view: &view,
             exclusive: self.config.exclusive,
         };
         call_procs(alloc, &scene, occasions)

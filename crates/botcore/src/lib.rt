@@ -5,6 +5,9 @@
 //! text of another bot and a reading of the clock call procs of the store that the caller lends; every other event calls
 //! none.
 //!
+//! Procs see their bot as it was before the event: its userfile, its channels, and the second of its clock. Those that a
+//! reading calls see the second that it reads, from which the timers that they ask for count.
+//!
 //! What a step may report and leave is stated whole in `specs/Steps.antt`. What happens is in `specs/Happenings.antt`, its
 //! calls are those of `botcalls`, each with a reply that keeps its proc's promise, and what their actions do
 //! is in `specs/Acting.antt`. Lines for the server wait in queues: those that procs put, and those that the bot puts by

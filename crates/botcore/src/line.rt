@@ -26,7 +26,7 @@ impl<D: Disk> Bot<D> {
     ghost use Rattle.linkcalls.specs.declared.TheConstants.{MAX_TEXTS};
     ghost use Rattle.botcalls.specs.declared.occasion.Occasion.TheVariants.{Heard as heard_event};
     ghost use Rattle.botcore.specs.Acting.{faults_of};
-    ghost use Rattle.botcore.specs.Bots.{bot_setting};
+    ghost use Rattle.botcore.specs.Bots.{bot_seen, bot_setting};
     ghost use Rattle.botcalls.specs.Dispatched.{IsDispatched};
     ghost use Rattle.botcore.specs.Lines.{acting_of, acting_after, after_calls, after_line, finish_line};
     ghost use Rattle.botcore.specs.Lines.{channels_after, own_lines, welcomed_after};
@@ -43,7 +43,7 @@ impl<D: Disk> Bot<D> {
         store: &ProcStore<P, B>,
         message: &Message,
     ) -> Report
-        ensures takes { TakesMessage P.code_of P.may store.now self.old message.now result self.new }
+        ensures takes { TakesMessage P.promised store.now self.old message.now result self.new }
         ensures few { length result.packets ≤ MAX_TEXTS }
         ensures needs_none { BringsNothing self.old message.now → result.end ≢ End.NoMemory }
     {
@@ -66,7 +66,7 @@ impl<D: Disk> Bot<D> {
         store: &ProcStore<P, B>,
         message: &Message,
     ) -> Result<Dispatch, Dispatch>
-        ensures dispatched { IsDispatched (bot_setting P.code_of store.now self.now) P.may
+        ensures dispatched { IsDispatched P.promised (bot_seen self.now) (bot_setting P.promised store.now self.now)
             (map (λ e. heard_event e) (events_of message.now self.now.channels)) result }
         ensures needs_none { hear_messages self.now.binds.binds ≡ false
             → IsOkAnd result (λ made. (made.calls ≡ []) × (made.unbound ≡ [])) }
@@ -75,7 +75,7 @@ impl<D: Disk> Bot<D> {
             return Ok(Dispatch::new(alloc));
         }
         match heard_of(alloc, message, self.channels.current()) {
-            Ok(occasions) => self.call_procs(alloc, store, occasions.as_slice()),
+            Ok(occasions) => self.call_procs(alloc, store, self.clock.last(), occasions.as_slice()),
             Err(NoMemory) => Err(Dispatch::new(alloc)),
         }
     }
@@ -207,7 +207,7 @@ impl<D: Disk> Bot<D> {
         from: u16,
         text: Text,
     ) -> Report
-        ensures takes { TakesText P.code_of P.may store.now self.old (record { from = from; text = text }) result self.new }
+        ensures takes { TakesText P.promised store.now self.old (record { from = from; text = text }) result self.new }
         ensures few { length result.packets ≤ MAX_TEXTS }
     {
         let made = match self.call_for_text(alloc, store, from, &text) {
@@ -263,11 +263,11 @@ impl<D: Disk> Bot<D> {
         from: u16,
         text: &Text,
     ) -> Result<Dispatch, Dispatch>
-        ensures { IsDispatched (bot_setting P.code_of store.now self.now) P.may
+        ensures { IsDispatched P.promised (bot_seen self.now) (bot_setting P.promised store.now self.now)
             (occasions_of_text (record { from = from; text = text.now })) result }
     {
         match said_of(alloc, from, text) {
-            Ok(occasions) => self.call_procs(alloc, store, occasions.as_slice()),
+            Ok(occasions) => self.call_procs(alloc, store, self.clock.last(), occasions.as_slice()),
             Err(NoMemory) => Err(Dispatch::new(alloc)),
         }
     }

@@ -46,7 +46,7 @@ impl<D: Disk> Bot<D> {
         store: &ProcStore<P, B>,
         now: u64,
     ) -> Report
-        ensures takes { TakesReading (reading_fault now) P.code_of P.may store.now self.old now result self.new }
+        ensures takes { TakesReading (reading_fault now) P.promised store.now self.old now result self.new }
         ensures few { length result.packets ≤ MAX_TEXTS }
         ensures needs_none { PassesQuietly self.old now → result.end ≢ End.NoMemory }
     {
@@ -68,7 +68,7 @@ impl<D: Disk> Bot<D> {
     ) -> Report
         requires moment { now < end_of_moments }
         requires above { is_stale self.old.clock now ≡ false }
-        ensures takes { TakesSeconds P.code_of P.may store.now self.old now result self.new }
+        ensures takes { TakesSeconds P.promised store.now self.old now result self.new }
         ensures few { length result.packets ≤ MAX_TEXTS }
         ensures needs_none { PassesQuietly self.old now → result.end ≢ End.NoMemory }
     {
@@ -79,7 +79,7 @@ impl<D: Disk> Bot<D> {
             Ok(ran) => ran,
             Err(NoMemory) => return Report::cut_short(alloc, Seq::empty(alloc)),
         };
-        let made = match self.call_procs(alloc, store, ran.occasions.as_slice()) {
+        let made = match self.call_procs(alloc, store, Some(now), ran.occasions.as_slice()) {
             Ok(made) => made,
             Err(made) => return Report::cut_short(alloc, made.into_parts().0),
         };

@@ -55,14 +55,17 @@ fn run_second(
 // The timers that are due at a second.
 fn due_of(alloc: Global, timers: &mut Timers, second: u64) -> Result<Vec<Occasion>, NoMemory>
     requires above { IsAbove timers.old.last second }
-    ensures occasions { IfOk result (λ occasions. occasions.items ≡ map (λ c. Due c.1) (calls_at second timers.old)) }
+    ensures occasions { IfOk result (λ occasions. occasions.items ≡ map (λ c. Due c.proc c.text) (calls_at second timers.old)) }
     ensures passed { OnOk result (timers.new ≡ passed second timers.old) }
 {
     let calls = timers.due(alloc, second)?;
     Ok(
         calls
             .into_iter()
-            .map(|call| Occasion::Due(call.1))
+            .map(|call| Occasion::Due {
+                proc: call.proc,
+                text: call.text,
+            })
             .collect(alloc)?,
     )
 }

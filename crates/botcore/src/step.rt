@@ -31,12 +31,13 @@ impl<D: Disk> Bot<D> {
     /// Does one step: the bot is told this event, and reports what came of it.
     ///
     /// A message of the server calls the procs of the binds that its events call; a text of another bot those of its
-    /// first word; a reading of the clock, second by second, those of due timers and of the minutes that begin. When all
-    /// have answered, their actions are done in the order of the calls; one that is refused is left out and told. Then a
-    /// message is taken into the channel state and the bot's own lines for it are put into their queues, unless a raw proc
-    /// has answered 1. New timers are made at the last second that the clock has seen. A reading that is the first, or above
-    /// the last, ends with the lines that may go then. Each other event is one call of the link or of the table of binds, or
-    /// a connect, and calls nothing.
+    /// first word; a reading of the clock, second by second, those of due timers, each with its timer's text, and of the
+    /// minutes that begin. All of them see the bot's userfile and channels as they were before the event, and the second of
+    /// its clock, which at a reading is the one that is read. When all have answered, their actions are done in the order of
+    /// the calls; one that is refused is left out and told. Then a message is taken into the channel state and the bot's own
+    /// lines for it are put into their queues, unless a raw proc has answered 1. New timers are made at the last second that
+    /// the clock has seen. A reading that is the first, or above the last, ends with the lines that may go then. Each other
+    /// event is one call of the link or of the table of binds, or a connect, and calls nothing.
     ///
     /// A restart crashes the disks and opens the journal again. It loses the asks that wait, the channels, the clock, the
     /// timers and the lines for the server, and the next timer has the id 1; the binds stay, and their numbers go on. Where
@@ -58,7 +59,7 @@ impl<D: Disk> Bot<D> {
         event: Event,
     ) -> Report
         requires good { IsGoodEvent event }
-        ensures takes { TakesStep P.code_of P.may store.now self.old event result self.new }
+        ensures takes { TakesStep P.promised store.now self.old event result self.new }
         ensures few { length result.packets ≤ MAX_LEAVES + 1 }
         ensures good_records { AreGood result.packets }
         // An ask takes no memory, nor does an event that calls nothing and brings nothing to be kept.
@@ -116,7 +117,7 @@ impl<D: Disk> Bot<D> {
         store: &ProcStore<P, B>,
         line: &Line,
     ) -> Report
-        ensures takes { TakesStep P.code_of P.may store.now self.old (Event.Line line.now) result self.new }
+        ensures takes { TakesStep P.promised store.now self.old (Event.Line line.now) result self.new }
         ensures few { length result.packets ≤ MAX_TEXTS }
         ensures good_records { AreGood result.packets }
         ensures needs_none { NeedsNone self.old (Event.Line line.now) → result.end ≢ End.NoMemory }
@@ -193,7 +194,7 @@ impl<D: Disk> Bot<D> {
         packet: &Packet,
     ) -> Report
         requires { HasGoodRecords packet.now }
-        ensures takes { TakesStep P.code_of P.may store.now self.old (Event.Receive packet.now) result self.new }
+        ensures takes { TakesStep P.promised store.now self.old (Event.Receive packet.now) result self.new }
         ensures few { length result.packets ≤ MAX_LEAVES + 1 }
         ensures good_records { AreGood result.packets }
     {
@@ -212,7 +213,7 @@ impl<D: Disk> Bot<D> {
     ) -> Report
         requires { length answer.packets ≤ MAX_LEAVES + 1 }
         ensures text { (saying : Saying) → saying_in (note_of answer.note) ≡ Some saying
-            → TakesText P.code_of P.may store.now self.old saying result self.new }
+            → TakesText P.promised store.now self.old saying result self.new }
         ensures report { saying_in (note_of answer.note) ≡ None → result ≡ answer_report (Ok answer) }
         ensures same { saying_in (note_of answer.note) ≡ None → self.new ≡ self.old }
         ensures few { length result.packets ≤ MAX_LEAVES + 1 }

@@ -1,9 +1,7 @@
 -- What a drive has to send has records of good shape: lines and readings send nothing but texts.
 use Rattle.std.proofs.Common.{◌≡◌, ◌++◌, ℕ, List, [], ◌∷◌, refl, sym, ap, subst, ◌∙◌}
 use Rattle.ircline.specs.declared.line.Line.{Line as ReadLine}
-use Rattle.procstore.specs.declared.action.Action.{Action}
-use Rattle.procstore.specs.declared.call.Call.{Call}
-use Rattle.procstore.specs.declared.reply.Code.{Code}
+use Rattle.procstore.specs.Promises.{Promised}
 use Rattle.linkcalls.specs.declared.answer.Outgoing.{Outgoing}
 use Rattle.linkcalls.specs.Shapes.{AreGood}
 use Rattle.botcore.specs.declared.event.Event.{Event}
@@ -21,29 +19,29 @@ AreGood-after : (xs ys : List Outgoing) → AreGood xs → AreGood ys → AreGoo
 AreGood-after [] ys good more = more
 AreGood-after (x ∷ xs) ys good more = (good.0, AreGood-after xs ys good.1 more)
 
-module _ (code_of : List ℕ → Call → Code) (may : List ℕ → Call → List Action → Type 0) (names : List (List ℕ)) where
+module _ (promised : Promised) (names : List (List ℕ)) where
   -- nothing but lines and readings
   abbrev AreHeard : List Event → Type 0
   AreHeard events = (old new : Bot) (report : Report) (before : List Event) (event : Event) (after : List Event) → events ≡ before ++ event ∷ after
-      → TakesStep code_of may names old event report new → AreGood report.packets
+      → TakesStep promised names old event report new → AreGood report.packets
 
   lines_heard : (lines : List ReadLine) → AreHeard (line_events lines)
   lines_heard [] old new report [] event after e takes = cc
   lines_heard [] old new report (b ∷ before) event after e takes = cc
   lines_heard (line ∷ lines) old new report [] event after e takes =
       let same : event ≡ Line line = cc in
-      line_good code_of may names old line report new (subst (λ x. TakesStep code_of may names old x report new) same takes)
+      line_good promised names old line report new (subst (λ x. TakesStep promised names old x report new) same takes)
   lines_heard (line ∷ lines) old new report (b ∷ before) event after e takes = lines_heard lines old new report before event after (cc) takes
 
   all_heard : (lines : List ReadLine) (now : ℕ) → AreHeard (all_events lines now)
   all_heard [] now old new report [] event after e takes =
       let same : event ≡ Clock now = cc in
-      clock_good code_of may names old now report new (subst (λ x. TakesStep code_of may names old x report new) same takes)
+      clock_good promised names old now report new (subst (λ x. TakesStep promised names old x report new) same takes)
   all_heard [] now old new report (b ∷ []) event after e takes = cc
   all_heard [] now old new report (b ∷ c ∷ before) event after e takes = cc
   all_heard (line ∷ lines) now old new report [] event after e takes =
       let same : event ≡ Line line = cc in
-      line_good code_of may names old line report new (subst (λ x. TakesStep code_of may names old x report new) same takes)
+      line_good promised names old line report new (subst (λ x. TakesStep promised names old x report new) same takes)
   all_heard (line ∷ lines) now old new report (b ∷ before) event after e takes = all_heard lines now old new report before event after (cc) takes
 
   -- the same of what comes after the first event, and of a front
@@ -63,7 +61,7 @@ module _ (code_of : List ℕ → Call → Code) (may : List ℕ → Call → Lis
       front_at first rest events before after event all is =
           sym all ∙ ap (λ (l : List Event). l ++ rest) is ∙ append_front before after rest event
 
-  steps_good : (events : List Event) (old new : Course) → AreHeard events → Makes code_of may names old events new → AreGood old.packets
+  steps_good : (events : List Event) (old new : Course) → AreHeard events → Makes promised names old events new → AreGood old.packets
       → AreGood new.packets
   unfolding Makes
   steps_good [] old new heard made good = subst (λ (c : Course). AreGood c.packets) (sym made) good
@@ -74,15 +72,15 @@ module _ (code_of : List ℕ → Call → Code) (may : List ℕ → Call → Lis
 
 -- ---- a whole drive
 
-pub DrivesTo_good : (end : DriveEnd) (code_of : List ℕ → Call → Code) (may : List ℕ → Call → List Action → Type 0)
+pub DrivesTo_good : (end : DriveEnd) (promised : Promised)
     (names : List (List ℕ)) (now : ℕ) (old : Connection) (packets : List Outgoing) (outcomes : List Outcome) (new : Connection)
-    → DrivesTo end code_of may names now old packets outcomes new → AreGood packets
-DrivesTo_good Done code_of may names now old packets outcomes new d =
-    steps_good code_of may names (all_events d.lines now) _ _ (all_heard code_of may names d.lines now) d.makes tt
-DrivesTo_good Read code_of may names now old packets outcomes new d =
-    steps_good code_of may names (line_events d.lines) _ _ (lines_heard code_of may names d.lines) d.makes tt
-DrivesTo_good Write code_of may names now old packets outcomes new d =
-    steps_good code_of may names (all_events d.lines now) _ _ (all_heard code_of may names d.lines now) d.makes tt
-DrivesTo_good NoMemory code_of may names now old packets outcomes new d =
-    steps_good code_of may names d.makes.first _ _
-    (front_heard code_of may names d.makes.first d.makes.rest _ d.makes.all (all_heard code_of may names d.lines now)) d.makes.makes tt
+    → DrivesTo end promised names now old packets outcomes new → AreGood packets
+DrivesTo_good Done promised names now old packets outcomes new d =
+    steps_good promised names (all_events d.lines now) _ _ (all_heard promised names d.lines now) d.makes tt
+DrivesTo_good Read promised names now old packets outcomes new d =
+    steps_good promised names (line_events d.lines) _ _ (lines_heard promised names d.lines) d.makes tt
+DrivesTo_good Write promised names now old packets outcomes new d =
+    steps_good promised names (all_events d.lines now) _ _ (all_heard promised names d.lines now) d.makes tt
+DrivesTo_good NoMemory promised names now old packets outcomes new d =
+    steps_good promised names d.makes.first _ _
+    (front_heard promised names d.makes.first d.makes.rest _ d.makes.all (all_heard promised names d.lines now)) d.makes.makes tt

@@ -7,9 +7,7 @@ use Rattle.streams.specs.Calls.{Gives}
 use Rattle.streams.specs.Transfers.{Reads, ReadsUntil, WritesOut, WritesFront}
 use Rattle.ircline.specs.declared.line.Line.{Line as ReadLine}
 use Rattle.ircline.specs.Stream.{lines_of, held_of}
-use Rattle.procstore.specs.declared.action.Action.{Action}
-use Rattle.procstore.specs.declared.call.Call.{Call}
-use Rattle.procstore.specs.declared.reply.Code.{Code}
+use Rattle.procstore.specs.Promises.{Promised}
 use Rattle.linkcalls.specs.declared.answer.Outgoing.{Outgoing}
 use Rattle.botdrive.specs.declared.driving.DriveEnd.{DriveEnd}
 use Rattle.botdrive.specs.declared.driving.DriveEnd.TheVariants.{Done, Read, Write, NoMemory}
@@ -51,29 +49,29 @@ course_at bot = record { bot = bot; packets = []; text = []; outcomes = [] }
 
 -- The bot makes a step of this event, which does not run out of memory. Its packets, its lines and what came of it go after
 -- those before.
-pub record MakesStep (code_of : List ℕ → Call → Code) (may : List ℕ → Call → List Action → Type 0) (names : List (List ℕ))
+pub record MakesStep (promised : Promised) (names : List (List ℕ))
     (old : Course) (event : Event) (new : Course) : Type 0 where
   pub report : Report
-  pub takes : TakesStep code_of may names old.bot event report new.bot
+  pub takes : TakesStep promised names old.bot event report new.bot
   pub made : report.end ≢ ends_no_memory
   pub packets : new.packets ≡ old.packets ++ report.packets
   pub text : new.text ≡ old.text ++ text_of report.lines
   pub outcomes : new.outcomes ≡ old.outcomes ++ unless_silent (outcome_of report)
 
 -- it makes a step of each event, in order
-unfoldable pub Makes : (List ℕ → Call → Code) → (List ℕ → Call → List Action → Type 0) → List (List ℕ)
+unfoldable pub Makes : Promised → List (List ℕ)
     → Course → List Event → Course → Type 0
-Makes code_of may names old [] new = new ≡ old
-Makes code_of may names old (event ∷ events) new =
-    (mid : Course) × MakesStep code_of may names old event mid × Makes code_of may names mid events new
+Makes promised names old [] new = new ≡ old
+Makes promised names old (event ∷ events) new =
+    (mid : Course) × MakesStep promised names old event mid × Makes promised names mid events new
 
 -- it makes a step of each of the first of them
-pub record MakesFirst (code_of : List ℕ → Call → Code) (may : List ℕ → Call → List Action → Type 0) (names : List (List ℕ))
+pub record MakesFirst (promised : Promised) (names : List (List ℕ))
     (old : Course) (events : List Event) (new : Course) : Type 0 where
   pub first : List Event
   pub rest : List Event
   pub all : first ++ rest ≡ events
-  pub makes : Makes code_of may names old first new
+  pub makes : Makes promised names old first new
 
 -- ---- lines that are read
 
@@ -88,14 +86,14 @@ pub record Ends (held bytes : List ℕ) (lines : List ReadLine) (after : List �
 
 -- These bytes were taken in, where this much of a line was held: each line that they end was stepped, and then this much is
 -- held.
-pub record Hears (code_of : List ℕ → Call → Code) (may : List ℕ → Call → List Action → Type 0) (names : List (List ℕ))
+pub record Hears (promised : Promised) (names : List (List ℕ))
     (old : Course) (held bytes : List ℕ) (new : Course) (after : List ℕ) : Type 0 where
   pub lines : List ReadLine
   pub ends : Ends held bytes lines after
-  pub makes : Makes code_of may names old (line_events lines) new
+  pub makes : Makes promised names old (line_events lines) new
 
 -- memory ran out: of the lines that a front of the bytes ends the first were stepped
-pub record HearsFirst (code_of : List ℕ → Call → Code) (may : List ℕ → Call → List Action → Type 0) (names : List (List ℕ))
+pub record HearsFirst (promised : Promised) (names : List (List ℕ))
     (old : Course) (held bytes : List ℕ) (new : Course) : Type 0 where
   pub front : List ℕ
   pub lost : List ℕ
@@ -103,7 +101,7 @@ pub record HearsFirst (code_of : List ℕ → Call → Code) (may : List ℕ →
   pub after : List ℕ
   pub all : front ++ lost ≡ bytes
   pub ends : Ends held front lines after
-  pub makes : MakesFirst code_of may names old (line_events lines) new
+  pub makes : MakesFirst promised names old (line_events lines) new
 
 -- ---- what is read
 
@@ -117,40 +115,40 @@ abbrev pub ReadsSome : Source → List ℕ → Source → Type 0
 ReadsSome old bytes new = ReadsEnough old bytes new ⊎ ((count : ℕ) × (count ≤ 1000) × Reads count old bytes new)
 
 -- The stream gave a piece, which is taken in, and there may be more; or it has none now.
-abbrev pub HearsPiece : (List ℕ → Call → Code) → (List ℕ → Call → List Action → Type 0) → List (List ℕ)
+abbrev pub HearsPiece : Promised → List (List ℕ)
     → Course → List ℕ → Source → Bool → Course → List ℕ → Source → Type 0
-HearsPiece code_of may names old held before true new after left =
-    (n : ℕ) × (buffer : List ℕ) × Gives before (Bytes n) buffer left × Hears code_of may names old held (take n buffer) new after
-HearsPiece code_of may names old held before false new after left =
+HearsPiece promised names old held before true new after left =
+    (n : ℕ) × (buffer : List ℕ) × Gives before (Bytes n) buffer left × Hears promised names old held (take n buffer) new after
+HearsPiece promised names old held before false new after left =
     (buffer : List ℕ) × (Gives before End buffer left ⊎ Gives before Stall buffer left) × (new ≡ old) × (after ≡ held)
 
 -- the stream failed, or memory ran out as its piece was taken in
-abbrev pub HearsNoPiece : DriveEnd → (List ℕ → Call → Code) → (List ℕ → Call → List Action → Type 0) → List (List ℕ)
+abbrev pub HearsNoPiece : DriveEnd → Promised → List (List ℕ)
     → Course → List ℕ → Source → Course → List ℕ → Source → Type 0
-HearsNoPiece Done code_of may names old held before new after left = ⊥
-HearsNoPiece Read code_of may names old held before new after left =
+HearsNoPiece Done promised names old held before new after left = ⊥
+HearsNoPiece Read promised names old held before new after left =
     (buffer : List ℕ) × Gives before Fault buffer left × (new ≡ old) × (after ≡ held)
-HearsNoPiece Write code_of may names old held before new after left = ⊥
-HearsNoPiece NoMemory code_of may names old held before new after left =
-    (n : ℕ) × (buffer : List ℕ) × Gives before (Bytes n) buffer left × HearsFirst code_of may names old held (take n buffer) new
+HearsNoPiece Write promised names old held before new after left = ⊥
+HearsNoPiece NoMemory promised names old held before new after left =
+    (n : ℕ) × (buffer : List ℕ) × Gives before (Bytes n) buffer left × HearsFirst promised names old held (take n buffer) new
 
 -- All that there is now is read and taken in, or enough of it.
-pub record HearsAll (code_of : List ℕ → Call → Code) (may : List ℕ → Call → List Action → Type 0)
+pub record HearsAll (promised : Promised)
     (names : List (List ℕ)) (old : Course) (held : List ℕ) (before : Source)
     (new : Course) (after : List ℕ) (left : Source) : Type 0 where
   pub bytes : List ℕ
   pub read : ReadsEnough before bytes left
-  pub hears : Hears code_of may names old held bytes new after
+  pub hears : Hears promised names old held bytes new after
 
 -- some of it, until the stream fails or memory runs out
-abbrev pub HearsSome : DriveEnd → (List ℕ → Call → Code) → (List ℕ → Call → List Action → Type 0) → List (List ℕ)
+abbrev pub HearsSome : DriveEnd → Promised → List (List ℕ)
     → Course → List ℕ → Source → Course → List ℕ → Source → Type 0
-HearsSome Done code_of may names old held before new after left = ⊥
-HearsSome Read code_of may names old held before new after left =
-    (bytes : List ℕ) × ReadsUntil Fault 1000 before bytes left × Hears code_of may names old held bytes new after
-HearsSome Write code_of may names old held before new after left = ⊥
-HearsSome NoMemory code_of may names old held before new after left =
-    (bytes : List ℕ) × ReadsSome before bytes left × HearsFirst code_of may names old held bytes new
+HearsSome Done promised names old held before new after left = ⊥
+HearsSome Read promised names old held before new after left =
+    (bytes : List ℕ) × ReadsUntil Fault 1000 before bytes left × Hears promised names old held bytes new after
+HearsSome Write promised names old held before new after left = ⊥
+HearsSome NoMemory promised names old held before new after left =
+    (bytes : List ℕ) × ReadsSome before bytes left × HearsFirst promised names old held bytes new
 
 -- ---- all steps of a drive
 
@@ -159,17 +157,17 @@ abbrev pub all_events : List ReadLine → ℕ → List Event
 all_events lines now = line_events lines ++ Clock now ∷ []
 
 -- All that there is now is read, or enough of it; each line that it ends is stepped, and then the reading.
-pub record TakesAll (code_of : List ℕ → Call → Code) (may : List ℕ → Call → List Action → Type 0)
+pub record TakesAll (promised : Promised)
     (names : List (List ℕ)) (now : ℕ) (old : Course) (held : List ℕ) (before : Source)
     (new : Course) (after : List ℕ) (left : Source) : Type 0 where
   pub bytes : List ℕ
   pub lines : List ReadLine
   pub read : ReadsEnough before bytes left
   pub ends : Ends held bytes lines after
-  pub makes : Makes code_of may names old (all_events lines now) new
+  pub makes : Makes promised names old (all_events lines now) new
 
 -- memory ran out: of all steps the first are made
-pub record TakesFirst (code_of : List ℕ → Call → Code) (may : List ℕ → Call → List Action → Type 0)
+pub record TakesFirst (promised : Promised)
     (names : List (List ℕ)) (now : ℕ) (old : Course) (held : List ℕ) (before : Source)
     (new : Course) (left : Source) : Type 0 where
   pub bytes : List ℕ
@@ -178,17 +176,17 @@ pub record TakesFirst (code_of : List ℕ → Call → Code) (may : List ℕ →
   pub after : List ℕ
   pub read : ReadsSome before (bytes ++ lost) left
   pub ends : Ends held bytes lines after
-  pub makes : MakesFirst code_of may names old (all_events lines now) new
+  pub makes : MakesFirst promised names old (all_events lines now) new
 
 -- some of them, until the stream fails or memory runs out
-abbrev pub TakesSome : DriveEnd → (List ℕ → Call → Code) → (List ℕ → Call → List Action → Type 0) → List (List ℕ) → ℕ
+abbrev pub TakesSome : DriveEnd → Promised → List (List ℕ) → ℕ
     → Course → List ℕ → Source → Course → List ℕ → Source → Type 0
-TakesSome Done code_of may names now old held before new after left = ⊥
-TakesSome Read code_of may names now old held before new after left =
-    (bytes : List ℕ) × ReadsUntil Fault 1000 before bytes left × Hears code_of may names old held bytes new after
-TakesSome Write code_of may names now old held before new after left = ⊥
-TakesSome NoMemory code_of may names now old held before new after left =
-    TakesFirst code_of may names now old held before new left
+TakesSome Done promised names now old held before new after left = ⊥
+TakesSome Read promised names now old held before new after left =
+    (bytes : List ℕ) × ReadsUntil Fault 1000 before bytes left × Hears promised names old held bytes new after
+TakesSome Write promised names now old held before new after left = ⊥
+TakesSome NoMemory promised names now old held before new after left =
+    TakesFirst promised names now old held before new left
 
 -- ---- a whole drive
 
@@ -201,31 +199,31 @@ pub record Connection : Type 0 where
 
 -- all lines that were read and the reading are stepped, and what the bot says is written as `Writes` says
 pub record DrivesAll (Writes : Sink → List ℕ → Sink → Type 0)
-    (code_of : List ℕ → Call → Code) (may : List ℕ → Call → List Action → Type 0) (names : List (List ℕ)) (now : ℕ)
+    (promised : Promised) (names : List (List ℕ)) (now : ℕ)
     (old : Connection) (packets : List Outgoing) (outcomes : List Outcome) (new : Connection) : Type 0 where
   pub bytes : List ℕ
   pub lines : List ReadLine
   pub text : List ℕ
   pub read : ReadsEnough old.source bytes new.source
   pub ends : Ends old.held bytes lines new.held
-  pub makes : Makes code_of may names (course_at old.bot) (all_events lines now)
+  pub makes : Makes promised names (course_at old.bot) (all_events lines now)
       (record { bot = new.bot; packets = packets; text = text; outcomes = outcomes })
   pub writes : Writes old.sink text new.sink
 
 -- the stream failed as it was asked: all lines that were read are stepped, and nothing is written
-pub record DrivesLines (code_of : List ℕ → Call → Code) (may : List ℕ → Call → List Action → Type 0) (names : List (List ℕ))
+pub record DrivesLines (promised : Promised) (names : List (List ℕ))
     (old : Connection) (packets : List Outgoing) (outcomes : List Outcome) (new : Connection) : Type 0 where
   pub bytes : List ℕ
   pub lines : List ReadLine
   pub text : List ℕ
   pub read : ReadsUntil Fault 1000 old.source bytes new.source
   pub ends : Ends old.held bytes lines new.held
-  pub makes : Makes code_of may names (course_at old.bot) (line_events lines)
+  pub makes : Makes promised names (course_at old.bot) (line_events lines)
       (record { bot = new.bot; packets = packets; text = text; outcomes = outcomes })
   pub writes : new.sink ≡ old.sink
 
 -- memory ran out: of all steps the first are made, and nothing is written
-pub record DrivesFirst (code_of : List ℕ → Call → Code) (may : List ℕ → Call → List Action → Type 0) (names : List (List ℕ))
+pub record DrivesFirst (promised : Promised) (names : List (List ℕ))
     (now : ℕ) (old : Connection) (packets : List Outgoing) (outcomes : List Outcome) (new : Connection) : Type 0 where
   pub bytes : List ℕ
   pub lost : List ℕ
@@ -234,18 +232,18 @@ pub record DrivesFirst (code_of : List ℕ → Call → Code) (may : List ℕ �
   pub text : List ℕ
   pub read : ReadsSome old.source (bytes ++ lost) new.source
   pub ends : Ends old.held bytes lines after
-  pub makes : MakesFirst code_of may names (course_at old.bot) (all_events lines now)
+  pub makes : MakesFirst promised names (course_at old.bot) (all_events lines now)
       (record { bot = new.bot; packets = packets; text = text; outcomes = outcomes })
   pub writes : new.sink ≡ old.sink
 
 -- what a drive that ends so has done, what it tells to be sent over the link, and what came of its steps
-abbrev pub DrivesTo : DriveEnd → (List ℕ → Call → Code) → (List ℕ → Call → List Action → Type 0) → List (List ℕ)
+abbrev pub DrivesTo : DriveEnd → Promised → List (List ℕ)
     → ℕ → Connection → List Outgoing → List Outcome → Connection → Type 0
-DrivesTo Done code_of may names now old packets outcomes new = DrivesAll WritesOut code_of may names now old packets outcomes new
-DrivesTo Read code_of may names now old packets outcomes new = DrivesLines code_of may names old packets outcomes new
-DrivesTo Write code_of may names now old packets outcomes new = DrivesAll WritesFront code_of may names now old packets outcomes new
-DrivesTo NoMemory code_of may names now old packets outcomes new = DrivesFirst code_of may names now old packets outcomes new
+DrivesTo Done promised names now old packets outcomes new = DrivesAll WritesOut promised names now old packets outcomes new
+DrivesTo Read promised names now old packets outcomes new = DrivesLines promised names old packets outcomes new
+DrivesTo Write promised names now old packets outcomes new = DrivesAll WritesFront promised names now old packets outcomes new
+DrivesTo NoMemory promised names now old packets outcomes new = DrivesFirst promised names now old packets outcomes new
 
-abbrev pub Drives : (List ℕ → Call → Code) → (List ℕ → Call → List Action → Type 0) → List (List ℕ)
+abbrev pub Drives : Promised → List (List ℕ)
     → ℕ → Connection → DriveReport → Connection → Type 0
-Drives code_of may names now old report new = DrivesTo report.end code_of may names now old report.packets report.outcomes new
+Drives promised names now old report new = DrivesTo report.end promised names now old report.packets report.outcomes new

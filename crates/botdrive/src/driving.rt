@@ -70,7 +70,7 @@ pub fn drive<P: Promise, D: Disk, B: Run, S: Stream>(
     now: u64,
 ) -> DriveReport
     requires { now < MOMENTS_END }
-    ensures drives { Drives P.code_of P.may store.now now
+    ensures drives { Drives P.promised store.now now
         (record { bot = bot.old; held = lines.old; source = S.source stream.old; sink = S.sink stream.old })
         result
         (record { bot = bot.new; held = lines.new; source = S.source stream.new; sink = S.sink stream.new }) }
@@ -96,7 +96,7 @@ fn drive_with<P: Promise, D: Disk, B: Run, S: Stream>(
     outbox: &mut Outbox,
 ) -> DriveEnd
     requires { course_of bot.old outbox.old ≡ course_at bot.old }
-    ensures { DrivesTo result P.code_of P.may store.now now
+    ensures { DrivesTo result P.promised store.now now
         (record { bot = bot.old; held = lines.old; source = S.source stream.old; sink = S.sink stream.old })
         outbox.new.packets.items outbox.new.outcomes.items
         (record { bot = bot.new; held = lines.new; source = S.source stream.new; sink = S.sink stream.new }) }
@@ -120,10 +120,10 @@ fn take_in<P: Promise, D: Disk, B: Run, S: Stream>(
     now: u64,
     outbox: &mut Outbox,
 ) -> Result<(), DriveEnd>
-    ensures ok { OnOk result (TakesAll P.code_of P.may store.now now
+    ensures ok { OnOk result (TakesAll P.promised store.now now
         (course_of bot.old outbox.old) lines.old (S.source stream.old)
         (course_of bot.new outbox.new) lines.new (S.source stream.new)) }
-    ensures err { IfErr result (λ end. TakesSome end P.code_of P.may store.now now
+    ensures err { IfErr result (λ end. TakesSome end P.promised store.now now
         (course_of bot.old outbox.old) lines.old (S.source stream.old)
         (course_of bot.new outbox.new) lines.new (S.source stream.new)) }
     ensures other { S.sink stream.new ≡ S.sink stream.old }

@@ -28,10 +28,10 @@ pub(crate) fn hear_all<P: Promise, D: Disk, B: Run, S: Stream>(
     stream: &mut S,
     outbox: &mut Outbox,
 ) -> Result<(), DriveEnd>
-    ensures ok { OnOk result (HearsAll P.code_of P.may store.now
+    ensures ok { OnOk result (HearsAll P.promised store.now
         (course_of bot.old outbox.old) lines.old (S.source stream.old)
         (course_of bot.new outbox.new) lines.new (S.source stream.new)) }
-    ensures err { IfErr result (λ end. HearsSome end P.code_of P.may store.now
+    ensures err { IfErr result (λ end. HearsSome end P.promised store.now
         (course_of bot.old outbox.old) lines.old (S.source stream.old)
         (course_of bot.new outbox.new) lines.new (S.source stream.new)) }
     ensures other { S.sink stream.new ≡ S.sink stream.old }
@@ -55,10 +55,10 @@ fn hear_piece<P: Promise, D: Disk, B: Run, S: Stream>(
     stream: &mut S,
     outbox: &mut Outbox,
 ) -> Result<bool, DriveEnd>
-    ensures ok { IfOk result (λ more. HearsPiece P.code_of P.may store.now
+    ensures ok { IfOk result (λ more. HearsPiece P.promised store.now
         (course_of bot.old outbox.old) lines.old (S.source stream.old) more
         (course_of bot.new outbox.new) lines.new (S.source stream.new)) }
-    ensures err { IfErr result (λ end. HearsNoPiece end P.code_of P.may store.now
+    ensures err { IfErr result (λ end. HearsNoPiece end P.promised store.now
         (course_of bot.old outbox.old) lines.old (S.source stream.old)
         (course_of bot.new outbox.new) lines.new (S.source stream.new)) }
     ensures other { S.sink stream.new ≡ S.sink stream.old }
@@ -85,9 +85,9 @@ fn hear_bytes<P: Promise, D: Disk, B: Run>(
     bytes: &[u8],
     outbox: &mut Outbox,
 ) -> Result<(), NoMemory>
-    ensures ok { OnOk result (Hears P.code_of P.may store.now (course_of bot.old outbox.old) lines.old bytes.now
+    ensures ok { OnOk result (Hears P.promised store.now (course_of bot.old outbox.old) lines.old bytes.now
         (course_of bot.new outbox.new) lines.new) }
-    ensures err { OnErr result (HearsFirst P.code_of P.may store.now (course_of bot.old outbox.old) lines.old bytes.now
+    ensures err { OnErr result (HearsFirst P.promised store.now (course_of bot.old outbox.old) lines.old bytes.now
         (course_of bot.new outbox.new)) }
 {
     let ended = lines.feed(alloc, bytes)?;

@@ -112,7 +112,7 @@ fn step_line<P: Promise, D: Disk, B: Run>(
     line: &Line,
     outbox: &mut Outbox,
 ) -> Result<(), NoMemory>
-    ensures ok { OnOk result (Makes P.code_of P.may store.now (course_of bot.old outbox.old) (line_event line.now ∷ [])
+    ensures ok { OnOk result (Makes P.promised store.now (course_of bot.old outbox.old) (line_event line.now ∷ [])
         (course_of bot.new outbox.new)) }
     ensures err { OnErr result (course_of bot.new outbox.new ≡ course_of bot.old outbox.old) }
 {
@@ -129,7 +129,7 @@ pub(crate) fn step_clock<P: Promise, D: Disk, B: Run>(
     now: u64,
     outbox: &mut Outbox,
 ) -> Result<(), NoMemory>
-    ensures ok { OnOk result (Makes P.code_of P.may store.now (course_of bot.old outbox.old) (clock_event now ∷ [])
+    ensures ok { OnOk result (Makes P.promised store.now (course_of bot.old outbox.old) (clock_event now ∷ [])
         (course_of bot.new outbox.new)) }
     ensures err { OnErr result (course_of bot.new outbox.new ≡ course_of bot.old outbox.old) }
 {
@@ -146,9 +146,9 @@ pub(crate) fn step_lines<P: Promise, D: Disk, B: Run>(
     lines: &[Line],
     outbox: &mut Outbox,
 ) -> Result<(), NoMemory>
-    ensures ok { OnOk result (Makes P.code_of P.may store.now (course_of bot.old outbox.old) (line_events lines.now)
+    ensures ok { OnOk result (Makes P.promised store.now (course_of bot.old outbox.old) (line_events lines.now)
         (course_of bot.new outbox.new)) }
-    ensures err { OnErr result (MakesFirst P.code_of P.may store.now (course_of bot.old outbox.old)
+    ensures err { OnErr result (MakesFirst P.promised store.now (course_of bot.old outbox.old)
         (line_events lines.now) (course_of bot.new outbox.new)) }
 {
     for line in lines {

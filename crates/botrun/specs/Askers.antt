@@ -1,8 +1,14 @@
--- Who has asked for the changes that wait at a leaf or are out, the oldest first: an operator, or nobody who waits for an
--- answer.
-use Rattle.std.specs.Prelude.{ℕ, Bool, true, false, ◌-◌, ◌^◌, min, List, [], ◌∷◌, ◌++◌, Option, None, Some, drop, count_by, sum_by, replicate}
+-- Who has asked for the changes that wait at a bot or are out, the oldest first: an operator, a person by whose words a proc
+-- asked, or nobody who waits for an answer.
+use Rattle.std.specs.Prelude.{ℕ, Bool, true, false, ◌||◌, ◌&&◌, ◌-◌, ◌^◌, ◌==◌, min, List, [], ◌∷◌, ◌++◌, Option, None, Some}
+use Rattle.std.specs.Prelude.{drop, count_by, sum_by, replicate, if◌then◌else◌}
+use Rattle.std.specs.List.{flat_map}
 use Rattle.procstore.specs.declared.action.Action.{Action}
 use Rattle.procstore.specs.declared.action.Action.TheVariants.{Ask, Timer, Utimer, KillTimer, SendBot, Put}
+use Rattle.procstore.specs.declared.call.Call.{Call}
+use Rattle.procstore.specs.declared.kind.Kind.{Kind}
+use Rattle.procstore.specs.declared.kind.Kind.TheVariants.{Raw, Msg, Msgm, Notc, Pub, Pubm, Join, Part, Sign, Kick, Nick, Mode, Topc}
+use Rattle.procstore.specs.declared.kind.Kind.TheVariants.{Bot, Time, Cron, Timer as timer_kind}
 use Rattle.botcalls.specs.declared.made_call.MadeCall.{MadeCall}
 use Rattle.linkcalls.specs.declared.error.LinkFault.{LinkFault}
 use Rattle.linkcalls.specs.declared.error.LinkFault.TheVariants as refuses
@@ -15,14 +21,26 @@ use Rattle.botcore.specs.declared.fault.ActionFault.TheVariants.{Clock, Queue, L
 use Rattle.botcore.specs.declared.report.Note.{Note}
 use Rattle.botcore.specs.declared.report.Note.TheVariants.{Link, Bound, Unbound, Bad}
 use Rattle.botcore.specs.declared.report.Report.{Report}
+use Rattle.botrun.specs.declared.asks.Asker.{Asker}
+use Rattle.botrun.specs.declared.asks.Asker.TheVariants.{Nobody, Operator, Person}
 use Rattle.botrun.specs.declared.outcome.Outcome.{Outcome}
 use Rattle.botrun.specs.declared.outcome.Outcome.TheVariants.{Nothing, Accepted, Refused, Barred}
 use Rattle.botrun.specs.Outcomes.{told_by}
 
--- who has asked first, if that one waits for the answer
-abbrev pub first_asker : List (Option ℕ) → Option ℕ
-first_asker [] = None
+-- who has asked first
+abbrev pub first_asker : List Asker → Asker
+first_asker [] = Nobody
 first_asker (asker ∷ askers) = asker
+
+abbrev pub is_operator : ℕ → Asker → Bool
+is_operator number Nobody = false
+is_operator number (Operator other) = other == number
+is_operator number (Person nick) = false
+
+-- the operator whose command is done, if one is
+abbrev pub operator_if : Option ℕ → Asker
+operator_if None = Nobody
+operator_if (Some number) = Operator number
 
 -- ---- what procs have asked for
 
@@ -66,11 +84,48 @@ at_most_usize count = min count (2 ^ 64 - 1)
 abbrev pub asked_by_procs : Report → ℕ
 asked_by_procs report = at_most_usize (sum_by asks_of report.calls) - count_by is_refused_ask report.faults
 
--- ---- what a leaf's step tells
+-- the kinds of calls that are made for words that somebody said, whose nick comes first
+abbrev pub is_spoken : Kind → Bool
+is_spoken Msg = true
+is_spoken Msgm = true
+is_spoken Pub = true
+is_spoken Pubm = true
+is_spoken Raw = false
+is_spoken Notc = false
+is_spoken Join = false
+is_spoken Part = false
+is_spoken Sign = false
+is_spoken Kick = false
+is_spoken Nick = false
+is_spoken Mode = false
+is_spoken Topc = false
+is_spoken Bot = false
+is_spoken Time = false
+is_spoken Cron = false
+is_spoken timer_kind = false
+
+-- who waits for what a call asks for
+abbrev pub asker_by : Bool → List (List ℕ) → Asker
+asker_by spoken [] = Nobody
+asker_by spoken (nick ∷ args) = if spoken then Person nick else Nobody
+
+abbrev pub asker_in : Call → Asker
+asker_in call = asker_by (is_spoken call.kind) call.args
+
+-- one for each change that it asks for
+abbrev pub askers_of : MadeCall → List Asker
+askers_of made = replicate (asks_of made) (asker_in made.call)
+
+-- Those whose changes the link took. Where it took not all, which it took is not known, and nobody waits for an answer.
+abbrev pub proc_askers : Report → List Asker
+proc_askers report =
+    if count_by is_refused_ask report.faults == 0 then flat_map askers_of report.calls else replicate (asked_by_procs report) Nobody
+
+-- ---- what a step tells
 
 -- a change waits that this one has asked for
-abbrev pub queued : Option ℕ → LinkNote → List (Option ℕ) → List (Option ℕ)
-queued asker says.Queued askers = askers ++ asker ∷ []
+abbrev pub queued : Option ℕ → LinkNote → List Asker → List Asker
+queued asker says.Queued askers = askers ++ operator_if asker ∷ []
 queued asker says.Idle askers = askers
 queued asker (says.Sent request) askers = askers
 queued asker (says.Accepted n) askers = askers
@@ -89,7 +144,7 @@ queued asker (says.Text from text) askers = askers
 queued asker says.Stray askers = askers
 queued asker (says.Restarted version) askers = askers
 
-abbrev pub noted : Option ℕ → Option Note → List (Option ℕ) → List (Option ℕ)
+abbrev pub noted : Option ℕ → Option Note → List Asker → List Asker
 noted asker None askers = askers
 noted asker (Some (Link note)) askers = queued asker note askers
 noted asker (Some (Bound n)) askers = askers
@@ -97,13 +152,28 @@ noted asker (Some (Unbound n)) askers = askers
 noted asker (Some (Bad fault)) askers = askers
 
 -- the oldest is accepted or refused
-abbrev pub answered : Outcome → List (Option ℕ) → List (Option ℕ)
+abbrev pub answered : Outcome → List Asker → List Asker
 answered Nothing askers = askers
 answered (Accepted n) askers = drop 1 askers
 answered (Refused fault) askers = drop 1 askers
 answered (Barred fault) askers = askers
 
--- Those of procs come first, then the one of the command that is being done, and what the hub has answered goes.
-abbrev pub askers_after : Option ℕ → List (Option ℕ) → Report → List (Option ℕ)
-askers_after asker askers report =
-    answered (told_by report) (noted asker report.note (askers ++ replicate (asked_by_procs report) None))
+-- Those of procs come first, then the one of the command that is being done; and where the step settles what waits, what was
+-- answered goes.
+abbrev pub settled : Bool → Outcome → List Asker → List Asker
+settled true outcome askers = answered outcome askers
+settled false outcome askers = askers
+
+abbrev pub askers_after : Bool → Option ℕ → List Asker → Report → List Asker
+askers_after settles asker askers report = settled settles (told_by report) (noted asker report.note (askers ++ proc_askers report))
+
+-- A leaf's changes are answered by any step. A hub's are by its pump, the last step of a turn that pumps, since it accepts
+-- changes of its leaves in others.
+abbrev pub is_last : List Report → Bool
+is_last [] = true
+is_last (report ∷ reports) = false
+
+abbrev pub turn_askers : Bool → Bool → Option ℕ → List Asker → List Report → List Asker
+turn_askers leaf pumped asker askers [] = askers
+turn_askers leaf pumped asker askers (report ∷ reports) =
+    turn_askers leaf pumped asker (askers_after (leaf || (pumped && is_last reports)) asker askers report) reports

@@ -1,9 +1,7 @@
 -- A turn of a bot, and what it tells of changes.
 use Rattle.std.specs.Prelude.{◌≡◌, ℕ, Bool, List}
 use Rattle.userfile.specs.declared.change.Change.{Change}
-use Rattle.procstore.specs.declared.action.Action.{Action}
-use Rattle.procstore.specs.declared.call.Call.{Call}
-use Rattle.procstore.specs.declared.reply.Code.{Code}
+use Rattle.procstore.specs.Promises.{Promised}
 use Rattle.botcore.specs.Bots.{Bot}
 use Rattle.turns.specs.declared.turn.Heard.{Heard}
 use Rattle.turns.specs.declared.turn.Told.{Told}
@@ -12,17 +10,17 @@ use Rattle.botrun.specs.declared.outcome.Outcome.{Outcome}
 use Rattle.botrun.specs.Outcomes.{outcome_of}
 
 -- A turn's steps lead from one bot to the other, and this is what they tell of changes.
-pub record TakesTurn (code_of : List ℕ → Call → Code) (may : List ℕ → Call → List Action → Type 0)
+pub record TakesTurn (promised : Promised)
     (names : List (List ℕ)) (old : Bot) (held : List ℕ) (heard : Heard) (new : Bot) (after : List ℕ) (outcome : Outcome) : Type 0 where
   pub told : Told
-  pub turn : Turns code_of may names old held heard told new after
+  pub turn : Turns promised names old held heard told new after
   pub tells : outcome ≡ outcome_of told.reports
 
 -- The same of a turn in which these changes are asked for, with a pump after them or not.
-pub record TakesChanges (code_of : List ℕ → Call → Code) (may : List ℕ → Call → List Action → Type 0)
+pub record TakesChanges (promised : Promised)
     (names : List (List ℕ)) (old : Bot) (held : List ℕ) (changes : List Change) (pumps : Bool) (new : Bot) (after : List ℕ)
     (outcome : Outcome) : Type 0 where
   pub heard : Heard
   pub asked : heard.changes.items ≡ changes
   pub pumped : heard.pump ≡ pumps
-  pub takes : TakesTurn code_of may names old held heard new after outcome
+  pub takes : TakesTurn promised names old held heard new after outcome

@@ -1,16 +1,17 @@
 // What a turn's reports mean for the other bots, and for who has asked for changes.
-ghost use Rattle.std.specs.Prelude.{◌≡◌, ◌⊎◌, fold, OnOk};
+ghost use Rattle.std.specs.Prelude.{◌≡◌, Bool, OnOk};
 ghost use Rattle.linkcalls.specs.Shapes.{AreGood};
 ghost use Rattle.turns.specs.Turns.{AllGood};
-ghost use Rattle.botrun.specs.Askers.{answered, askers_after, noted};
+ghost use Rattle.botrun.specs.Askers.{answered, askers_after, noted, operator_if, turn_askers};
 
 use crate::answers::of_change;
-use crate::asks::{Asks, asked_by_procs};
+use crate::asks::{Asker, Asks};
 use crate::entry::Entry;
 use crate::log::log;
 use crate::operators::Operators;
 use crate::others::Others;
 use crate::outcome::{Outcome, told_by};
+use crate::uplink::Uplink;
 use botcore::{Note, Report};
 use botlinks::Links;
 use bytetext::NoMemory;
@@ -18,26 +19,29 @@ use linkcalls::Outgoings;
 use std::alloc::Global;
 
 impl Others {
-    // Leaves the packets of a turn's steps for the other bots, in order, and at a leaf answers those whose changes the
-    // hub has accepted or refused.
+    // Leaves the packets of a turn's steps for the other bots, in order, and answers those whose changes were accepted or
+    // refused. `pumped` says whether the last step is a pump.
     pub(crate) fn pass_all<R: AllocGlobal + Print>(
         &mut self,
         rt: &R,
         operators: &mut Operators,
+        uplink: &mut Uplink,
         reports: &[Report],
+        pumped: bool,
         now: u64,
     ) -> Result<(), NoMemory>
         requires good { AllGood reports.now }
-        // Nobody is answered here at a hub; at a leaf each report tells who still waits.
-        ensures asks { OnOk result ((self.new.asks.askers.items ≡ self.old.asks.askers.items)
-            ⊎ (self.new.asks.askers.items ≡ fold (askers_after self.old.asks.asker) self.old.asks.askers.items reports.now)) }
+        // At a leaf or at a hub, the reports tell who still waits.
+        ensures asks { OnOk result ((leaf : Bool) × (self.new.asks.askers.items
+            ≡ turn_askers leaf pumped self.old.asks.asker self.old.asks.askers.items reports.now)) }
     {
         let is_leaf = self.links.is_leaf();
-        for report in reports {
+        let mut rest = reports;
+        while let Some((report, behind)) = rest.split_first() {
             self.pass(rt.alloc(), &report.packets, now)?;
-            if is_leaf {
-                self.settle(rt, operators, report, now)?;
-            }
+            let settles = is_leaf || (pumped && behind.is_empty());
+            self.settle(rt, operators, uplink, report, settles, now)?;
+            rest = behind;
         }
         Ok(())
     }
@@ -53,55 +57,74 @@ impl Others {
         Ok(())
     }
 
-    // What a leaf's step tells of what is asked.
+    // What a step tells of what is asked, and of what is answered where it settles that.
     fn settle<R: AllocGlobal + Print>(
         &mut self,
         rt: &R,
         operators: &mut Operators,
+        uplink: &mut Uplink,
         report: &Report,
+        settles: bool,
         now: u64,
     ) -> Result<(), NoMemory>
         ensures asks { OnOk result (self.new.asks.askers.items
-            ≡ askers_after self.old.asks.asker self.old.asks.askers.items report.now) }
+            ≡ askers_after settles self.old.asks.asker self.old.asks.askers.items report.now) }
         ensures asker { OnOk result (self.new.asks.asker ≡ self.old.asks.asker) }
     {
-        let count = asked_by_procs(report);
-        if count > 0 {
-            self.asks.put_many(count)?;
+        let count = self.asks.len();
+        self.asks.put_procs(rt.alloc(), report)?;
+        if self.asks.len() > count {
             self.links.ask();
         }
         note_all(&mut self.links, &mut self.asks, &report.note)?;
-        self.answer(rt, operators, told_by(report), now)
+        if !settles {
+            return Ok(());
+        }
+        let outcome = told_by(report);
+        if self.links.is_leaf() {
+            self.log_answer(rt, outcome, now);
+        }
+        self.answer(rt.alloc(), operators, uplink, outcome)
     }
 
-    // Answers who has asked for the oldest change, where it is accepted or refused. The log tells of each, and of what
-    // is refused at once where no operator's command asks for it, since that one is answered so.
-    fn answer<R: AllocGlobal + Print>(
+    // A leaf's log tells of each change that is accepted or refused, and of what is refused at once where no operator's
+    // command asks for it, since that one is answered so. A hub's tells of those that it pumps.
+    fn log_answer<R: Print>(&self, rt: &R, outcome: Outcome, now: u64) {
+        match outcome {
+            Outcome::Nothing => {}
+            Outcome::Barred(fault) => {
+                if self.asks.asker.is_none() {
+                    log(rt, now, &Entry::NotDone(fault.code()));
+                }
+            }
+            Outcome::Accepted(number) => log(rt, now, &Entry::Accepted(number)),
+            Outcome::Refused(fault) => log(rt, now, &Entry::NotDone(fault.code())),
+        }
+    }
+
+    // Answers who has asked for the oldest change, where it is accepted or refused.
+    fn answer(
         &mut self,
-        rt: &R,
+        alloc: Global,
         operators: &mut Operators,
+        uplink: &mut Uplink,
         outcome: Outcome,
-        now: u64,
     ) -> Result<(), NoMemory>
         ensures asks { OnOk result (self.new.asks.askers.items ≡ answered outcome self.old.asks.askers.items) }
         ensures asker { OnOk result (self.new.asks.asker ≡ self.old.asks.asker) }
     {
         match outcome {
-            Outcome::Nothing => return Ok(()),
-            Outcome::Barred(fault) => {
-                if self.asks.asker.is_none() {
-                    log(rt, now, &Entry::NotDone(fault.code()));
-                }
-                return Ok(());
+            Outcome::Nothing | Outcome::Barred(_) => return Ok(()),
+            Outcome::Accepted(_) | Outcome::Refused(_) => {}
+        }
+        match self.asks.settle() {
+            Asker::Nobody => Ok(()),
+            Asker::Operator(number) => {
+                let answer = of_change(alloc, outcome)?;
+                operators.tell_one(number, answer.as_slice())
             }
-            Outcome::Accepted(number) => log(rt, now, &Entry::Accepted(number)),
-            Outcome::Refused(fault) => log(rt, now, &Entry::NotDone(fault.code())),
+            Asker::Person(nick) => uplink.notice(alloc, nick.as_bytes(), outcome),
         }
-        if let Some(asker) = self.asks.settle() {
-            let answer = of_change(rt.alloc(), outcome)?;
-            operators.tell_one(asker, answer.as_slice())?;
-        }
-        Ok(())
     }
 }
 
@@ -115,8 +138,18 @@ fn note_all(links: &mut Links, asks: &mut Asks, note: &Option<Note>) -> Result<(
     };
     links.note(note);
     if let linkcalls::Note::Queued = note {
-        let asker = asks.asker;
+        let asker = operator_if(asks.asker);
         asks.put(asker)?;
     }
     Ok(())
+}
+
+// The operator whose command is done, if one is.
+fn operator_if(asker: Option<u64>) -> Asker
+    ensures { result ≡ operator_if asker }
+{
+    match asker {
+        Some(number) => Asker::Operator(number),
+        None => Asker::Nobody,
+    }
 }

@@ -1,22 +1,35 @@
-// Who has asked for the changes that wait at a leaf.
-ghost use Rattle.std.specs.Prelude.{◌≡◌, ◌↔◌, ◌∷◌, ◌++◌, [], None, Some, Contains, IsTrue, OnOk, drop, replicate, count_by, sum_by};
+// Who has asked for the changes that wait at a bot.
+ghost use Rattle.std.specs.Prelude.{◌≡◌, ◌∷◌, ◌++◌, [], IfOk, OnOk, drop, replicate, count_by, sum_by};
+ghost use Rattle.std.specs.List.{list_any, flat_map};
 ghost use Rattle.std.specs.VecDeque.{deque_len};
-ghost use Rattle.botrun.specs.Askers.{asked_by_procs, asks_of, at_most_usize, first_asker, is_ask, is_ask_fault, is_refused_ask};
+ghost use Rattle.botrun.specs.declared.asks.Asker.TheVariants.{Nobody};
+ghost use Rattle.botrun.specs.Askers.{asked_by_procs, asker_in, askers_of, asks_of, at_most_usize, first_asker, is_ask, is_ask_fault};
+ghost use Rattle.botrun.specs.Askers.{is_operator, is_refused_ask, is_spoken, proc_askers};
 
-use botcalls::MadeCalls;
+use botcalls::{MadeCall, MadeCalls};
 use botcore::{ActionFault, Fault, Faults, Report};
-use bytetext::NoMemory;
+use bytetext::{NoMemory, Text, TryCopy};
 use linkcalls::LinkFault;
-use procstore::Action;
+use procstore::{Action, Call, Kind};
 use std::alloc::Global;
 use std::collections::VecDeque;
 
-// Who has asked for the changes that wait at a leaf or are out, the oldest first: an operator by its number, or nobody
-// who waits for an answer. The hub answers them in this order.
+// Who has asked for a change.
+#[derive(Drop)]
+pub(crate) enum Asker {
+    // Nobody who waits for an answer.
+    Nobody,
+    // The operator of this number.
+    Operator(u64),
+    // The person of this nick, by whose words a proc asked.
+    Person(Text),
+}
+
+// Who has asked for the changes that wait or are out, the oldest first. They are answered in this order.
 #[derive(Drop)]
 pub(crate) struct Asks {
-    askers: VecDeque<Option<u64>>,
-    // The operator whose command is being done.
+    askers: VecDeque<Asker>,
+    // The operator whose command is being done, where the answer comes later.
     pub(crate) asker: Option<u64>,
 }
 
@@ -39,14 +52,14 @@ impl Asks {
     }
 
     // Whether an operator has asked for one of them.
-    pub(crate) fn holds(&self, asker: u64) -> bool
-        ensures { IsTrue result ↔ Contains self.now.askers.items (Some asker) }
+    pub(crate) fn holds(&self, number: u64) -> bool
+        ensures { result ≡ list_any (is_operator number) self.now.askers.items }
     {
-        self.askers.iter().any(|other| *other == Some(asker))
+        self.askers.iter().any(|asker| is_operator(asker, number))
     }
 
-    // Something is asked, by an operator or by nobody who waits for an answer.
-    pub(crate) fn put(&mut self, asker: Option<u64>) -> Result<(), NoMemory>
+    // Something is asked.
+    pub(crate) fn put(&mut self, asker: Asker) -> Result<(), NoMemory>
         ensures last { OnOk result (self.new.askers.items ≡ self.old.askers.items ++ asker ∷ []) }
         ensures same { self.new.asker ≡ self.old.asker }
     {
@@ -54,29 +67,104 @@ impl Asks {
         Ok(())
     }
 
-    // Procs have asked for so many changes.
-    pub(crate) fn put_many(&mut self, count: usize) -> Result<(), NoMemory>
-        ensures last { OnOk result (self.new.askers.items ≡ self.old.askers.items ++ replicate count None) }
+    // The procs of a step have asked for changes that the link took. Where it took not all, which of them it took is not
+    // known, and nobody waits for an answer.
+    pub(crate) fn put_procs(&mut self, alloc: Global, report: &Report) -> Result<(), NoMemory>
+        ensures last { OnOk result (self.new.askers.items ≡ self.old.askers.items ++ proc_askers report.now) }
+        ensures same { self.new.asker ≡ self.old.asker }
+    {
+        if refused_in(&report.faults) > 0 {
+            return self.put_many(asked_by_procs(report));
+        }
+        self.put_callers(alloc, &report.calls)
+    }
+
+    // So many changes are asked for, and nobody waits for an answer.
+    fn put_many(&mut self, count: usize) -> Result<(), NoMemory>
+        ensures last { OnOk result (self.new.askers.items ≡ self.old.askers.items ++ replicate count Nobody) }
         ensures same { self.new.asker ≡ self.old.asker }
     {
         for _ask in 0..count {
-            self.put(None)?;
+            self.put(Asker::Nobody)?;
         }
         Ok(())
     }
 
-    // The oldest is answered: the operator who has asked for it, if it was one.
-    pub(crate) fn settle(&mut self) -> Option<u64>
+    // Calls have asked for changes, each for whom it was made.
+    fn put_callers(&mut self, alloc: Global, calls: &MadeCalls) -> Result<(), NoMemory>
+        ensures last { OnOk result (self.new.askers.items ≡ self.old.askers.items ++ flat_map askers_of calls.now) }
+        ensures same { self.new.asker ≡ self.old.asker }
+    {
+        for call in calls.as_slice() {
+            self.put_caller(alloc, call)?;
+        }
+        Ok(())
+    }
+
+    fn put_caller(&mut self, alloc: Global, call: &MadeCall) -> Result<(), NoMemory>
+        ensures last { OnOk result (self.new.askers.items ≡ self.old.askers.items ++ askers_of call.now) }
+        ensures same { self.new.asker ≡ self.old.asker }
+    {
+        for _ask in 0..asks_among(call.reply.actions.as_slice()) {
+            self.put(asker_in(alloc, &call.call)?)?;
+        }
+        Ok(())
+    }
+
+    // The oldest is answered: who has asked for it.
+    pub(crate) fn settle(&mut self) -> Asker
         ensures first { result ≡ first_asker self.old.askers.items }
         ensures rest { self.new.askers.items ≡ drop 1 self.old.askers.items }
         ensures same { self.new.asker ≡ self.old.asker }
     {
-        self.askers.pop_front().unwrap_or(None)
+        self.askers.pop_front().unwrap_or(Asker::Nobody)
+    }
+}
+
+// Whether it is the operator of this number.
+fn is_operator(asker: &Asker, number: u64) -> bool
+    ensures { result ≡ is_operator number asker.now }
+{
+    match asker {
+        Asker::Operator(other) => *other == number,
+        Asker::Nobody | Asker::Person(_) => false,
+    }
+}
+
+// Who waits for what a call asks for: the person whose words it was made for.
+fn asker_in(alloc: Global, call: &Call) -> Result<Asker, NoMemory>
+    ensures { IfOk result (λ asker. asker ≡ asker_in call.now) }
+{
+    match call.args.as_slice().first() {
+        Some(nick) if is_spoken(call.kind) => Ok(Asker::Person(nick.copy(alloc)?)),
+        Some(_) | None => Ok(Asker::Nobody),
+    }
+}
+
+// Whether a call of this kind is made for words that somebody said to the bot or on a channel, whose nick comes first.
+fn is_spoken(kind: Kind) -> bool
+    ensures { result ≡ is_spoken kind }
+{
+    match kind {
+        Kind::Msg | Kind::Msgm | Kind::Pub | Kind::Pubm => true,
+        Kind::Raw
+        | Kind::Notc
+        | Kind::Join
+        | Kind::Part
+        | Kind::Sign
+        | Kind::Kick
+        | Kind::Nick
+        | Kind::Mode
+        | Kind::Topc
+        | Kind::Bot
+        | Kind::Time
+        | Kind::Cron
+        | Kind::Timer => false,
     }
 }
 
 // For how many changes the procs of a step have asked that the link took.
-pub(crate) fn asked_by_procs(report: &Report) -> usize
+fn asked_by_procs(report: &Report) -> usize
     ensures { result ≡ asked_by_procs report.now }
 {
     asks_in(&report.calls).saturating_sub(refused_in(&report.faults))

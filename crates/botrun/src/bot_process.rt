@@ -3,6 +3,7 @@ ghost use Rattle.std.specs.Prelude.{◌<◌, IfOk, length};
 ghost use Rattle.bytetext.specs.declared.moment.TheConstants.{MOMENTS_END};
 ghost use Rattle.botrun.specs.Stations.{IsKnownWhereWanted, IsLinkedAs};
 
+use crate::asks::Asker;
 use crate::bases::Bases;
 use crate::checking::check;
 use crate::ending::{RunError, of_folder};
@@ -120,7 +121,7 @@ fn look_back<P: Promise, B: Run>(
     store: &ProcStore<P, B>,
 ) -> Result<(), RunError> {
     if process.others.links.is_leaf() && is_out(alloc, &mut process.bot, store)? {
-        process.others.asks.put(None)?;
+        process.others.asks.put(Asker::Nobody)?;
     }
     Ok(())
 }

@@ -41,7 +41,7 @@ pub(crate) enum Entry<'a> {
     Heard(&'a [u8], &'a [u8], &'a [u8]),
     // A line of the bot's is left for the server.
     Told(&'a [u8]),
-    // A line of the configuration or of an operator is left for the server. It may hold a password.
+    // A line of the configuration or of an operator, or an answer to a person, is left for the server. It may hold a password.
     ToldOwn,
     // A proc's change was accepted under this number.
     Accepted(u32),
@@ -106,7 +106,10 @@ impl Display for Entry<'_> {
             Entry::Heard(source, command, rest) => {
                 write!(f, "< {} {} {}", Shown(source), Shown(command), Shown(rest))
             }
-            Entry::ToldOwn => write!(f, "> a line of the configuration or of an operator"),
+            Entry::ToldOwn => write!(
+                f,
+                "> a line of the configuration or of an operator, or an answer"
+            ),
             Entry::Told(line) => write!(f, "> {}", Shown(line)),
             Entry::Accepted(number) => write!(f, "change {number} accepted"),
             Entry::NotDone(code) => write!(f, "refused: {code}"),

@@ -40,6 +40,7 @@ mod hearing;
 mod keeping;
 mod log;
 mod netting;
+mod noticing;
 mod obeying;
 mod operators;
 mod others;

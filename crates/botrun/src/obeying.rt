@@ -53,7 +53,7 @@ impl Process {
         let mut obeyed = false;
         for place in 0..self.operators.len() {
             if let Some(line) = self.operators.take_command(rt.alloc(), place)? {
-                self.others.asks.asker = self.operators.number(place);
+                self.others.asks.asker = self.later_asker(place);
                 let answer = self.obey_line(rt, store, settings, line.as_slice(), now)?;
                 self.others.asks.asker = None;
                 self.operators.tell(place, answer.as_slice())?;
@@ -61,6 +61,15 @@ impl Process {
             }
         }
         Ok(obeyed)
+    }
+
+    // The operator at a place, where what a command asks for is answered later: at a leaf, since the hub accepts its changes.
+    fn later_asker(&self, place: usize) -> Option<u64> {
+        if self.others.links.is_leaf() {
+            self.operators.number(place)
+        } else {
+            None
+        }
     }
 
     // Does what a line asks for. What is answered.

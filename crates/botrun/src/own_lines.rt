@@ -3,7 +3,7 @@ use bytetext::{NoMemory, Text};
 use std::alloc::Global;
 use std::collections::VecDeque;
 
-/// The most lines of operators that wait.
+/// The most lines of operators and of answers that wait.
 const MAX_WAITING: usize = 64;
 
 // Lines that the process itself has for the server, the oldest first.
@@ -25,7 +25,7 @@ impl OwnLines {
         self.lines.len()
     }
 
-    // Whether an operator's line finds room.
+    // Whether a line of an operator, or of an answer to a person, finds room.
     pub(crate) fn has_room(&self) -> bool {
         self.lines.len() < MAX_WAITING
     }

@@ -95,7 +95,7 @@ impl Process {
         now: u64,
     ) -> Result<Outcome, RunError>
         // What comes of it is what a turn of the bot tells in which this change alone is asked for, and pumped.
-        ensures turn { IfOk result (λ outcome. TakesChanges P.code_of P.may store.now self.old.bot self.old.lines
+        ensures turn { IfOk result (λ outcome. TakesChanges P.promised store.now self.old.bot self.old.lines
             (change ∷ []) true self.new.bot self.new.lines outcome) }
     {
         let mut heard = heard_of(rt.alloc(), false, Vec::new(rt.alloc()), now);
@@ -113,16 +113,23 @@ impl Process {
     ) -> Result<Outcome, RunError>
         requires good { AllByRecursion HasGoodRecords heard.packets.items }
         // The bot takes one turn, and this is what it tells of changes.
-        ensures turn { IfOk result (λ outcome. TakesTurn P.code_of P.may store.now self.old.bot self.old.lines heard
+        ensures turn { IfOk result (λ outcome. TakesTurn P.promised store.now self.old.bot self.old.lines heard
             self.new.bot self.new.lines outcome) }
     {
         let now = heard.now;
+        let pumped = heard.pump && !heard.compact;
         let told = take_turn(rt.alloc(), &mut self.bot, store, &mut self.lines, heard);
         let outcome = outcome_of(told.reports.as_slice());
         self.uplink
             .pass_all(rt, settings, told.reports.as_slice(), now)?;
-        self.others
-            .pass_all(rt, &mut self.operators, told.reports.as_slice(), now)?;
+        self.others.pass_all(
+            rt,
+            &mut self.operators,
+            &mut self.uplink,
+            told.reports.as_slice(),
+            pumped,
+            now,
+        )?;
         match told.end {
             TurnEnd::Done => Ok(outcome),
             TurnEnd::NoMemory => Err(RunError::NoMemory),

@@ -13,7 +13,7 @@ use Rattle.bottimers.specs.Occurrences.{is_due_of, is_kept, repeats_left}
 use Rattle.bottimers.specs.Held.{call_of, IsAbove, IsNotBelow}
 use Rattle.bottimers.specs.Countdown.{IsRunning, IsRunningAt, counted, due_calls}
 
-map-cond : {A B : Type 0} (f : A → B) (b : Bool) (xs ys : List A) → map f (cond b xs ys) ≡ cond b (map f xs) (map f ys)
+pub map-cond : {A B : Type 0} (f : A → B) (b : Bool) (xs ys : List A) → map f (cond b xs ys) ≡ cond b (map f xs) (map f ys)
 map-cond f true xs ys = refl
 map-cond f false xs ys = refl
 

@@ -2,6 +2,7 @@ pub mod Seconds
 pub mod Jumps
 pub mod Laws
 pub mod EntryLists
+pub mod Places
 pub mod Adding
 pub mod CivilMinutes
 pub mod ZoneYears

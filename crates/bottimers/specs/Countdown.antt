@@ -1,5 +1,6 @@
 -- What the countdown of a timer says at a second.
 use Rattle.std.specs.Prelude.{◌≡◌, ℕ, ◌+◌, ◌<◌, ◌≤◌, true, Option, Some, None, List, map, filter, All, vec_len, vec_capacity}
+use Rattle.bottimers.specs.declared.call.TimerCall.{TimerCall}
 use Rattle.bottimers.specs.declared.timer.Timer.{Timer}
 use Rattle.bottimers.specs.declared.timer.TimerKind.{TimerKind}
 use Rattle.bottimers.specs.declared.entry.Entry.{Entry}
@@ -25,7 +26,7 @@ abbrev pub counted : ℕ → Entry → Entry
 counted t e = record { timer = e.timer; left = units_left e.timer t; repeats = repeats_left e.timer t }
 
 -- the calls of those of one kind that are due at a second
-abbrev pub due_calls : TimerKind → ℕ → List Entry → List (ℕ × List ℕ)
+abbrev pub due_calls : TimerKind → ℕ → List Entry → List TimerCall
 due_calls kind t entries = map (λ e. call_of e.timer) (filter (λ e. is_due_of kind t e.timer) entries)
 
 abbrev pub held_of : List Timer → Option ℕ → ℕ → ℕ → Held

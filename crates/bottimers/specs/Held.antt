@@ -1,7 +1,10 @@
 -- What contracts see of the timers of one bot, and what each call leaves.
-use Rattle.std.specs.Prelude.{ℕ, ◌-◌, ◌<◌, ◌≤◌, Bool, not, ◌||◌, ◌==◌, nat_lt, nat_le, if◌then◌else◌}
+use Rattle.std.specs.Prelude.{ℕ, ◌-◌, ◌<◌, ◌≤◌, Bool, not, ◌&&◌, ◌||◌, ◌==◌, nat_lt, nat_le, if◌then◌else◌}
 use Rattle.std.specs.Prelude.{Option, Some, None, unwrap_or, List, [], ◌∷◌, ◌++◌, length, map, filter}
 use Rattle.std.specs.List.{list_any}
+use Rattle.std.specs.Set.{remove_key}
+use Rattle.std.specs.Str.{bytes_eq}
+use Rattle.bottimers.specs.declared.call.TimerCall.{TimerCall}
 use Rattle.bottimers.specs.declared.limits.TheConstants.{MAX_INTERVAL, MAX_TIMERS, MAX_ID}
 use Rattle.bottimers.specs.declared.fault.ClockFault.{ClockFault}
 use Rattle.bottimers.specs.declared.fault.ClockFault.TheVariants.{BadMoment, BadInterval, Full}
@@ -53,16 +56,28 @@ holds h id = list_any (λ m. m.id == id) h.timers
 abbrev pub without : Held → ℕ → Held
 without h id = record h { timers = filter (λ m. not (m.id == id)) h.timers }
 
--- what a timer calls: its proc, under its id
-abbrev pub call_of : Timer → ℕ × List ℕ
-call_of m = (m.id, m.proc)
+-- whether a timer calls this proc with this text
+abbrev pub is_named : List ℕ → List ℕ → Timer → Bool
+is_named proc text m = bytes_eq m.proc proc && bytes_eq m.text text
+
+-- whether some timer does
+abbrev pub holds_named : Held → List ℕ → List ℕ → Bool
+holds_named h proc text = list_any (is_named proc text) h.timers
+
+-- the same without the oldest that does: `remove_key` drops the first that passes
+abbrev pub without_named : Held → List ℕ → List ℕ → Held
+without_named h proc text = record h { timers = remove_key (is_named proc text) h.timers }
+
+-- what a timer calls: its proc with its text, under its id
+abbrev pub call_of : Timer → TimerCall
+call_of m = record { id = m.id; proc = m.proc; text = m.text }
 
 -- the calls of the timers of one kind that are due at a second, in the order of making
-abbrev pub calls_of_kind : TimerKind → ℕ → Held → List (ℕ × List ℕ)
+abbrev pub calls_of_kind : TimerKind → ℕ → Held → List TimerCall
 calls_of_kind kind t h = map call_of (filter (is_due_of kind t) h.timers)
 
 -- all calls of a second: the utimers come before the timers (our own choice; Eggdrop's main loop has the same order)
-abbrev pub calls_at : ℕ → Held → List (ℕ × List ℕ)
+abbrev pub calls_at : ℕ → Held → List TimerCall
 calls_at t h = calls_of_kind Seconds t h ++ calls_of_kind Minutes t h
 
 -- after a second, run or skipped
@@ -71,7 +86,14 @@ passed t h = record h { timers = timers_at t h; last = Some t }
 
 -- how a timer stands at a second
 abbrev pub status_of : ℕ → Timer → TimerStatus
-status_of t m = record { kind = m.kind; left = units_left m t; proc = m.proc; id = m.id; repeats = repeats_left m t }
+status_of t m = record {
+  kind = m.kind;
+  left = units_left m t;
+  proc = m.proc;
+  text = m.text;
+  id = m.id;
+  repeats = repeats_left m t;
+}
 
 -- how each stands at the last second given
 abbrev pub statuses : Held → List TimerStatus

@@ -1,15 +1,16 @@
 // What the calls on timers do to the list of entries.
 ghost use Rattle.std.specs.Prelude.{◌≡◌, ◌<◌, ◌≤◌, ◌==◌, not, ◌||◌, nat_lt, IsOk, IfOk, OnOk, [], ◌++◌};
 ghost use Rattle.std.specs.Prelude.{ℕ, length, map, filter, All, vec_capacity, vec_len};
-ghost use Rattle.std.specs.List.{list_any};
+ghost use Rattle.std.specs.List.{list_any, position};
 ghost use Rattle.bottimers.specs.Occurrences.{is_due, is_kept};
 ghost use Rattle.bottimers.specs.Countdown.{IsRunning, counted, due_calls};
-ghost use Rattle.bottimers.specs.Held.{status_of};
+ghost use Rattle.bottimers.specs.Held.{is_named, status_of};
 
+use crate::call::TimerCall;
 use crate::entry::Entry;
 use crate::status::TimerStatus;
 use crate::timer::TimerKind;
-use bytetext::{NoMemory, Text, TryCopy};
+use bytetext::{NoMemory, TryCopy};
 use std::alloc::Global;
 
 // How many have an occurrence to come after the second `to`.
@@ -26,13 +27,13 @@ pub(crate) fn count_kept(entries: &[Entry], from: u64, to: u64) -> usize
     count
 }
 
-// The ids and procs of those with an occurrence at the second `to`, utimers first.
+// The calls of those with an occurrence at the second `to`, utimers first.
 pub(crate) fn due_of(
     alloc: Global,
     entries: &[Entry],
     from: u64,
     to: u64,
-) -> Result<Vec<(u32, Text)>, NoMemory>
+) -> Result<Vec<TimerCall>, NoMemory>
     requires { All (λ e. IsRunning from e × (from < to)) entries.now }
     ensures calls { IfOk result (λ calls. calls.items
         ≡ due_calls TimerKind.Seconds to entries.now ++ due_calls TimerKind.Minutes to entries.now) }
@@ -57,10 +58,10 @@ pub(crate) fn is_any_due(entries: &[Entry], from: u64, to: u64) -> bool
     false
 }
 
-// Puts the ids and procs of those of one kind with an occurrence at the second `to` after the calls so far.
+// Puts the calls of those of one kind with an occurrence at the second `to` after the calls so far.
 fn push_due(
     alloc: Global,
-    calls: &mut Vec<(u32, Text)>,
+    calls: &mut Vec<TimerCall>,
     entries: &[Entry],
     kind: TimerKind,
     from: u64,
@@ -72,7 +73,7 @@ fn push_due(
 {
     for entry in entries {
         if entry.is_due_of(kind, from, to) {
-            calls.push((entry.timer.id, entry.timer.proc.copy(alloc)?))?;
+            calls.push(entry.timer.call(alloc)?)?;
         }
     }
     Ok(())
@@ -125,6 +126,15 @@ pub(crate) fn remove_id(entries: &mut Vec<Entry>, id: u32)
     entries.retain(|entry| entry.timer.id != id);
 }
 
+// The place of the first that calls this proc with this text.
+pub(crate) fn place_named(entries: &[Entry], proc: &[u8], text: &[u8]) -> Option<usize>
+    ensures { result ≡ position (λ e. is_named proc.now text.now e.timer) entries.now }
+{
+    entries
+        .iter()
+        .position(|entry| entry.timer.is_named(proc, text))
+}
+
 // How each stands at a second.
 pub(crate) fn statuses_of(
     alloc: Global,
@@ -150,6 +160,7 @@ fn status(alloc: Global, entry: &Entry) -> Result<TimerStatus, NoMemory>
         kind: entry.timer.kind,
         left: entry.left,
         proc: entry.timer.proc.copy(alloc)?,
+        text: entry.timer.text.copy(alloc)?,
         id: entry.timer.id,
         repeats: entry.repeats,
     })

@@ -17,8 +17,8 @@ pub enum ClockFault {
     /// 200 timers are held, or every id was given once.
     #[error("no room for a timer: kill one first")]
     Full,
-    /// No timer has this id.
-    #[error("no such timer: look its id up in the list")]
+    /// No timer has this id, or none calls this proc with this text.
+    #[error("no such timer: look it up in the list")]
     NoSuchTimer,
     /// A zone's minutes are not from -1,439 to 1,439, or its text is no rule of POSIX of 1 to 100 bytes.
     #[error("bad zone: choose -1439 to 1439 minutes, or write a rule as 'CET-1CEST,M3.5.0,M10.5.0/3'")]

@@ -7,7 +7,8 @@
 //!   long gap only the last 600.
 //! - [`Timers`] says at each of those seconds which timers are due, utimers before timers. A timer that was made in the
 //!   minute or second s with the interval i and the count q is due in the minutes or seconds s + i, s + 2i and so on, q
-//!   times or with 0 for ever; what falls into seconds that aren't run is lost and used up.
+//!   times or with 0 for ever; what falls into seconds that aren't run is lost and used up. It calls a proc with a text,
+//!   and is killed by its id or by the two.
 //! - A [`Zone`] says how far a clock is ahead of UTC at a moment, and [`civil`] gives the minute that such a clock and a
 //!   calendar show then. It is the one place that knows of zones. [`time_text`], [`time_args`] and [`cron_args`] write it.
 //! - A [`Cron`] mask is read once and then tried on minutes.
@@ -16,16 +17,17 @@
 //! let mut clock = Clock::new();
 //! let mut timers = Timers::new(alloc);
 //! clock.advance(alloc, 100)?;
-//! timers.add(TimerKind::Seconds, 10, 1, tick, clock.last())?;
+//! timers.add(TimerKind::Seconds, 10, 1, greet, alice, clock.last())?;
 //! for second in clock.advance(alloc, 150)? {
-//!     for (id, proc) in timers.due(alloc, second)? {
-//!         // second 110: id 1, proc tick
+//!     for call in timers.due(alloc, second)? {
+//!         // second 110: id 1, proc greet, text alice
 //!     }
 //! }
 //! ```
 #![tactic(auto)]
 
 mod calendar;
+mod call;
 mod clock;
 mod cron;
 mod cron_text;
@@ -41,6 +43,7 @@ mod words;
 mod zone;
 
 pub use crate::calendar::{CivilMinute, civil};
+pub use crate::call::TimerCall;
 pub use crate::clock::Clock;
 pub use crate::cron::Cron;
 pub use crate::fault::{ClockError, ClockFault, CronFault};

@@ -13,6 +13,8 @@ pub struct TimerStatus {
     pub left: u32,
     /// The proc that it calls.
     pub proc: Text,
+    /// The argument of its calls.
+    pub text: Text,
     /// Its id.
     pub id: u32,
     /// How many occurrences are to come, or 0 for ever.
@@ -25,6 +27,7 @@ impl TryCopy for TimerStatus {
             kind: self.kind,
             left: self.left,
             proc: self.proc.copy(alloc)?,
+            text: self.text.copy(alloc)?,
             id: self.id,
             repeats: self.repeats,
         })

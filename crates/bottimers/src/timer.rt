@@ -1,7 +1,8 @@
 // One timer, as it was made.
-ghost use Rattle.std.specs.Prelude.{◌≡◌};
+ghost use Rattle.std.specs.Prelude.{◌≡◌, IfOk};
 ghost use Rattle.bottimers.specs.Occurrences.{is_same_kind};
 
+use crate::call::TimerCall;
 use bytetext::{NoMemory, Text, TryCopy};
 use std::alloc::Global;
 
@@ -41,6 +42,30 @@ pub struct Timer {
     pub count: u32,
     /// The proc that it calls.
     pub proc: Text,
+    /// The argument of its calls.
+    pub text: Text,
+}
+
+impl Timer {
+    ghost use Rattle.bottimers.specs.Held.{call_of, is_named};
+
+    // What it calls.
+    pub(crate) fn call(&self, alloc: Global) -> Result<TimerCall, NoMemory>
+        ensures { IfOk result (λ call. call ≡ call_of self.now) }
+    {
+        Ok(TimerCall {
+            id: self.id,
+            proc: self.proc.copy(alloc)?,
+            text: self.text.copy(alloc)?,
+        })
+    }
+
+    // Whether it calls this proc with this text.
+    pub(crate) fn is_named(&self, proc: &[u8], text: &[u8]) -> bool
+        ensures { result ≡ is_named proc.now text.now self.now }
+    {
+        self.proc.is_same(proc) && self.text.is_same(text)
+    }
 }
 
 impl TryCopy for Timer {
@@ -52,6 +77,7 @@ impl TryCopy for Timer {
             interval: self.interval,
             count: self.count,
             proc: self.proc.copy(alloc)?,
+            text: self.text.copy(alloc)?,
         })
     }
 }

@@ -5,7 +5,10 @@ ghost use Rattle.bottimers.specs.Faults.{RefusedFor, RefusedBy};
 ghost use Rattle.bottimers.specs.Occurrences.{is_due, FallsDue};
 ghost use Rattle.bottimers.specs.declared.timer.Timer.{Timer};
 
-use crate::entries::{count_kept, due_of, has_id, is_any_due, pass, remove_id, statuses_of};
+use crate::call::TimerCall;
+use crate::entries::{
+    count_kept, due_of, has_id, is_any_due, pass, place_named, remove_id, statuses_of,
+};
 use crate::entry::Entry;
 use crate::fault::{ClockError, ClockFault};
 use crate::limits::{MAX_ID, MAX_INTERVAL, MAX_TIMERS};
@@ -19,20 +22,22 @@ use std::marker::Model;
 ///
 /// ```text
 /// let mut timers = Timers::new(alloc);
-/// timers.add(TimerKind::Minutes, 1, 0, minutely, Some(30))?     // id 1, first due at 60
-/// timers.add(TimerKind::Seconds, 30, 1, once, Some(30))?        // id 2, due at 60 alone
-/// timers.due(alloc, 59)?                                        // nothing
-/// timers.due(alloc, 60)?                                        // id 2, then id 1: utimers come first
-/// timers.list(alloc)?                                           // id 1, with one minute left
+/// timers.add(TimerKind::Minutes, 1, 0, greet, alice, Some(30))?     // id 1, first due at 60
+/// timers.add(TimerKind::Minutes, 1, 0, greet, bob, Some(30))?       // id 2, first due at 60
+/// timers.add(TimerKind::Seconds, 30, 1, part, channel, Some(30))?   // id 3, due at 60 alone
+/// timers.due(alloc, 59)?                                            // nothing
+/// timers.due(alloc, 60)?                                            // id 3, then 1 and 2: utimers come first
+/// timers.list(alloc)?                                               // ids 1 and 2, each with one minute left
+/// timers.kill_named(b"greet", b"bob")?                              // id 2 is gone
 /// timers.kill(1)?
 /// ```
 ///
 /// Who must not fail half-way asks for room first:
 ///
 /// ```text
-/// timers.reserve(2)?;                                           // all that may want memory
-/// timers.add_reserved(TimerKind::Minutes, 1, 0, first, last)    // takes none
-/// timers.add_reserved(TimerKind::Minutes, 1, 0, second, last)   // takes none
+/// timers.reserve(2)?;                                                // all that may want memory
+/// timers.add_reserved(TimerKind::Minutes, 1, 0, greet, alice, last)  // takes none
+/// timers.add_reserved(TimerKind::Minutes, 1, 0, greet, bob, last)    // takes none
 /// ```
 #[derive(Drop)]
 pub struct Timers {
@@ -55,8 +60,8 @@ impl Model for Timers {
 }
 
 impl Timers {
-    ghost use Rattle.bottimers.specs.Held.{Held, IsAbove, IsNotBelow, add_fault, with_timer, holds, without};
-    ghost use Rattle.bottimers.specs.Held.{calls_at, passed, statuses};
+    ghost use Rattle.bottimers.specs.Held.{Held, IsAbove, IsNotBelow, add_fault, with_timer, holds, holds_named};
+    ghost use Rattle.bottimers.specs.Held.{without, without_named, calls_at, passed, statuses};
 
     /// No timer, and room for none. Takes no memory.
     pub fn new(alloc: Global) -> Timers
@@ -86,8 +91,8 @@ impl Timers {
         Ok(())
     }
 
-    /// Makes a timer that calls `proc` every `interval` minutes or seconds, counted from the minute or second `last`,
-    /// `count` times or with 0 for ever, and answers its id. Ids rise from 1 and are never used again. `last` is the
+    /// Makes a timer that calls `proc` with `text` every `interval` minutes or seconds, counted from the minute or second
+    /// `last`, `count` times or with 0 for ever, and answers its id. Ids rise from 1 and are never used again. `last` is the
     /// clock's last second, not below any second given before; timers whose last occurrence it has passed are gone.
     ///
     /// # Errors
@@ -100,6 +105,7 @@ impl Timers {
         interval: u32,
         count: u32,
         proc: Text,
+        text: Text,
         last: Option<u64>,
     ) -> Result<u32, ClockError>
         requires { IsNotBelow self.old.last last }
@@ -113,6 +119,7 @@ impl Timers {
               interval = interval;
               count = count;
               proc = proc;
+              text = text;
             })) }
         ensures unchanged { OnErr result (self.new ≡ self.old) }
         ensures needs_none { 0 < self.old.room → result ≢ Err Failure.NoMemory }
@@ -122,7 +129,7 @@ impl Timers {
         };
         refuse(self.refusal_of(interval, now))?;
         self.reserve(self.room.max(1))?;
-        Ok(self.push(kind, interval, count, proc, now))
+        Ok(self.push(kind, interval, count, proc, text, now))
     }
 
     /// The same where there is room: it takes no memory.
@@ -135,6 +142,7 @@ impl Timers {
         interval: u32,
         count: u32,
         proc: Text,
+        text: Text,
         last: Option<u64>,
     ) -> Result<u32, ClockFault>
         requires reading { IsNotBelow self.old.last last }
@@ -149,6 +157,7 @@ impl Timers {
               interval = interval;
               count = count;
               proc = proc;
+              text = text;
             })) }
         ensures unchanged { OnErr result (self.new ≡ self.old) }
     {
@@ -157,7 +166,7 @@ impl Timers {
         };
         match self.refusal_of(interval, now) {
             Some(fault) => Err(fault),
-            None => Ok(self.push(kind, interval, count, proc, now)),
+            None => Ok(self.push(kind, interval, count, proc, text, now)),
         }
     }
 
@@ -178,7 +187,15 @@ impl Timers {
     }
 
     // Puts a timer that isn't refused into the room, and answers its id.
-    fn push(&mut self, kind: TimerKind, interval: u32, count: u32, proc: Text, now: u64) -> u32
+    fn push(
+        &mut self,
+        kind: TimerKind,
+        interval: u32,
+        count: u32,
+        proc: Text,
+        text: Text,
+        now: u64,
+    ) -> u32
         requires reading { IsNotBelow self.old.last (Some now) }
         requires room { 0 < self.old.room }
         requires free { (0 < interval) × (self.old.spent < MAX_ID) }
@@ -191,6 +208,7 @@ impl Timers {
               interval = interval;
               count = count;
               proc = proc;
+              text = text;
             }) }
     {
         let id = self.spent + 1;
@@ -205,6 +223,7 @@ impl Timers {
             interval,
             count,
             proc,
+            text,
         }));
         id
     }
@@ -223,6 +242,23 @@ impl Timers {
             return Err(ClockFault::NoSuchTimer);
         }
         remove_id(&mut self.entries, id);
+        Ok(())
+    }
+
+    /// Takes away the oldest timer that calls this proc with this text, both the same byte for byte. Takes no memory.
+    ///
+    /// # Errors
+    /// `NoSuchTimer` where there is none; the timers are as before.
+    pub fn kill_named(&mut self, proc: &[u8], text: &[u8]) -> Result<(), ClockFault>
+        ensures held { IsOk result ↔ IsTrue (holds_named self.old proc.now text.now) }
+        ensures killed { OnOk result (self.new ≡ without_named self.old proc.now text.now) }
+        ensures fault { IfErr result (λ fault. fault ≡ ClockFault.NoSuchTimer) }
+        ensures unchanged { OnErr result (self.new ≡ self.old) }
+    {
+        let Some(place) = place_named(self.entries.as_slice(), proc, text) else {
+            return Err(ClockFault::NoSuchTimer);
+        };
+        let _gone = self.entries.remove(place);
         Ok(())
     }
 
@@ -255,14 +291,14 @@ impl Timers {
         self.last = Some(second);
     }
 
-    /// The ids and procs of the timers that are due at this second: the utimers in the order of making, and then, at the
+    /// The calls of the timers that are due at this second: the utimers in the order of making, and then, at the
     /// first second of a minute, the timers in the order of making. What is due then and what was due at seconds that
     /// were skipped is used up; a timer with no occurrence to come is gone.
     ///
     /// # Errors
     /// `NoMemory` where some timer is due and room for the list is refused. The timers are as before, and the second may
     /// be given again.
-    pub fn due(&mut self, alloc: Global, second: u64) -> Result<Vec<(u32, Text)>, NoMemory>
+    pub fn due(&mut self, alloc: Global, second: u64) -> Result<Vec<TimerCall>, NoMemory>
         requires { IsAbove self.old.last second }
         ensures calls { IfOk result (λ calls. calls.items ≡ calls_at second self.old) }
         ensures passed { OnOk result (self.new ≡ passed second self.old) }

@@ -5,10 +5,11 @@ use Rattle.std.proofs.lemmas.List.{append-nil}
 use Rattle.bottimers.specs.declared.fault.ClockFault.{ClockFault}
 use Rattle.bottimers.specs.declared.timer.Timer.{Timer}
 use Rattle.bottimers.specs.declared.timer.TimerKind.TheVariants.{Minutes, Seconds}
-use Rattle.bottimers.specs.Held.{add_fault, holds}
+use Rattle.bottimers.specs.Held.{add_fault, holds_named}
 use Rattle.procstore.specs.declared.action.Action.{Action}
 use Rattle.procstore.specs.declared.action.Action.TheVariants.{Ask as ask_wished, Timer as timer_wished, Utimer, KillTimer, SendBot, Put}
 use Rattle.procstore.specs.declared.action.PutWish.{PutWish}
+use Rattle.procstore.specs.declared.action.TimerName.{TimerName}
 use Rattle.outqueue.specs.declared.fault.QueueFault.{QueueFault}
 use Rattle.outqueue.specs.Refusals.{refusal as queue_refusal}
 use Rattle.userfile.specs.Apply.{bad_shape}
@@ -246,10 +247,10 @@ module _ (h : History) (all : List LinkEnd) (sent : List Sent) (place : ℕ) (ol
   timer_goes acting timer None goes = same_go acting (made_unless None acting timer).after refl refl goes
   timer_goes acting timer (Some fault) goes = goes
 
-  kill_goes : (acting : Acting) (id : ℕ) (held : Bool) → ActsGo h all sent place old acting
-      → ActsGo h all sent place old (killed_if held acting id).after
-  kill_goes acting id true goes = same_go acting (killed_if true acting id).after refl refl goes
-  kill_goes acting id false goes = goes
+  kill_goes : (acting : Acting) (name : TimerName) (held : Bool) → ActsGo h all sent place old acting
+      → ActsGo h all sent place old (killed_if held acting name).after
+  kill_goes acting name true goes = same_go acting (killed_if true acting name).after refl refl goes
+  kill_goes acting name false goes = goes
 
   put_goes : (acting : Acting) (wish : PutWish) (fault : Option QueueFault) → ActsGo h all sent place old acting
       → ActsGo h all sent place old (put_unless fault acting wish).after
@@ -261,7 +262,7 @@ module _ (h : History) (all : List LinkEnd) (sent : List Sent) (place : ℕ) (ol
   act_goes acting (timer_wished wish) goes =
       timer_goes acting (timer_of acting Minutes wish) (add_fault acting.timers wish.interval acting.last) goes
   act_goes acting (Utimer wish) goes = timer_goes acting (timer_of acting Seconds wish) (add_fault acting.timers wish.interval acting.last) goes
-  act_goes acting (KillTimer id) goes = kill_goes acting id (holds acting.timers id) goes
+  act_goes acting (KillTimer name) goes = kill_goes acting name (holds_named acting.timers name.proc name.text) goes
   act_goes acting (SendBot wish) goes = send_goes acting wish.to wish.text (told acting.link wish.to wish.text).told refl goes
   act_goes acting (Put wish) goes = put_goes acting wish (queue_refusal acting.queues wish.queue wish.line) goes
 

@@ -67,7 +67,7 @@ told_alone-plain : (setting : Setting) (occasion : Occasion)
     → proc_calls (told_alone (plain_setting setting) occasion) ≡ proc_calls (told_alone setting occasion)
 told_alone-plain setting (Heard event) =
     let person = person_of setting.users event in told_seen-plain setting (occurrence_of event person) (call_by person.handle event)
-told_alone-plain setting (Due proc) = refl
+told_alone-plain setting (Due proc text) = refl
 told_alone-plain setting (Time minute) = told_seen-plain setting (time_seen minute) (time_call minute)
 told_alone-plain setting (Cron minute) = told_seen-plain setting (cron_seen minute) (cron_call minute)
 told_alone-plain setting (Said from text) = told_seen-plain setting (said_seen text) (said_call from text)

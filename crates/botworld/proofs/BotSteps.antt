@@ -4,9 +4,7 @@ use Rattle.bottimers.specs.declared.fault.ClockFault.{ClockFault}
 use Rattle.bottimers.specs.Seconds.{reading_fault}
 use Rattle.ircline.specs.declared.line.Line.TheVariants.{Message as a_message, Bad as a_bad_line}
 use Rattle.sharewire.specs.declared.packet.Packet.{Packet}
-use Rattle.procstore.specs.declared.action.Action.{Action}
-use Rattle.procstore.specs.declared.call.Call.{Call}
-use Rattle.procstore.specs.declared.reply.Code.{Code}
+use Rattle.procstore.specs.Promises.{Promised}
 use Rattle.bindtable.specs.declared.bind.Bind.{Bind as HeldBind}
 use Rattle.bindtable.specs.declared.fault.BindFault.{BindFault}
 use Rattle.bindtable.specs.Tables.{Asked, refusal}
@@ -51,7 +49,7 @@ WasSentTo sent place (Receive packet) =
     (number from : ℕ) × (item_at sent number ≡ Some (record { from = from; to = place; packet = from_wire packet }))
 WasSentTo sent place other = Unit {0}
 
-module _ (code_of : List ℕ → Call → Code) (may : List ℕ → Call → List Action → Type 0) (names : List (List ℕ))
+module _ (promised : Promised) (names : List (List ℕ))
     (h : History) (all : List LinkEnd) (sent : List Sent) (place : ℕ) (old : Bot) (among : IsAmong h all sent place old.link) where
   abbrev BotGoes : Report → Bot → Type 0
   BotGoes report new = Goes h all sent place old.link among report new.link
@@ -104,7 +102,7 @@ module _ (code_of : List ℕ → Call → Code) (may : List ℕ → Call → Lis
       → before.link.end ≡ old.link.end → before.link.number ≡ old.link.number → before.link.leaves ≡ old.link.leaves
       → ((calls : List MadeCall) → (finish calls).after.link ≡ (acting_after start calls).link)
       → IsQuietNote note → IsFineReport Done note
-      → (end : End) → report.end ≡ end → TakesCalls end code_of may told before start note finish report new → BotGoes report new
+      → (end : End) → report.end ≡ end → TakesCalls end promised told before start note finish report new → BotGoes report new
   calls_goes told start before came finish report new ends numbers leaves before_ends before_numbers before_leaves finishes quiet fine Done e c =
       let first = none_go h all sent place old.link among (acting_of start) ends numbers leaves refl in
       let acting = acting_after start report.calls in
@@ -143,14 +141,14 @@ module _ (code_of : List ℕ → Call → Code) (may : List ℕ → Call → Lis
 
   -- a packet: a call of the link, or a text that calls procs
   packet_goes : (packet : Packet) (report : Report) (new : Bot) → ((how : How) → RowFollows h all sent place (took old.link packet how))
-      → (saying : Option Saying) → TakesPacket saying code_of may names old packet report new → BotGoes report new
+      → (saying : Option Saying) → TakesPacket saying promised names old packet report new → BotGoes report new
   packet_goes packet report new goes None t = call_goes (took old.link packet) goes report new t
   packet_goes packet report new goes (Some saying) t =
       calls_goes _ (with_device old t.0) (with_device old t.0) (Some (text_note saying)) (finish_text (with_device old t.0)) report new
       refl refl refl refl refl refl (λ calls. refl) (text_is_quiet saying) (record { undiverged = λ e. cc; no_gap = λ e. cc }) report.end refl t.2
 
   -- a reading of the clock
-  moment_goes : (now : ℕ) (report : Report) (new : Bot) → (stale : Bool) → TakesMoment stale code_of may names old now report new
+  moment_goes : (now : ℕ) (report : Report) (new : Bot) → (stale : Bool) → TakesMoment stale promised names old now report new
       → BotGoes report new
   moment_goes now report new true t =
       same_goes _ _ report new t.0 t.1 (put_goes Done None old (record { undiverged = λ e. cc; no_gap = λ e. cc }) refl refl)
@@ -158,7 +156,7 @@ module _ (code_of : List ℕ → Call → Code) (may : List ℕ → Call → Lis
       calls_goes _ (run_to old now) old None (finish_reading (run_to old now) now) report new refl refl refl refl refl refl (λ calls. refl)
       no_note_is_quiet (record { undiverged = λ e. cc; no_gap = λ e. cc }) report.end refl t.2
 
-  reading_goes : (now : ℕ) (report : Report) (new : Bot) → (fault : Option ClockFault) → TakesReading fault code_of may names old now report new
+  reading_goes : (now : ℕ) (report : Report) (new : Bot) → (fault : Option ClockFault) → TakesReading fault promised names old now report new
       → BotGoes report new
   reading_goes now report new (Some fault) t =
       same_goes _ _ report new t.0 t.1 (put_goes (Refused _) None old (record { undiverged = λ e. cc; no_gap = λ e. cc }) refl refl)
@@ -171,7 +169,7 @@ module _ (code_of : List ℕ → Call → Code) (may : List ℕ → Call → Lis
       (received_goes all sent h among.sound old.link.leaves was.0 (record { from = was.1; to = place; packet = from_wire packet }) old.link.end how
       among.leaves was.2 among.at)
 
-  pub bot_goes : (event : Event) (report : Report) (new : Bot) → WasSentTo sent place event → TakesStep code_of may names old event report new
+  pub bot_goes : (event : Event) (report : Report) (new : Bot) → WasSentTo sent place event → TakesStep promised names old event report new
       → BotGoes report new
   bot_goes Connect report new was t =
       gives_goes _ _ report new

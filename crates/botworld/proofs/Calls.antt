@@ -1,14 +1,17 @@
--- Alike bots make the same calls, at any moments of a run.
+-- Alike bots make the same calls, at any moments of a run; where the promised codes ignore the channels, bots that are alike but for
+-- these do too.
 use Rattle.std.proofs.Common.{◌≡◌, ℕ, zero, suc, ◌+◌, ◌-◌, ◌≤◌, ◌==◌, max, Bool, true, false, if◌then◌else◌, List, [], ◌∷◌, length, map, slice_get, Option, None, Some, Result, Ok, Err}
 use Rattle.std.proofs.Common.{refl, ap, sym, subst, ◌∙◌, arith}
 use Rattle.std.proofs.lemmas.Bool.{leb-true}
 use Rattle.std.proofs.Math.Nat.{le-max_left}
+use Rattle.std.proofs.Math.Path.{fun_ext}
 use Rattle.std.specs.List.{range_with_len}
 use Rattle.std.specs.Option.{option_map}
 use Rattle.userfile.specs.Records.{Records}
 use Rattle.chanstate.specs.declared.event.Event.{Event as MessageEvent}
 use Rattle.chanstate.specs.Events.{events_of}
 use Rattle.chanstate.specs.Speech.{first_word}
+use Rattle.chanstate.specs.declared.state.ChanState.{ChanState}
 use Rattle.bottimers.specs.declared.fault.ClockFault.{ClockFault}
 use Rattle.bottimers.specs.Seconds.{reading_fault, seconds_run}
 use Rattle.sharewire.specs.declared.packet.Packet.{Packet}
@@ -22,7 +25,8 @@ use Rattle.protocol.proofs.Lists.{Extends-length, records_of-more}
 use Rattle.linkcalls.specs.declared.answer.Answer.{Answer}
 use Rattle.linkcalls.specs.declared.error.LinkFault.{LinkFault}
 use Rattle.botlink.specs.Links.{BotEnd, took}
-use Rattle.procstore.specs.declared.action.Action.{Action}
+use Rattle.procstore.specs.Promises.{Promised, code_at}
+use Rattle.procstore.specs.Seen.{Sight}
 use Rattle.procstore.specs.declared.call.Call.{Call}
 use Rattle.procstore.specs.declared.reply.Code.{Code}
 use Rattle.bindtable.specs.declared.bind.Bind.{Bind as HeldBind}
@@ -59,8 +63,8 @@ use Rattle.botworld.specs.declared.step.Step.{Step}
 use Rattle.botworld.specs.declared.outcome.Outcome.{Outcome}
 use Rattle.botworld.specs.Net.{Net, report_of, part_of, TakesPart, Comes, NetStep, shown_version}
 use Rattle.botworld.specs.Network.{State, accepted_by, IsSound}
-use Rattle.botworld.specs.Calling.{ProcCall, proc_call, Calling, calling_done, calling_by, calling_in, calling, IsAlike}
-use Rattle.botworld.specs.Standing.{Moment, Run, Past, Stands, SameCalls}
+use Rattle.botworld.specs.Calling.{ProcCall, proc_call, Calling, calling_done, calling_by, calling_in, calling, IsAlikeButChannels, IsAlike, IgnoresChannels}
+use Rattle.botworld.specs.Standing.{Moment, Run, Past, Stands, SameCalls, SameCallsIgnoringChannels}
 use Rattle.botworld.proofs.Start.{start_sound}
 use Rattle.botworld.proofs.Runs.{Run-follows}
 use Rattle.botworld.proofs.Shown.{shown_at}
@@ -107,22 +111,22 @@ unbind_due-none old gone None = refl
 unbind_due-none old gone (Some bind) = refl
 
 -- a done step made the calls of what happened, with some minutes for the numbers of minutes
-pub record AreCalled (code_of : List ℕ → Call → Code) (names : List (List ℕ)) (old : Bot) (happenings : List Happening) (calls : List ProcCall) : Type 0 where
+pub record AreCalled (promised : Promised) (names : List (List ℕ)) (old : Bot) (happenings : List Happening) (calls : List ProcCall) : Type 0 where
   pub occasions : List Occasion
   pub are : AreOccasions happenings occasions
-  pub made : calls ≡ proc_calls (told_of (bot_setting code_of names old) occasions)
+  pub made : calls ≡ proc_calls (told_of (bot_setting promised names old) occasions)
 
 -- nothing happened, and nothing was called
-none_called : (code_of : List ℕ → Call → Code) (names : List (List ℕ)) (old : Bot) (report : BotReport) → HasNone report
-    → AreCalled code_of names old [] (map proc_call report.calls)
-none_called code_of names old report none = record { occasions = []; are = tt; made = none }
+none_called : (promised : Promised) (names : List (List ℕ)) (old : Bot) (report : BotReport) → HasNone report
+    → AreCalled promised names old [] (map proc_call report.calls)
+none_called promised names old report none = record { occasions = []; are = tt; made = none }
 
-made_calls : (code_of : List ℕ → Call → Code) (may : List ℕ → Call → List Action → Type 0) (told : List Telling) (old start : Bot) (note : Option Note)
-    (finish : List MadeCall → Finish) (report : BotReport) (new : Bot) (end : End) → end ≡ Done → TakesCalls end code_of may told old start note finish report new
+made_calls : (promised : Promised) (told : List Telling) (old start : Bot) (note : Option Note)
+    (finish : List MadeCall → Finish) (report : BotReport) (new : Bot) (end : End) → end ≡ Done → TakesCalls end promised told old start note finish report new
     → map proc_call report.calls ≡ proc_calls told
-made_calls code_of may told old start came finish report new Done e h = map-entry_of report.calls ∙ ap (map proc_call_of) h.calls
-made_calls code_of may told old start came finish report new (Refused why) e h = absurd h
-made_calls code_of may told old start came finish report new NoMemory e h = cc
+made_calls promised told old start came finish report new Done e h = map-entry_of report.calls ∙ ap (map proc_call_of) h.calls
+made_calls promised told old start came finish report new (Refused why) e h = absurd h
+made_calls promised told old start came finish report new NoMemory e h = cc
 
 -- the events of a message are occasions
 are_heard : (events : List MessageEvent) → AreOccasions (map heard_event events) (map Heard events)
@@ -137,15 +141,15 @@ are_said saying = by (length (first_word saying.text) == 0)
     by true = tt
     by false = ((refl, refl), tt)
 
-packet_calls : (code_of : List ℕ → Call → Code) (may : List ℕ → Call → List Action → Type 0) (names : List (List ℕ)) (old : Bot) (packet : Packet)
-    (report : BotReport) (new : Bot) → report.end ≡ Done → (saying : Option Saying) → TakesPacket saying code_of may names old packet report new
-    → AreCalled code_of names old (said_if saying) (map proc_call report.calls)
-packet_calls code_of may names old packet report new done None t = none_called code_of names old report (call_none report new t)
-packet_calls code_of may names old packet report new done (Some saying) t =
+packet_calls : (promised : Promised) (names : List (List ℕ)) (old : Bot) (packet : Packet)
+    (report : BotReport) (new : Bot) → report.end ≡ Done → (saying : Option Saying) → TakesPacket saying promised names old packet report new
+    → AreCalled promised names old (said_if saying) (map proc_call report.calls)
+packet_calls promised names old packet report new done None t = none_called promised names old report (call_none report new t)
+packet_calls promised names old packet report new done (Some saying) t =
     record {
       occasions = said_occasions saying;
       are = are_said saying;
-      made = made_calls code_of may _ (with_device old t.0) (with_device old t.0) _ _ report new report.end done t.2;
+      made = made_calls promised _ (with_device old t.0) (with_device old t.0) _ _ report new report.end done t.2;
     }
 
 -- at a reading that is not above the last no second runs
@@ -157,97 +161,106 @@ stale_none (Some last) now e =
     let none : now + 1 - max (last + 1) (now - 599) ≡ 0 = omega (arith, above, below) in
     ap (range_with_len (max (last + 1) (now - 599))) none
 
-moment_calls : (code_of : List ℕ → Call → Code) (may : List ℕ → Call → List Action → Type 0) (names : List (List ℕ)) (old : Bot) (now : ℕ)
+moment_calls : (promised : Promised) (names : List (List ℕ)) (old : Bot) (now : ℕ)
     (report : BotReport) (new : Bot) → report.end ≡ Done → (stale : Bool) → is_stale old.clock now ≡ stale
-    → TakesMoment stale code_of may names old now report new
-    → AreCalled code_of names old (seconds_of old.config.zone old.timers (seconds_run old.clock now)) (map proc_call report.calls)
-moment_calls code_of may names old now report new done true e t =
-    rw (stale_none old.clock now e) (none_called code_of names old report (ap (λ (r : BotReport). map proc_call r.calls) t.0))
-moment_calls code_of may names old now report new done false e t =
+    → TakesMoment stale promised names old now report new
+    → AreCalled promised names old (seconds_of old.config.zone old.timers (seconds_run old.clock now)) (map proc_call report.calls)
+moment_calls promised names old now report new done true e t =
+    rw (stale_none old.clock now e) (none_called promised names old report (ap (λ (r : BotReport). map proc_call r.calls) t.0))
+moment_calls promised names old now report new done false e t =
     record {
       occasions = t.0;
       are = subst (λ (end : End). AreTaken end (seconds_of old.config.zone old.timers (seconds_run old.clock now)) t.0) done t.1;
-      made = made_calls code_of may _ old (run_to old now) _ _ report new report.end done t.2;
+      made = made_calls promised _ old (run_to old now) _ _ report new report.end done t.2;
     }
 
 refused_done : (report : BotReport) (why : Refusal) → report.end ≡ Done → report ≡ refused why → ⊥
 refused_done report why done is = let both = sym done ∙ ap (λ (r : BotReport). r.end) is in cc
 
-reading_calls : (code_of : List ℕ → Call → Code) (may : List ℕ → Call → List Action → Type 0) (names : List (List ℕ)) (old : Bot) (now : ℕ)
-    (report : BotReport) (new : Bot) → report.end ≡ Done → (fault : Option ClockFault) → TakesReading fault code_of may names old now report new
-    → AreCalled code_of names old (seconds_of old.config.zone old.timers (seconds_run old.clock now)) (map proc_call report.calls)
-reading_calls code_of may names old now report new done (Some fault) t = absurd (refused_done report (clock_refusal fault) done t.0)
-reading_calls code_of may names old now report new done None t = moment_calls code_of may names old now report new done (is_stale old.clock now) refl t
+reading_calls : (promised : Promised) (names : List (List ℕ)) (old : Bot) (now : ℕ)
+    (report : BotReport) (new : Bot) → report.end ≡ Done → (fault : Option ClockFault) → TakesReading fault promised names old now report new
+    → AreCalled promised names old (seconds_of old.config.zone old.timers (seconds_run old.clock now)) (map proc_call report.calls)
+reading_calls promised names old now report new done (Some fault) t = absurd (refused_done report (clock_refusal fault) done t.0)
+reading_calls promised names old now report new done None t = moment_calls promised names old now report new done (is_stale old.clock now) refl t
 
-pub step_calls : (code_of : List ℕ → Call → Code) (may : List ℕ → Call → List Action → Type 0) (names : List (List ℕ)) (old : Bot) (event : Event)
-    (report : BotReport) (new : Bot) → report.end ≡ Done → TakesStep code_of may names old event report new
-    → AreCalled code_of names old (happenings_of old event) (map proc_call report.calls)
-step_calls code_of may names old Connect report new done t = none_called code_of names old report (none_due _ old _ report new done t refl)
-step_calls code_of may names old (Line (a_message message)) report new done t =
+pub step_calls : (promised : Promised) (names : List (List ℕ)) (old : Bot) (event : Event)
+    (report : BotReport) (new : Bot) → report.end ≡ Done → TakesStep promised names old event report new
+    → AreCalled promised names old (happenings_of old event) (map proc_call report.calls)
+step_calls promised names old Connect report new done t = none_called promised names old report (none_due _ old _ report new done t refl)
+step_calls promised names old (Line (a_message message)) report new done t =
     record {
       occasions = map Heard (events_of message old.channels);
       are = are_heard (events_of message old.channels);
-      made = made_calls code_of may _ old old _ _ report new report.end done t;
+      made = made_calls promised _ old old _ _ report new report.end done t;
     }
-step_calls code_of may names old (Line (a_bad_line fault)) report new done t =
-    none_called code_of names old report (ap (λ (r : BotReport). map proc_call r.calls) t.0)
-step_calls code_of may names old (Ask change) report new done t = none_called code_of names old report (call_none report new t)
-step_calls code_of may names old Pump report new done t = none_called code_of names old report (call_none report new t)
-step_calls code_of may names old (Receive packet) report new done t =
-    packet_calls code_of may names old packet report new done (saying_of (took old.link packet Works).told) t
-step_calls code_of may names old (Clock now) report new done t = reading_calls code_of may names old now report new done (reading_fault now) t
-step_calls code_of may names old (Bind asked) report new done t =
-    none_called code_of names old report (none_due _ old _ report new done t (bind_due-none old (asked_of asked) (refusal old.binds (asked_of asked))))
-step_calls code_of may names old (Unbind gone) report new done t =
-    none_called code_of names old report (none_due _ old _ report new done t (unbind_due-none old gone (bind_to_go old.binds gone)))
-step_calls code_of may names old Compact report new done t = none_called code_of names old report (call_none report new t)
-step_calls code_of may names old Restart report new done t = none_called code_of names old report (call_none report new t)
+step_calls promised names old (Line (a_bad_line fault)) report new done t =
+    none_called promised names old report (ap (λ (r : BotReport). map proc_call r.calls) t.0)
+step_calls promised names old (Ask change) report new done t = none_called promised names old report (call_none report new t)
+step_calls promised names old Pump report new done t = none_called promised names old report (call_none report new t)
+step_calls promised names old (Receive packet) report new done t =
+    packet_calls promised names old packet report new done (saying_of (took old.link packet Works).told) t
+step_calls promised names old (Clock now) report new done t = reading_calls promised names old now report new done (reading_fault now) t
+step_calls promised names old (Bind asked) report new done t =
+    none_called promised names old report (none_due _ old _ report new done t (bind_due-none old (asked_of asked) (refusal old.binds (asked_of asked))))
+step_calls promised names old (Unbind gone) report new done t =
+    none_called promised names old report (none_due _ old _ report new done t (unbind_due-none old gone (bind_to_go old.binds gone)))
+step_calls promised names old Compact report new done t = none_called promised names old report (call_none report new t)
+step_calls promised names old Restart report new done t = none_called promised names old report (call_none report new t)
 
--- what a bot's calls depend on, by its version
-abbrev pub setting_at : (List ℕ → Call → Code) → List (List ℕ) → List AcceptedChange → Bot → Setting
-setting_at code_of names all bot = setting_of code_of names (records_of all (link_version bot.link)).users bot.binds.binds bot.config.exclusive
+-- what a promised code may depend on at a bot that shows this version, on these channels
+abbrev pub sight_at : List AcceptedChange → ℕ → ChanState → Sight
+sight_at all version channels = record { records = records_of all version; channels = channels }
+
+-- what the calls of a bot with these records depend on
+abbrev pub setting_by : Promised → List (List ℕ) → Bot → Records → Setting
+setting_by promised names bot records =
+    setting_of (code_at promised (record { records = records; channels = bot.channels })) names records.users bot.binds.binds bot.config.exclusive
+
+-- what they depend on by its version
+abbrev pub setting_at : Promised → List (List ℕ) → List AcceptedChange → Bot → Setting
+setting_at promised names all bot = setting_by promised names bot (records_of all (link_version bot.link))
 
 -- the calls are those of the bot at its version
-pub record IsCalled (code_of : List ℕ → Call → Code) (names : List (List ℕ)) (all : List AcceptedChange) (a : Calling) : Type 0 where
+pub record IsCalled (promised : Promised) (names : List (List ℕ)) (all : List AcceptedChange) (a : Calling) : Type 0 where
   pub version : link_version a.bot.link ≤ length all
   pub occasions : List Occasion
   pub are : AreOccasions a.happenings occasions
-  pub calls : a.calls ≡ proc_calls (told_of (setting_at code_of names all a.bot) occasions)
+  pub calls : a.calls ≡ proc_calls (told_of (setting_at promised names all a.bot) occasions)
 
-part_calls : (code_of : List ℕ → Call → Code) (may : List ℕ → Call → List Action → Type 0) (s : State) (part : Part) (o : Outcome) (w : Net) → IsSound s
-    → (t : TakesPart code_of may s.net part o w) (a : Calling) (end : End) → t.report.end ≡ end
-    → calling_done end part.event (report_of part.bot (length s.net.packets + 1) t.report) t.was ≡ Some a → IsCalled code_of s.net.store (accepted_by s) a
-part_calls code_of may s part o w sound t a Done e is =
+part_calls : (promised : Promised) (s : State) (part : Part) (o : Outcome) (w : Net) → IsSound s
+    → (t : TakesPart promised s.net part o w) (a : Calling) (end : End) → t.report.end ≡ end
+    → calling_done end part.event (report_of part.bot (length s.net.packets + 1) t.report) t.was ≡ Some a → IsCalled promised s.net.store (accepted_by s) a
+part_calls promised s part o w sound t a Done e is =
     let it : Calling = record { bot = t.was; happenings = happenings_of t.was part.event; calls = map proc_call t.report.calls } in
     let same : it ≡ a = cc in
     let shows : shown_version s.net part.bot ≡ Some (link_version t.was.link) = ap (option_map (λ (b : Bot). link_version b.link)) t.there in
     let at = shown_at s sound part.bot (link_version t.was.link) shows in
     let records : link_records t.was.link ≡ records_of (accepted_by s) (link_version t.was.link) =
     let both = sym (ap (option_map (λ (b : Bot). link_records b.link)) t.there) ∙ at.1 in cc in
-    let made = step_calls code_of may s.net.store t.was part.event t.report t.after e t.steps in
+    let made = step_calls promised s.net.store t.was part.event t.report t.after e t.steps in
     let calls = made.made
-    ∙ ap (λ (r : Records). proc_calls (told_of (setting_of code_of s.net.store r.users t.was.binds.binds t.was.config.exclusive) made.occasions)) records in
-    subst (IsCalled code_of s.net.store (accepted_by s)) same (record { version = at.0; occasions = made.occasions; are = made.are; calls = calls })
-part_calls code_of may s part o w sound t a (Refused why) e is = cc
-part_calls code_of may s part o w sound t a NoMemory e is = cc
+    ∙ ap (λ (r : Records). proc_calls (told_of (setting_by promised s.net.store t.was r) made.occasions)) records in
+    subst (IsCalled promised s.net.store (accepted_by s)) same (record { version = at.0; occasions = made.occasions; are = made.are; calls = calls })
+part_calls promised s part o w sound t a (Refused why) e is = cc
+part_calls promised s part o w sound t a NoMemory e is = cc
 
-calls_at : (code_of : List ℕ → Call → Code) (may : List ℕ → Call → List Action → Type 0) (s : State) (step : Step) (o : Outcome) (w : Net) → IsSound s
-    → NetStep code_of may s.net step o w → (a : Calling) → calling s.net step o ≡ Some a → IsCalled code_of s.net.store (accepted_by s) a
-calls_at code_of may s step o w sound rule a is = by (part_of s.net step) rule is
+calls_at : (promised : Promised) (s : State) (step : Step) (o : Outcome) (w : Net) → IsSound s
+    → NetStep promised s.net step o w → (a : Calling) → calling s.net step o ≡ Some a → IsCalled promised s.net.store (accepted_by s) a
+calls_at promised s step o w sound rule a is = by (part_of s.net step) rule is
   where
-    by : (r : Result Part Outcome) → Comes code_of may s.net r o w → calling_in s.net r o ≡ Some a → IsCalled code_of s.net.store (accepted_by s) a
+    by : (r : Result Part Outcome) → Comes promised s.net r o w → calling_in s.net r o ≡ Some a → IsCalled promised s.net.store (accepted_by s) a
     by (Err why) c e = cc
     by (Ok part) t e =
         let here : calling_by (slice_get s.net.bots part.bot) part.event (report_of part.bot (length s.net.packets + 1) t.report) ≡ Some a =
         subst (λ (x : Outcome). calling_in s.net (Ok part) x ≡ Some a) t.told e in
-        part_calls code_of may s part o w sound t a t.report.end refl
+        part_calls promised s part o w sound t a t.report.end refl
         (subst (λ (b : Option Bot). calling_by b part.event (report_of part.bot (length s.net.packets + 1) t.report) ≡ Some a) t.there here)
 
 -- the calls of a run ---------------------------------------------------------------------------------------------------
 
-pub IsCalled-extended : (code_of : List ℕ → Call → Code) (names : List (List ℕ)) (all now : List AcceptedChange) (a : Calling) → Extends all now
-    → IsCalled code_of names all a → IsCalled code_of names now a
-IsCalled-extended code_of names all now a more called =
+pub IsCalled-extended : (promised : Promised) (names : List (List ℕ)) (all now : List AcceptedChange) (a : Calling) → Extends all now
+    → IsCalled promised names all a → IsCalled promised names now a
+IsCalled-extended promised names all now a more called =
     let v = link_version a.bot.link in
     let records : records_of all v ≡ records_of now v = sym (records_of-more all now v more called.version) in
     record {
@@ -255,41 +268,80 @@ IsCalled-extended code_of names all now a more called =
       occasions = called.occasions;
       are = called.are;
       calls = called.calls
-          ∙ ap (λ (r : Records). proc_calls (told_of (setting_of code_of names r.users a.bot.binds.binds a.bot.config.exclusive) called.occasions)) records;
+          ∙ ap (λ (r : Records). proc_calls (told_of (setting_by promised names a.bot r) called.occasions)) records;
     }
 
-abbrev AllCalled : (List ℕ → Call → Code) → List (List ℕ) → List AcceptedChange → List Moment → Type 0
-AllCalled code_of names all ms = (i : ℕ) (m : Moment) (a : Calling) → slice_get ms i ≡ Some m → calling m.before.net m.step m.outcome ≡ Some a
-    → IsCalled code_of names all a
+abbrev AllCalled : Promised → List (List ℕ) → List AcceptedChange → List Moment → Type 0
+AllCalled promised names all ms = (i : ℕ) (m : Moment) (a : Calling) → slice_get ms i ≡ Some m → calling m.before.net m.step m.outcome ≡ Some a
+    → IsCalled promised names all a
 
-all_called : (code_of : List ℕ → Call → Code) (may : List ℕ → Call → List Action → Type 0) (first : State) (ms : List Moment) (last : State) → IsSound first
-    → Run code_of may first ms last → AllCalled code_of last.net.store (accepted_by last) ms
-all_called code_of may first [] last sound run i m a at is = cc
-all_called code_of may first (x ∷ ms) last sound run zero m a at is =
-    let follows = Run-follows code_of may first (x ∷ ms) last sound run in
+all_called : (promised : Promised) (first : State) (ms : List Moment) (last : State) → IsSound first
+    → Run promised first ms last → AllCalled promised last.net.store (accepted_by last) ms
+all_called promised first [] last sound run i m a at is = cc
+all_called promised first (x ∷ ms) last sound run zero m a at is =
+    let follows = Run-follows promised first (x ∷ ms) last sound run in
     let same : x ≡ m = cc in
     let before : m.before ≡ first = sym (ap (λ (x : Moment). x.before) same) ∙ run.0 in
-    let rule = subst (λ (x : Moment). NetStep code_of may x.before.net x.step x.outcome x.after.net) same run.1.by_rule in
-    let called = calls_at code_of may first m.step m.outcome m.after.net sound
-    (subst (λ (s : State). NetStep code_of may s.net m.step m.outcome m.after.net) before rule) a
+    let rule = subst (λ (x : Moment). NetStep promised x.before.net x.step x.outcome x.after.net) same run.1.by_rule in
+    let called = calls_at promised first m.step m.outcome m.after.net sound
+    (subst (λ (s : State). NetStep promised s.net m.step m.outcome m.after.net) before rule) a
     (subst (λ (s : State). calling s.net m.step m.outcome ≡ Some a) before is) in
-    subst (λ (names : List (List ℕ)). IsCalled code_of names (accepted_by last) a) (sym follows.store)
-    (IsCalled-extended code_of first.net.store (accepted_by first) (accepted_by last) a follows.links.hub.accepted called)
-all_called code_of may first (x ∷ ms) last sound run (suc i) m a at is = all_called code_of may x.after ms last run.1.sound run.2 i m a at is
+    subst (λ (names : List (List ℕ)). IsCalled promised names (accepted_by last) a) (sym follows.store)
+    (IsCalled-extended promised first.net.store (accepted_by first) (accepted_by last) a follows.links.hub.accepted called)
+all_called promised first (x ∷ ms) last sound run (suc i) m a at is = all_called promised x.after ms last run.1.sound run.2 i m a at is
 
--- alike bots call the same procs
-pub alike_calls : (code_of : List ℕ → Call → Code) (names : List (List ℕ)) (all : List AcceptedChange) (a b : Calling) → IsCalled code_of names all a
-    → IsCalled code_of names all b → IsAlike a b → a.calls ≡ b.calls
-alike_calls code_of names all a b one other alike =
-    let from : Setting = setting_of code_of names (records_of all (link_version b.bot.link)).users [] b.bot.config.exclusive in
+-- bots alike but for their channels call the same procs where the codes of both are the same
+same_codes : (promised : Promised) (names : List (List ℕ)) (all : List AcceptedChange) (a b : Calling) → IsCalled promised names all a
+    → IsCalled promised names all b → IsAlikeButChannels a b
+    → code_at promised (sight_at all (link_version a.bot.link) a.bot.channels) ≡ code_at promised (sight_at all (link_version b.bot.link) b.bot.channels)
+    → a.calls ≡ b.calls
+same_codes promised names all a b one other alike codes =
+    let from : Setting = setting_at promised names all b.bot in
     let same : one.occasions ≡ other.occasions =
     same_occasions b.happenings one.occasions other.occasions (subst (λ (hs : List Happening). AreOccasions hs one.occasions) alike.happenings one.are) other.are
     in
-    one.calls ∙ rw (same, alike.exclusive, alike.version) (told_of-alike from a.bot.binds.binds b.bot.binds.binds other.occasions alike.binds)
+    one.calls
+    ∙ ap (λ (os : List Occasion). proc_calls (told_of (setting_at promised names all a.bot) os)) same
+    ∙ ap (λ (c : List ℕ → Call → Code). proc_calls (told_of
+    (setting_of c names (records_of all (link_version a.bot.link)).users a.bot.binds.binds a.bot.config.exclusive) other.occasions)) codes
+    ∙ ap (λ (v : ℕ). proc_calls (told_of
+    (setting_of from.code_of names (records_of all v).users a.bot.binds.binds a.bot.config.exclusive) other.occasions)) alike.version
+    ∙ ap (λ (e : Bool). proc_calls (told_of (setting_of from.code_of names from.users a.bot.binds.binds e) other.occasions)) alike.exclusive
+    ∙ told_of-alike from a.bot.binds.binds b.bot.binds.binds other.occasions alike.binds
     ∙ sym other.calls
 
-pub same_calls : (code_of : List ℕ → Call → Code) (may : List ℕ → Call → List Action → Type 0) (w : Net) (past : Past) → Stands code_of may w past
-    → SameCalls past.history
-same_calls code_of may w past stands i j m n a b at_i at_j is_a is_b alike =
-    let called = all_called code_of may past.first past.history past.now (start_sound past.first stands.begins) stands.run in
-    alike_calls code_of past.now.net.store (accepted_by past.now) a b (called i m a at_i is_a) (called j n b at_j is_b) alike
+-- alike bots call the same procs
+pub alike_calls : (promised : Promised) (names : List (List ℕ)) (all : List AcceptedChange) (a b : Calling) → IsCalled promised names all a
+    → IsCalled promised names all b → IsAlike a b → a.calls ≡ b.calls
+alike_calls promised names all a b one other alike =
+    same_codes promised names all a b one other alike.others
+    (ap (λ (v : ℕ). code_at promised (sight_at all v a.bot.channels)) alike.others.version
+    ∙ ap (λ (c : ChanState). code_at promised (sight_at all (link_version b.bot.link) c)) alike.channels)
+
+-- codes that ignore the channels are the same on others
+ignoring_codes : (promised : Promised) (records : Records) (one other : ChanState) → IgnoresChannels promised
+    → code_at promised (record { records = records; channels = one }) ≡ code_at promised (record { records = records; channels = other })
+ignoring_codes promised records one other ignores = fun_ext (λ name. fun_ext (λ call. ignores name call records one other))
+
+-- then bots alike but for their channels call the same procs
+pub alike_calls_ignoring_channels : (promised : Promised) (names : List (List ℕ)) (all : List AcceptedChange) (a b : Calling)
+    → IgnoresChannels promised → IsCalled promised names all a → IsCalled promised names all b → IsAlikeButChannels a b → a.calls ≡ b.calls
+alike_calls_ignoring_channels promised names all a b ignores one other alike =
+    same_codes promised names all a b one other alike
+    (ap (λ (v : ℕ). code_at promised (sight_at all v a.bot.channels)) alike.version
+    ∙ ignoring_codes promised (records_of all (link_version b.bot.link)) a.bot.channels b.bot.channels ignores)
+
+module _ (promised : Promised) (w : Net) (past : Past) where
+  called_in : Stands promised w past → AllCalled promised past.now.net.store (accepted_by past.now) past.history
+  called_in stands = all_called promised past.first past.history past.now (start_sound past.first stands.begins) stands.run
+
+  pub same_calls : Stands promised w past → SameCalls past.history
+  same_calls stands i j m n a b at_i at_j is_a is_b alike =
+      let called = called_in stands in
+      alike_calls promised past.now.net.store (accepted_by past.now) a b (called i m a at_i is_a) (called j n b at_j is_b) alike
+
+  pub same_calls_ignoring_channels : IgnoresChannels promised → Stands promised w past → SameCallsIgnoringChannels past.history
+  same_calls_ignoring_channels ignores stands i j m n a b at_i at_j is_a is_b alike =
+      let called = called_in stands in
+      alike_calls_ignoring_channels promised past.now.net.store (accepted_by past.now) a b ignores (called i m a at_i is_a)
+      (called j n b at_j is_b) alike

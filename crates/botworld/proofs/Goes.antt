@@ -11,9 +11,7 @@ use Rattle.protocol.proofs.Truth.{AllSent-posted}
 use Rattle.linkcalls.specs.Calls.{outgoings_of}
 use Rattle.linknet.specs.Ends.{End as LinkEnd}
 use Rattle.linknet.specs.Nets.{IsMoment}
-use Rattle.procstore.specs.declared.action.Action.{Action}
-use Rattle.procstore.specs.declared.call.Call.{Call}
-use Rattle.procstore.specs.declared.reply.Code.{Code}
+use Rattle.procstore.specs.Promises.{Promised}
 use Rattle.botcore.specs.declared.event.Event.{Event}
 use Rattle.botcore.specs.declared.event.Event.TheVariants.{Connect, Line, Ask, Pump, Receive, Clock, Bind, Unbind, Compact, Restart}
 use Rattle.botcore.specs.Bots.{Bot}
@@ -32,9 +30,9 @@ use Rattle.botworld.proofs.BotSteps.{WasSentTo, bot_goes}
 use Rattle.botworld.proofs.Lawful.{applies_next, accepts_next}
 
 -- a step from a moment leads lawfully to one whose net this is
-pub record Goes (code_of : List ℕ → Call → Code) (may : List ℕ → Call → List Action → Type 0) (s : State) (step : Step) (o : Outcome) (w : Net) : Type 0 where
+pub record Goes (promised : Promised) (s : State) (step : Step) (o : Outcome) (w : Net) : Type 0 where
   pub after : State
-  pub lawful : LawfulStep code_of may s step o after
+  pub lawful : LawfulStep promised s step o after
   pub net : w ≡ after.net
 
 pub Follows-refl : (s : State) → IsSound s → Follows s s
@@ -141,9 +139,9 @@ part_of-sent w (Deliver k) part e = by (packet_at w.packets k) refl e
 
 -- ---- what it leaves
 
-taken_goes : (code_of : List ℕ → Call → Code) (may : List ℕ → Call → List Action → Type 0) (s : State) (step : Step) (o : Outcome) (w : Net) → IsSound s
-    → (part : Part) → part_of s.net step ≡ Ok part → TakesPart code_of may s.net part o w → Goes code_of may s step o w
-taken_goes code_of may s step o w sound part is t =
+taken_goes : (promised : Promised) (s : State) (step : Step) (o : Outcome) (w : Net) → IsSound s
+    → (part : Part) → part_of s.net step ≡ Ok part → TakesPart promised s.net part o w → Goes promised s step o w
+taken_goes promised s step o w sound part is t =
     let placed = sound.placed part.bot t.was t.there in
     let among : IsAmong s.links (ends_of s.net.bots) (all_sent s.net.packets) part.bot t.was.link = record {
       sound = sound.links;
@@ -151,7 +149,7 @@ taken_goes code_of may s step o w sound part is t =
       number = placed.number;
       leaves = placed.leaves;
     } in
-    let g = bot_goes code_of may s.net.store s.links (ends_of s.net.bots) (all_sent s.net.packets) part.bot t.was among part.event t.report t.after
+    let g = bot_goes promised s.net.store s.links (ends_of s.net.bots) (all_sent s.net.packets) part.bot t.was among part.event t.report t.after
     (part_of-sent s.net step part is) t.steps in
     let bots : List Bot = slice_set s.net.bots part.bot t.after in
     let sent = posted part.bot t.report.packets in
@@ -172,8 +170,8 @@ taken_goes code_of may s step o w sound part is t =
       ];
     } in
     let count : length bots ≡ length s.net.bots = length-set s.net.bots part.bot t.after in
-    let rule : NetStep code_of may s.net step o after.net =
-    subst (λ (r : Result Part Outcome). Comes code_of may s.net r o after.net) (sym is) (subst (TakesPart code_of may s.net part o) t.leaves t) in
+    let rule : NetStep promised s.net step o after.net =
+    subst (λ (r : Result Part Outcome). Comes promised s.net r o after.net) (sym is) (subst (TakesPart promised s.net part o) t.leaves t) in
     let grown : GrowsAsToldBy s o after = subst (λ (x : Outcome). GrowsAsToldBy s x after) (sym t.told) g.accepted in
     record {
       after = after;
@@ -194,22 +192,22 @@ taken_goes code_of may s step o w sound part is t =
               (AllSent-posted (IsKeptAnswer g.after.hub.kept) [] part.bot (outgoings_of t.report.packets) tt g.answers),
         );
         grows = grown;
-        applies_next = applies_next code_of may s step o after sound rule;
-        accepts_next = accepts_next code_of may s step o after sound sound' grown rule;
+        applies_next = applies_next promised s step o after sound rule;
+        accepts_next = accepts_next promised s step o after sound sound' grown rule;
         fine = subst IsFine (sym t.told) g.fine;
       };
       net = t.leaves;
     }
 
-pub goes : (code_of : List ℕ → Call → Code) (may : List ℕ → Call → List Action → Type 0) (s : State) (step : Step) (o : Outcome) (w : Net) → IsSound s
-    → NetStep code_of may s.net step o w → Goes code_of may s step o w
-goes code_of may s step o w sound c = by (part_of s.net step) refl c
+pub goes : (promised : Promised) (s : State) (step : Step) (o : Outcome) (w : Net) → IsSound s
+    → NetStep promised s.net step o w → Goes promised s step o w
+goes promised s step o w sound c = by (part_of s.net step) refl c
   where
-    by : (r : Result Part Outcome) → part_of s.net step ≡ r → Comes code_of may s.net r o w → Goes code_of may s step o w
-    by (Ok part) is t = taken_goes code_of may s step o w sound part is t
+    by : (r : Result Part Outcome) → part_of s.net step ≡ r → Comes promised s.net r o w → Goes promised s step o w
+    by (Ok part) is t = taken_goes promised s step o w sound part is t
     by (Err why) is t =
         let missing : IsMissing o = subst IsMissing (sym t.0) (part_of-missing s.net step why is) in
-        let rule : NetStep code_of may s.net step o s.net = subst (NetStep code_of may s.net step o) t.1 c in
+        let rule : NetStep promised s.net step o s.net = subst (NetStep promised s.net step o) t.1 c in
         let grown : GrowsAsToldBy s o s = missing_grows s o missing in
         record {
           after = s;
@@ -219,8 +217,8 @@ goes code_of may s step o w sound c = by (part_of s.net step) refl c
             follows = Follows-refl s sound;
             answers = ([], sym (append-nil s.net.packets), tt);
             grows = grown;
-            applies_next = applies_next code_of may s step o s sound rule;
-            accepts_next = accepts_next code_of may s step o s sound sound grown rule;
+            applies_next = applies_next promised s step o s sound rule;
+            accepts_next = accepts_next promised s step o s sound sound grown rule;
             fine = missing_is_fine o missing;
           };
           net = t.1;

@@ -31,9 +31,7 @@ use Rattle.linkcalls.specs.Calls.{note_of}
 use Rattle.linknet.specs.Ends.{End as LinkEnd, AtHub, AtLeaf, end_asks, end_version}
 use Rattle.linknet.specs.Nets.{leaf_ends, ends_of as ends_in, MovesAsTold}
 use Rattle.botlink.specs.Links.{did, took, Calls}
-use Rattle.procstore.specs.declared.action.Action.{Action}
-use Rattle.procstore.specs.declared.call.Call.{Call}
-use Rattle.procstore.specs.declared.reply.Code.{Code}
+use Rattle.procstore.specs.Promises.{Promised}
 use Rattle.botcore.specs.declared.event.Event.{Event}
 use Rattle.botcore.specs.declared.event.Event.TheVariants.{Pump, Receive}
 use Rattle.botcore.specs.declared.report.End.TheVariants.{Done}
@@ -60,19 +58,19 @@ use Rattle.botworld.proofs.Shown.{ends_of-get}
 pub is_bot-at : (w : Net) (bot : ℕ) (b : Bot) → slice_get w.bots bot ≡ Some b → is_bot w bot ≡ true
 is_bot-at w bot b e = lt-ltb bot (length w.bots) (slice_get_within w.bots bot b e)
 
-record DoneBy (code_of : List ℕ → Call → Code) (may : List ℕ → Call → List Action → Type 0)
+record DoneBy (promised : Promised)
     (old : Net) (bot : ℕ) (event : Event) (was : Bot) (o : Outcome) (new : Net) : Type 0 where
-  taken : TakesPart code_of may old (record { bot = bot; event = event }) o new
+  taken : TakesPart promised old (record { bot = bot; event = event }) o new
   same : taken.was ≡ was
   done : taken.report.end ≡ Done
 
-done_by : (code_of : List ℕ → Call → Code) (may : List ℕ → Call → List Action → Type 0)
+done_by : (promised : Promised)
     (old : Net) (bot : ℕ) (event : Event) (was : Bot) (o : Outcome) (new : Net)
-    → slice_get old.bots bot ≡ Some was → Comes code_of may old (part_at old bot event) o new → IsDone o → DoneBy code_of may old bot event was o new
-done_by code_of may old bot event was o new here c done =
+    → slice_get old.bots bot ≡ Some was → Comes promised old (part_at old bot event) o new → IsDone o → DoneBy promised old bot event was o new
+done_by promised old bot event was o new here c done =
     let part : Part = record { bot = bot; event = event } in
     let there : part_at old bot event ≡ Ok part = rw (is_bot-at old bot was here) refl in
-    let taken : TakesPart code_of may old part o new = subst (λ (r : Result Part Outcome). Comes code_of may old r o new) there c in
+    let taken : TakesPart promised old part o new = subst (λ (r : Result Part Outcome). Comes promised old r o new) there c in
     record {
       taken = taken;
       same = let both : Some taken.was ≡ Some was = sym taken.there ∙ here in cc;
@@ -80,9 +78,9 @@ done_by code_of may old bot event was o new here c done =
     }
 
 -- the bot that took part, in the net after it
-after_at : (code_of : List ℕ → Call → Code) (may : List ℕ → Call → List Action → Type 0) (old : Net) (part : Part) (o : Outcome) (new : Net)
-    → (t : TakesPart code_of may old part o new) → slice_get new.bots part.bot ≡ Some t.after
-after_at code_of may old part o new t =
+after_at : (promised : Promised) (old : Net) (part : Part) (o : Outcome) (new : Net)
+    → (t : TakesPart promised old part o new) → slice_get new.bots part.bot ≡ Some t.after
+after_at promised old part o new t =
     ap (λ (w : Net). slice_get w.bots part.bot) t.leaves ∙ slice_get-set-same old.bots part.bot t.was t.after t.there
 
 shown_at : (w : Net) (bot v : ℕ) → shown_version w bot ≡ Some v → (b : Bot) × (slice_get w.bots bot ≡ Some b) × (link_version b.link ≡ v)
@@ -158,12 +156,12 @@ change_is_silent leaves i leaf n o r c = by leaf.down
     by false = placed (place_of n leaf.kept.version)
 
 -- the bot of a leaf that took its next change is one version on
-next_version : (code_of : List ℕ → Call → Code) (may : List ℕ → Call → List Action → Type 0) (names : List (List ℕ)) (was : Bot) (leaf : Leaf)
+next_version : (promised : Promised) (names : List (List ℕ)) (was : Bot) (leaf : Leaf)
     (v origin request : ℕ) (change : Change) (report : BotReport) (new : Bot) → was.link.end ≡ AtLeaf leaf → leaf.kept.version ≡ v → report.end ≡ Done
     → (let p = change_packet (v + 1) origin request change in
-    TakesPacket (saying_of (took was.link p Works).told) code_of may names was p report new)
+    TakesPacket (saying_of (took was.link p Works).told) promised names was p report new)
     → link_version new.link ≡ v + 1
-next_version code_of may names was leaf v origin request change report new is at done t =
+next_version promised names was leaf v origin request change report new is at done t =
     let p = change_packet (v + 1) origin request change in
     let row : Row Leaf = leaf_received was.link.leaves was.link.number Works leaf (link_change (v + 1) origin request change) in
     let told : (took was.link p Works).told ≡ row.told = rw is refl in
@@ -171,7 +169,7 @@ next_version code_of may names was leaf v origin request change report new is at
     let silent : saying_of (took was.link p Works).told ≡ None =
     ap saying_of told ∙ change_is_silent was.link.leaves was.link.number leaf (v + 1) origin request change in
     let gives : GivesRow was (took was.link p) report new =
-    subst (λ (said : Option Saying). TakesPacket said code_of may names was p report new) silent t in
+    subst (λ (said : Option Saying). TakesPacket said promised names was p report new) silent t in
     let a = was_answered was (took was.link p) report new done gives in
     let says : (leaf_received was.link.leaves was.link.number Works leaf (link_change (leaf.kept.version + 1) origin request change)).told
     ≡ Ok (note_of a.answer.note) =
@@ -183,22 +181,22 @@ next_version code_of may names was leaf v origin request change report new is at
     ap end_version (a.after ∙ left) ∙ version
 
 -- the next change that is delivered and done is applied
-pub applies_next : (code_of : List ℕ → Call → Code) (may : List ℕ → Call → List Action → Type 0) (old : State) (step : Step) (o : Outcome) (new : State)
-    → IsSound old → NetStep code_of may old.net step o new.net → AppliesNext old step o new
-applies_next code_of may old step o new sound rule packet leaf v origin request from change is at shown done =
+pub applies_next : (promised : Promised) (old : State) (step : Step) (o : Outcome) (new : State)
+    → IsSound old → NetStep promised old.net step o new.net → AppliesNext old step o new
+applies_next promised old step o new sound rule packet leaf v origin request from change is at shown done =
     let p = change_packet (v + 1) origin request change in
     let found = shown_at old.net (suc leaf) v shown in
-    let rule' : Comes code_of may old.net (delivered old.net (packet_at old.net.packets packet)) o new.net =
-    subst (λ (e : Step). Comes code_of may old.net (part_of old.net e) o new.net) is rule in
-    let rule'' : Comes code_of may old.net (part_at old.net (suc leaf) (Receive p)) o new.net =
-    subst (λ (r : Option Sent). Comes code_of may old.net (delivered old.net r) o new.net) at rule' in
-    let by = done_by code_of may old.net (suc leaf) (Receive p) found.0 o new.net found.1 rule'' done in
+    let rule' : Comes promised old.net (delivered old.net (packet_at old.net.packets packet)) o new.net =
+    subst (λ (e : Step). Comes promised old.net (part_of old.net e) o new.net) is rule in
+    let rule'' : Comes promised old.net (part_at old.net (suc leaf) (Receive p)) o new.net =
+    subst (λ (r : Option Sent). Comes promised old.net (delivered old.net r) o new.net) at rule' in
+    let by = done_by promised old.net (suc leaf) (Receive p) found.0 o new.net found.1 rule'' done in
     let end = leaf_of old sound leaf found.0 found.1 in
     let was : by.taken.was.link.end ≡ AtLeaf end.0 = ap (λ (b : Bot). b.link.end) by.same ∙ end.1 in
     let version : end.0.kept.version ≡ v = ap end_version (sym end.1) ∙ found.2 in
-    let next = next_version code_of may old.net.store by.taken.was end.0 v origin request change by.taken.report by.taken.after was version by.done
+    let next = next_version promised old.net.store by.taken.was end.0 v origin request change by.taken.report by.taken.after was version by.done
     by.taken.steps in
-    ap (option_map (λ (b : Bot). link_version b.link)) (after_at code_of may old.net _ o new.net by.taken) ∙ ap Some next
+    ap (option_map (λ (b : Bot). link_version b.link)) (after_at promised old.net _ o new.net by.taken) ∙ ap Some next
 
 -- ---- a pump of the hub
 
@@ -275,17 +273,17 @@ grown_one told number old new e grows =
     ]
 
 -- the ask that a done pump takes, and the records take, is accepted
-pub accepts_next : (code_of : List ℕ → Call → Code) (may : List ℕ → Call → List Action → Type 0) (old : State) (step : Step) (o : Outcome) (new : State)
-    → IsSound old → IsSound new → GrowsAsToldBy old o new → NetStep code_of may old.net step o new.net → AcceptsNext old step o new
-accepts_next code_of may old step o new sound sound' grown rule change rest is waits takes done =
-    let rule' : Comes code_of may old.net (told_at old.net 0 Pump) o new.net =
-    subst (λ (e : Step). Comes code_of may old.net (part_of old.net e) o new.net) is rule in
+pub accepts_next : (promised : Promised) (old : State) (step : Step) (o : Outcome) (new : State)
+    → IsSound old → IsSound new → GrowsAsToldBy old o new → NetStep promised old.net step o new.net → AcceptsNext old step o new
+accepts_next promised old step o new sound sound' grown rule change rest is waits takes done =
+    let rule' : Comes promised old.net (told_at old.net 0 Pump) o new.net =
+    subst (λ (e : Step). Comes promised old.net (part_of old.net e) o new.net) is rule in
     by (slice_get old.net.bots 0) refl waits rule'
   where
     Accepted : Type 0
     Accepted = HasNote o (link_note (note.Accepted (length (accepted_by old) + 1))) × (accepted_by new ≡ accepted_by old ++ own change ∷ [])
 
-    served : (b : Bot) → slice_get old.net.bots 0 ≡ Some b → (t : TakesPart code_of may old.net (record { bot = 0; event = Pump }) o new.net)
+    served : (b : Bot) → slice_get old.net.bots 0 ≡ Some b → (t : TakesPart promised old.net (record { bot = 0; event = Pump }) o new.net)
         → t.was ≡ b → t.report.end ≡ Done → end_asks b.link.end ≡ change ∷ rest → Accepted
     served b here t same end waits =
         let links = sound.links.net in
@@ -311,7 +309,7 @@ accepts_next code_of may old step o new sound sound' grown rule change rest is w
         let told_so = subst (λ (x : Outcome). GrowsAsToldBy old x new) t.told by_note in
         let one = grown_one t.report.note (length (accepted_by old) + 1) (accepted_by old) (accepted_by new) tells told_so in
         let now : AtHub sound'.links.net.hub ≡ AtHub (hub_pumped leaves Works hub).after =
-        sym (hub_of new sound' t.after (after_at code_of may old.net _ o new.net t)) ∙ a.after ∙ left in
+        sym (hub_of new sound' t.after (after_at promised old.net _ o new.net t)) ∙ a.after ∙ left in
         let hub' : sound'.links.net.hub ≡ (hub_pumped leaves Works hub).after = cc in
         let kept : sound'.links.net.hub.kept ≡ hub_folded hub.kept (Accept (own change)) =
         ap (λ (h : Hub). h.kept) hub' ∙ pump_keeps leaves hub change rest (note_of a.answer.note) asks takes' says in (
@@ -320,12 +318,12 @@ accepts_next code_of may old step o new sound sound' grown rule change rest is w
               sound'.links.stands.hub.kept sound.links.sound.hub.kept.floor kept one.1,
         )
 
-    by : (r : Option Bot) → slice_get old.net.bots 0 ≡ r → waiting_at r ≡ change ∷ rest → Comes code_of may old.net (told_at old.net 0 Pump) o new.net
+    by : (r : Option Bot) → slice_get old.net.bots 0 ≡ r → waiting_at r ≡ change ∷ rest → Comes promised old.net (told_at old.net 0 Pump) o new.net
         → Accepted
     by None here waits c = cc
     by (Some b) here waits c =
         let there = is_bot-at old.net 0 b here in
         let told : told_at old.net 0 Pump ≡ part_at old.net 0 Pump = rw there refl in
-        let done_so = done_by code_of may old.net 0 Pump b o new.net here
-        (subst (λ (r : Result Part Outcome). Comes code_of may old.net r o new.net) told c) done in
+        let done_so = done_by promised old.net 0 Pump b o new.net here
+        (subst (λ (r : Result Part Outcome). Comes promised old.net r o new.net) told c) done in
         served b here done_so.taken done_so.same done_so.done waits

@@ -1,12 +1,10 @@
 -- Runs that go on, and what they leave.
 use Rattle.std.proofs.Common.{◌≡◌, ◌≤◌, ℕ, zero, suc, List, [], ◌∷◌, ◌++◌, length, map, slice_get, Some, refl, ap, sym, subst, ◌∙◌, arith, append_assoc}
 use Rattle.std.proofs.lemmas.List.{append-nil}
-use Rattle.protocol.specs.History.{Extends, Grows, records_of}
+use Rattle.protocol.specs.History.{Extends, records_of}
 use Rattle.protocol.proofs.Growing.{Grows-refl, Grows-trans}
 use Rattle.protocol.proofs.Lists.{Extends-trans, Extends-length, records_of-more}
-use Rattle.procstore.specs.declared.action.Action.{Action}
-use Rattle.procstore.specs.declared.call.Call.{Call}
-use Rattle.procstore.specs.declared.reply.Code.{Code}
+use Rattle.procstore.specs.Promises.{Promised}
 use Rattle.botworld.specs.declared.step.Step.{Step}
 use Rattle.botworld.specs.declared.outcome.Outcome.{Outcome}
 use Rattle.botworld.specs.Net.{Net, NetStep, shown_version, shown_records}
@@ -35,29 +33,29 @@ Follows-trans a b c f g = record {
 }
 
 -- the end of a run that begins at a sound moment is sound
-Run-sound : (code_of : List ℕ → Call → Code) (may : List ℕ → Call → List Action → Type 0) (first : State) (ms : List Moment) (last : State)
-    → IsSound first → Run code_of may first ms last → IsSound last
-Run-sound code_of may first [] last sound run = subst IsSound (sym run) sound
-Run-sound code_of may first (m ∷ ms) last sound run = Run-sound code_of may m.after ms last run.1.sound run.2
+Run-sound : (promised : Promised) (first : State) (ms : List Moment) (last : State)
+    → IsSound first → Run promised first ms last → IsSound last
+Run-sound promised first [] last sound run = subst IsSound (sym run) sound
+Run-sound promised first (m ∷ ms) last sound run = Run-sound promised m.after ms last run.1.sound run.2
 
-pub now_sound : (code_of : List ℕ → Call → Code) (may : List ℕ → Call → List Action → Type 0) (w : Net) (past : Past) → Stands code_of may w past
+pub now_sound : (promised : Promised) (w : Net) (past : Past) → Stands promised w past
     → IsSound past.now
-now_sound code_of may w past stands = Run-sound code_of may past.first past.history past.now (start_sound past.first stands.begins) stands.run
+now_sound promised w past stands = Run-sound promised past.first past.history past.now (start_sound past.first stands.begins) stands.run
 
 -- a run is followed by its end
-pub Run-follows : (code_of : List ℕ → Call → Code) (may : List ℕ → Call → List Action → Type 0) (first : State) (ms : List Moment) (last : State)
-    → IsSound first → Run code_of may first ms last → Follows first last
-Run-follows code_of may first [] last sound run = subst (Follows first) (sym run) (Follows-refl first sound)
-Run-follows code_of may first (m ∷ ms) last sound run =
+pub Run-follows : (promised : Promised) (first : State) (ms : List Moment) (last : State)
+    → IsSound first → Run promised first ms last → Follows first last
+Run-follows promised first [] last sound run = subst (Follows first) (sym run) (Follows-refl first sound)
+Run-follows promised first (m ∷ ms) last sound run =
     Follows-trans first m.after last (subst (λ (s : State). Follows s m.after) run.0 run.1.follows)
-    (Run-follows code_of may m.after ms last run.1.sound run.2)
+    (Run-follows promised m.after ms last run.1.sound run.2)
 
 -- ---- one step more
 
-Run-last : (code_of : List ℕ → Call → Code) (may : List ℕ → Call → List Action → Type 0) (a b : State) (ms : List Moment) (m : Moment)
-    → Run code_of may a ms b → Run code_of may b (m ∷ []) m.after → Run code_of may a (ms ++ m ∷ []) m.after
-Run-last code_of may a b [] m run last = subst (λ (s : State). Run code_of may s (m ∷ []) m.after) run last
-Run-last code_of may a b (x ∷ ms) m run last = (run.0, run.1, Run-last code_of may x.after b ms m run.2 last)
+Run-last : (promised : Promised) (a b : State) (ms : List Moment) (m : Moment)
+    → Run promised a ms b → Run promised b (m ∷ []) m.after → Run promised a (ms ++ m ∷ []) m.after
+Run-last promised a b [] m run last = subst (λ (s : State). Run promised s (m ∷ []) m.after) run last
+Run-last promised a b (x ∷ ms) m run last = (run.0, run.1, Run-last promised x.after b ms m run.2 last)
 
 steps_of-last : (ms : List Moment) (m : Moment) → steps_of (ms ++ m ∷ []) ≡ steps_of ms ++ m.step ∷ []
 steps_of-last [] m = refl
@@ -68,59 +66,59 @@ outcomes_of-last [] m = refl
 outcomes_of-last (x ∷ ms) m = ap (λ os. x.outcome ∷ os) (outcomes_of-last ms m)
 
 -- no step yet
-pub leads_nowhere : (code_of : List ℕ → Call → Code) (may : List ℕ → Call → List Action → Type 0) (w : Net) (past : Past) → Stands code_of may w past
-    → LeadsTo code_of may past [] [] w
-leads_nowhere code_of may w past stands = record {
+pub leads_nowhere : (promised : Promised) (w : Net) (past : Past) → Stands promised w past
+    → LeadsTo promised past [] [] w
+leads_nowhere promised w past stands = record {
   moments = [];
   after = past.now;
   steps_are = refl;
   outcomes_are = refl;
   run = refl;
-  follows = Follows-refl past.now (now_sound code_of may w past stands);
+  follows = Follows-refl past.now (now_sound promised w past stands);
   stands = record {
     begins = stands.begins;
-    run = subst (λ (ms : List Moment). Run code_of may past.first ms past.now) (sym (append-nil past.history)) stands.run;
+    run = subst (λ (ms : List Moment). Run promised past.first ms past.now) (sym (append-nil past.history)) stands.run;
     net = stands.net;
   };
 }
 
 -- one step more
-pub leads_on : (code_of : List ℕ → Call → Code) (may : List ℕ → Call → List Action → Type 0) (past : Past) (steps : List Step) (outcomes : List Outcome)
-    (step : Step) (o : Outcome) (mid new : Net) → LeadsTo code_of may past steps outcomes mid → NetStep code_of may mid step o new
-    → LeadsTo code_of may past (steps ++ step ∷ []) (outcomes ++ o ∷ []) new
-leads_on code_of may past steps outcomes step o mid new led made =
+pub leads_on : (promised : Promised) (past : Past) (steps : List Step) (outcomes : List Outcome)
+    (step : Step) (o : Outcome) (mid new : Net) → LeadsTo promised past steps outcomes mid → NetStep promised mid step o new
+    → LeadsTo promised past (steps ++ step ∷ []) (outcomes ++ o ∷ []) new
+leads_on promised past steps outcomes step o mid new led made =
     let before = led.after in
-    let sound = now_sound code_of may mid (later past led.moments before) led.stands in
-    let next = goes code_of may before step o new sound (subst (λ (w : Net). NetStep code_of may w step o new) led.stands.net made) in
+    let sound = now_sound promised mid (later past led.moments before) led.stands in
+    let next = goes promised before step o new sound (subst (λ (w : Net). NetStep promised w step o new) led.stands.net made) in
     let m : Moment = record { before = before; step = step; outcome = o; after = next.after } in
-    let last : Run code_of may before (m ∷ []) next.after = (refl, next.lawful, refl) in
+    let last : Run promised before (m ∷ []) next.after = (refl, next.lawful, refl) in
     record {
       moments = led.moments ++ m ∷ [];
       after = next.after;
       steps_are = steps_of-last led.moments m ∙ ap (λ (es : List Step). es ++ step ∷ []) led.steps_are;
       outcomes_are = outcomes_of-last led.moments m ∙ ap (λ (os : List Outcome). os ++ o ∷ []) led.outcomes_are;
-      run = Run-last code_of may past.now before led.moments m led.run last;
+      run = Run-last promised past.now before led.moments m led.run last;
       follows = Follows-trans past.now before next.after led.follows next.lawful.follows;
       stands = record {
         begins = led.stands.begins;
-        run = subst (λ (ms : List Moment). Run code_of may past.first ms next.after) (append_assoc past.history led.moments (m ∷ []))
-            (Run-last code_of may past.first before (past.history ++ led.moments) m led.stands.run last);
+        run = subst (λ (ms : List Moment). Run promised past.first ms next.after) (append_assoc past.history led.moments (m ∷ []))
+            (Run-last promised past.first before (past.history ++ led.moments) m led.stands.run last);
         net = next.net;
       };
     }
 
 -- ---- what is shown, and sent
 
-pub same_later : (code_of : List ℕ → Call → Code) (may : List ℕ → Call → List Action → Type 0) (past : Past) (steps : List Step) (outcomes : List Outcome)
-    (old new : Net) → Stands code_of may old past → LeadsTo code_of may past steps outcomes new → SameRecords old new
-same_later code_of may past steps outcomes old new stands led =
-    rw (stands.net, led.stands.net) (same_shown past.now led.after (now_sound code_of may old past stands)
-    (now_sound code_of may new (later past led.moments led.after) led.stands) led.follows.links)
+pub same_later : (promised : Promised) (past : Past) (steps : List Step) (outcomes : List Outcome)
+    (old new : Net) → Stands promised old past → LeadsTo promised past steps outcomes new → SameRecords old new
+same_later promised past steps outcomes old new stands led =
+    rw (stands.net, led.stands.net) (same_shown past.now led.after (now_sound promised old past stands)
+    (now_sound promised new (later past led.moments led.after) led.stands) led.follows.links)
 
-pub same_at_once : (code_of : List ℕ → Call → Code) (may : List ℕ → Call → List Action → Type 0) (past : Past) (w : Net) → Stands code_of may w past
+pub same_at_once : (promised : Promised) (past : Past) (w : Net) → Stands promised w past
     → SameRecords w w
-same_at_once code_of may past w stands =
-    let sound = now_sound code_of may w past stands in
+same_at_once promised past w stands =
+    let sound = now_sound promised w past stands in
     rw stands.net (same_shown past.now past.now sound sound (Grows-refl past.now.links))
 
 -- each state of a run is sound, and the end of the run follows it
@@ -131,35 +129,35 @@ record Reached (last s : State) : Type 0 where
 abbrev states_from : State → List Moment → List State
 states_from first ms = first ∷ map (λ (m : Moment). m.after) ms
 
-reached : (code_of : List ℕ → Call → Code) (may : List ℕ → Call → List Action → Type 0) (first : State) (ms : List Moment) (last : State)
-    → IsSound first → Run code_of may first ms last → (i : ℕ) (s : State) → slice_get (states_from first ms) i ≡ Some s → Reached last s
-reached code_of may first ms last sound run zero s e =
+reached : (promised : Promised) (first : State) (ms : List Moment) (last : State)
+    → IsSound first → Run promised first ms last → (i : ℕ) (s : State) → slice_get (states_from first ms) i ≡ Some s → Reached last s
+reached promised first ms last sound run zero s e =
     let same : first ≡ s = cc in
-    subst (Reached last) same (record { sound = sound; follows = Run-follows code_of may first ms last sound run })
-reached code_of may first [] last sound run (suc i) s e = cc
-reached code_of may first (m ∷ ms) last sound run (suc i) s e = reached code_of may m.after ms last run.1.sound run.2 i s e
+    subst (Reached last) same (record { sound = sound; follows = Run-follows promised first ms last sound run })
+reached promised first [] last sound run (suc i) s e = cc
+reached promised first (m ∷ ms) last sound run (suc i) s e = reached promised m.after ms last run.1.sound run.2 i s e
 
 -- each state of a run follows the first
-follows_first : (code_of : List ℕ → Call → Code) (may : List ℕ → Call → List Action → Type 0) (first : State) (ms : List Moment) (last : State)
-    → IsSound first → Run code_of may first ms last → (i : ℕ) (s : State) → slice_get (states_from first ms) i ≡ Some s → Follows first s
-follows_first code_of may first ms last sound run zero s e =
+follows_first : (promised : Promised) (first : State) (ms : List Moment) (last : State)
+    → IsSound first → Run promised first ms last → (i : ℕ) (s : State) → slice_get (states_from first ms) i ≡ Some s → Follows first s
+follows_first promised first ms last sound run zero s e =
     let same : first ≡ s = cc in subst (Follows first) same (Follows-refl first sound)
-follows_first code_of may first [] last sound run (suc i) s e = cc
-follows_first code_of may first (m ∷ ms) last sound run (suc i) s e =
+follows_first promised first [] last sound run (suc i) s e = cc
+follows_first promised first (m ∷ ms) last sound run (suc i) s e =
     Follows-trans first m.after s (subst (λ (s : State). Follows s m.after) run.0 run.1.follows)
-    (follows_first code_of may m.after ms last run.1.sound run.2 i s e)
+    (follows_first promised m.after ms last run.1.sound run.2 i s e)
 
 -- and each one before it
-follows_earlier : (code_of : List ℕ → Call → Code) (may : List ℕ → Call → List Action → Type 0) (first : State) (ms : List Moment) (last : State)
-    → IsSound first → Run code_of may first ms last → (i j : ℕ) (s t : State) → i ≤ j → slice_get (states_from first ms) i ≡ Some s
+follows_earlier : (promised : Promised) (first : State) (ms : List Moment) (last : State)
+    → IsSound first → Run promised first ms last → (i j : ℕ) (s t : State) → i ≤ j → slice_get (states_from first ms) i ≡ Some s
     → slice_get (states_from first ms) j ≡ Some t → Follows s t
-follows_earlier code_of may first ms last sound run zero j s t le at_i at_j =
+follows_earlier promised first ms last sound run zero j s t le at_i at_j =
     let same : first ≡ s = cc in
-    subst (λ (s : State). Follows s t) same (follows_first code_of may first ms last sound run j t at_j)
-follows_earlier code_of may first ms last sound run (suc i) zero s t le at_i at_j = absurd (omega (arith, le))
-follows_earlier code_of may first [] last sound run (suc i) (suc j) s t le at_i at_j = cc
-follows_earlier code_of may first (m ∷ ms) last sound run (suc i) (suc j) s t le at_i at_j =
-    follows_earlier code_of may m.after ms last run.1.sound run.2 i j s t (omega (arith, le)) at_i at_j
+    subst (λ (s : State). Follows s t) same (follows_first promised first ms last sound run j t at_j)
+follows_earlier promised first ms last sound run (suc i) zero s t le at_i at_j = absurd (omega (arith, le))
+follows_earlier promised first [] last sound run (suc i) (suc j) s t le at_i at_j = cc
+follows_earlier promised first (m ∷ ms) last sound run (suc i) (suc j) s t le at_i at_j =
+    follows_earlier promised m.after ms last run.1.sound run.2 i j s t (omega (arith, le)) at_i at_j
 
 -- the records of a version at a state are those of the end of the run
 shown_in_end : (last s : State) → Reached last s → (i v : ℕ) → shown_version s.net i ≡ Some v
@@ -171,16 +169,16 @@ shown_in_end last s there i v e =
       at.1 ∙ ap Some (sym (records_of-more (accepted_by s) (accepted_by last) v more at.0)),
     )
 
-module _ (code_of : List ℕ → Call → Code) (may : List ℕ → Call → List Action → Type 0) (w : Net) (past : Past) (stands : Stands code_of may w past) where
+module _ (promised : Promised) (w : Net) (past : Past) (stands : Stands promised w past) where
   reached_in : (i : ℕ) (s : State) → slice_get (states_of past) i ≡ Some s → Reached past.now s
-  reached_in = reached code_of may past.first past.history past.now (start_sound past.first stands.begins) stands.run
+  reached_in = reached promised past.first past.history past.now (start_sound past.first stands.begins) stands.run
 
   pub always_at_version : AlwaysAtVersion past
   always_at_version i s at bot v shown = shown_in_end past.now s (reached_in i s at) bot v shown
 
   pub at_version : AreAtVersion past w
   at_version bot v shown =
-      let sound = now_sound code_of may w past stands in
+      let sound = now_sound promised w past stands in
       rw stands.net (shown_at past.now sound bot v (sym (ap (λ (w : Net). shown_version w bot) stands.net) ∙ shown))
 
   pub same_always : SameAlways past
@@ -189,14 +187,14 @@ module _ (code_of : List ℕ → Call → Code) (may : List ℕ → Call → Lis
 
   pub never_back_always : NeverBackAlways past
   never_back_always i j s t le at_i at_j =
-      (follows_earlier code_of may past.first past.history past.now (start_sound past.first stands.begins) stands.run i j s t le at_i at_j).versions
+      (follows_earlier promised past.first past.history past.now (start_sound past.first stands.begins) stands.run i j s t le at_i at_j).versions
 
 -- no version goes back
-pub none_back : (code_of : List ℕ → Call → Code) (may : List ℕ → Call → List Action → Type 0) (past : Past) (steps : List Step) (outcomes : List Outcome)
-    (old new : Net) → Stands code_of may old past → LeadsTo code_of may past steps outcomes new → NeverBack old new
-none_back code_of may past steps outcomes old new stands led = rw (stands.net, led.stands.net) led.follows.versions
+pub none_back : (promised : Promised) (past : Past) (steps : List Step) (outcomes : List Outcome)
+    (old new : Net) → Stands promised old past → LeadsTo promised past steps outcomes new → NeverBack old new
+none_back promised past steps outcomes old new stands led = rw (stands.net, led.stands.net) led.follows.versions
 
 -- what the links promise holds
-pub promises_kept : (code_of : List ℕ → Call → Code) (may : List ℕ → Call → List Action → Type 0) (w : Net) (past : Past) → Stands code_of may w past
+pub promises_kept : (promised : Promised) (w : Net) (past : Past) → Stands promised w past
     → KeepsPromises past.now
-promises_kept code_of may w past stands = keeps_promises past.now (now_sound code_of may w past stands)
+promises_kept promised w past stands = keeps_promises past.now (now_sound promised w past stands)

@@ -3,9 +3,7 @@ use Rattle.std.proofs.Common.{◌≡◌, ℕ, ◌+◌, ◌<◌, Bool, true, fals
 use Rattle.std.proofs.Common.{slice_set, Option, None, Some, Result, Ok, Err, IsOk, refl, ap, sym, subst, ◌∙◌}
 use Rattle.std.proofs.lemmas.Bool.{ltb-true}
 use Rattle.std.proofs.lemmas.Option.{slice_get_read}
-use Rattle.procstore.specs.declared.action.Action.{Action}
-use Rattle.procstore.specs.declared.call.Call.{Call}
-use Rattle.procstore.specs.declared.reply.Code.{Code}
+use Rattle.procstore.specs.Promises.{Promised}
 use Rattle.botcore.specs.declared.event.Event.{Event}
 use Rattle.botcore.specs.declared.event.Event.TheVariants.{Receive}
 use Rattle.botcore.specs.declared.report.Report.{Report as BotReport}
@@ -61,14 +59,14 @@ part-there w (Deliver k) part e = by (packet_at w.packets k) e
 
 -- what it makes ----------------------------------------------------------------------------------------------------------
 
-pub part_comes : (code_of : List ℕ → Call → Code) (may : List ℕ → Call → List Action → Type 0) (old : Net) (step : Step) (part : Part) (was after : Bot)
+pub part_comes : (promised : Promised) (old : Net) (step : Step) (part : Part) (was after : Bot)
     (report : BotReport) (o : Outcome) (packets : List Sent) → part_of old step ≡ Ok part → was ≡ get_or old.bots part.bot was
-    → TakesStep code_of may old.store was part.event report after → o ≡ reported (report_of part.bot (length old.packets + 1) report)
+    → TakesStep promised old.store was part.event report after → o ≡ reported (report_of part.bot (length old.packets + 1) report)
     → packets ≡ old.packets ++ posted part.bot report.packets
-    → NetStep code_of may old step o (record { bots = slice_set old.bots part.bot after; packets = packets; store = old.store })
-part_comes code_of may old step part was after report o packets is here takes told sent =
+    → NetStep promised old step o (record { bots = slice_set old.bots part.bot after; packets = packets; store = old.store })
+part_comes promised old step part was after report o packets is here takes told sent =
     let there = part-there old step part is in
-    subst (λ (r : Result Part Outcome). Comes code_of may old r o
+    subst (λ (r : Result Part Outcome). Comes promised old r o
     (record { bots = slice_set old.bots part.bot after; packets = packets; store = old.store })) (sym is)
     (record {
       was = was;

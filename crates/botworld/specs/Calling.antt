@@ -1,5 +1,8 @@
 -- Which procs a step calls, as two bots are compared.
 use Rattle.std.specs.Prelude.{◌≡◌, ℕ, List, map, slice_get, Option, None, Some, Result, Ok, Err}
+use Rattle.userfile.specs.Records.{Records}
+use Rattle.chanstate.specs.declared.state.ChanState.{ChanState}
+use Rattle.procstore.specs.Promises.{Promised, code_at}
 use Rattle.procstore.specs.declared.call.Call.{Call}
 use Rattle.procstore.specs.declared.reply.Code.{Code}
 use Rattle.bindtable.specs.declared.bind.Bind.{Bind}
@@ -57,9 +60,21 @@ calling w step outcome = calling_in w (part_of w step) outcome
 abbrev pub asked_in : Bind → Asked
 asked_in bind = record { kind = bind.kind; flags = bind.flags; mask = bind.mask; proc = bind.proc }
 
--- bots that are alike in what calls depend on, to which the same happens
-pub record IsAlike (a b : Calling) : Type 0 where
+-- bots that are alike in what calls depend on but for their channels, to which the same happens
+pub record IsAlikeButChannels (a b : Calling) : Type 0 where
   pub happenings : a.happenings ≡ b.happenings
   pub binds : map asked_in a.bot.binds.binds ≡ map asked_in b.bot.binds.binds
   pub exclusive : a.bot.config.exclusive ≡ b.bot.config.exclusive
   pub version : link_version a.bot.link ≡ link_version b.bot.link
+
+-- bots that are alike in all that calls depend on: a promised code may depend on the records, which are those of the version, and on the
+-- channels, which are the bot's nick and what it knows of each channel that it is on
+pub record IsAlike (a b : Calling) : Type 0 where
+  pub others : IsAlikeButChannels a b
+  pub channels : a.bot.channels ≡ b.bot.channels
+
+-- the promised codes are the same whatever the channels are
+abbrev pub IgnoresChannels : Promised → Type 0
+IgnoresChannels promised = (name : List ℕ) (call : Call) (records : Records) (one other : ChanState)
+    → code_at promised (record { records = records; channels = one }) name call
+    ≡ code_at promised (record { records = records; channels = other }) name call

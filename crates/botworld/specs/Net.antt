@@ -3,9 +3,7 @@ use Rattle.std.specs.Prelude.{◌≡◌, ℕ, zero, suc, ◌+◌, nat_lt, Bool, 
 use Rattle.std.specs.Prelude.{Option, None, Some, Result, Ok, Err, IsOk}
 use Rattle.std.specs.Option.{option_map}
 use Rattle.userfile.specs.Records.{Records}
-use Rattle.procstore.specs.declared.action.Action.{Action}
-use Rattle.procstore.specs.declared.call.Call.{Call}
-use Rattle.procstore.specs.declared.reply.Code.{Code}
+use Rattle.procstore.specs.Promises.{Promised}
 use Rattle.linkcalls.specs.declared.answer.Outgoing.{Outgoing}
 use Rattle.linkcalls.specs.Shapes.{HasGoodRecords}
 use Rattle.botcore.specs.declared.event.Event.{Event}
@@ -92,13 +90,13 @@ report_of bot first report = record {
 }
 
 -- a bot takes its own step, and its packets are on the network after those that were
-pub record TakesPart (code_of : List ℕ → Call → Code) (may : List ℕ → Call → List Action → Type 0)
+pub record TakesPart (promised : Promised)
     (old : Net) (part : Part) (outcome : Outcome) (new : Net) : Type 0 where
   pub was : Bot
   pub there : slice_get old.bots part.bot ≡ Some was
   pub report : BotReport
   pub after : Bot
-  pub steps : TakesStep code_of may old.store was part.event report after
+  pub steps : TakesStep promised old.store was part.event report after
   pub told : outcome ≡ reported (report_of part.bot (length old.packets + 1) report)
   pub leaves : new ≡ record {
     bots = slice_set old.bots part.bot after;
@@ -107,14 +105,14 @@ pub record TakesPart (code_of : List ℕ → Call → Code) (may : List ℕ → 
   }
 
 -- the outcome of a step and the net after it, by who takes part
-abbrev pub Comes : (List ℕ → Call → Code) → (List ℕ → Call → List Action → Type 0)
+abbrev pub Comes : Promised
     → Net → Result Part Outcome → Outcome → Net → Type 0
-Comes code_of may old (Ok part) outcome new = TakesPart code_of may old part outcome new
-Comes code_of may old (Err missing) outcome new = (outcome ≡ missing) × (new ≡ old)
+Comes promised old (Ok part) outcome new = TakesPart promised old part outcome new
+Comes promised old (Err missing) outcome new = (outcome ≡ missing) × (new ≡ old)
 
 -- a step from old to new with this outcome
-abbrev pub NetStep : (List ℕ → Call → Code) → (List ℕ → Call → List Action → Type 0) → Net → Step → Outcome → Net → Type 0
-NetStep code_of may old step outcome new = Comes code_of may old (part_of old step) outcome new
+abbrev pub NetStep : Promised → Net → Step → Outcome → Net → Type 0
+NetStep promised old step outcome new = Comes promised old (part_of old step) outcome new
 
 -- ---- what a bot shows
 

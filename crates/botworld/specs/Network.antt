@@ -13,9 +13,7 @@ use Rattle.linkcalls.specs.declared.note.Note.TheVariants.{Accepted, Gap}
 use Rattle.linkcalls.specs.declared.error.LinkFault.TheVariants.{Diverged}
 use Rattle.linknet.specs.Ends.{End as LinkEnd, end_asks}
 use Rattle.linknet.specs.Nets.{IsMoment, MovesAsTold, ends_of as ends_in}
-use Rattle.procstore.specs.declared.action.Action.{Action}
-use Rattle.procstore.specs.declared.call.Call.{Call}
-use Rattle.procstore.specs.declared.reply.Code.{Code}
+use Rattle.procstore.specs.Promises.{Promised}
 use Rattle.botcore.specs.declared.event.Event.TheVariants.{Pump}
 use Rattle.botcore.specs.declared.fault.Refusal.TheVariants.{Link as link_refusal}
 use Rattle.botcore.specs.declared.report.End.{End}
@@ -195,9 +193,9 @@ AnswersAsKept old new =
     (more : List Sent) × (new.net.packets ≡ old.net.packets ++ more) × AllSent (IsKeptAnswer new.links.hub.kept) (all_sent more)
 
 -- a step, and what holds of each one
-pub record LawfulStep (code_of : List ℕ → Call → Code) (may : List ℕ → Call → List Action → Type 0)
+pub record LawfulStep (promised : Promised)
     (old : State) (step : Step) (outcome : Outcome) (new : State) : Type 0 where
-  pub by_rule : NetStep code_of may old.net step outcome new.net
+  pub by_rule : NetStep promised old.net step outcome new.net
   pub sound : IsSound new
   pub follows : Follows old new
   pub answers : AnswersAsKept old new

@@ -1,14 +1,12 @@
 -- Runs of the network, and what a world stands for.
 use Rattle.std.specs.Prelude.{◌≡◌, ◌≤◌, ℕ, List, [], ◌∷◌, ◌++◌, length, map, slice_get, Some}
 use Rattle.protocol.specs.History.{records_of}
-use Rattle.procstore.specs.declared.action.Action.{Action}
-use Rattle.procstore.specs.declared.call.Call.{Call}
-use Rattle.procstore.specs.declared.reply.Code.{Code}
+use Rattle.procstore.specs.Promises.{Promised}
 use Rattle.botworld.specs.declared.step.Step.{Step}
 use Rattle.botworld.specs.declared.outcome.Outcome.{Outcome}
 use Rattle.botworld.specs.Net.{Net, shown_version, shown_records}
 use Rattle.botworld.specs.Network.{State, IsStart, LawfulStep, NeverBack, Follows, accepted_by}
-use Rattle.botworld.specs.Calling.{Calling, IsAlike, calling}
+use Rattle.botworld.specs.Calling.{Calling, IsAlikeButChannels, IsAlike, calling}
 
 -- one step that was made
 pub record Moment : Type 0 where
@@ -18,9 +16,9 @@ pub record Moment : Type 0 where
   pub after : State
 
 -- a run of the network: each step goes on from where the one before it left
-abbrev pub Run : (List ℕ → Call → Code) → (List ℕ → Call → List Action → Type 0) → State → List Moment → State → Type 0
-Run code_of may first [] last = last ≡ first
-Run code_of may first (m ∷ ms) last = (m.before ≡ first) × LawfulStep code_of may m.before m.step m.outcome m.after × Run code_of may m.after ms last
+abbrev pub Run : Promised → State → List Moment → State → Type 0
+Run promised first [] last = last ≡ first
+Run promised first (m ∷ ms) last = (m.before ≡ first) × LawfulStep promised m.before m.step m.outcome m.after × Run promised m.after ms last
 
 abbrev pub steps_of : List Moment → List Step
 steps_of [] = []
@@ -45,21 +43,21 @@ abbrev pub later : Past → List Moment → State → Past
 later past moments now = record { first = past.first; history = past.history ++ moments; now = now }
 
 -- a world stands for the end of a run from a first moment
-pub record Stands (code_of : List ℕ → Call → Code) (may : List ℕ → Call → List Action → Type 0) (w : Net) (past : Past) : Type 0 where
+pub record Stands (promised : Promised) (w : Net) (past : Past) : Type 0 where
   pub begins : IsStart past.first
-  pub run : Run code_of may past.first past.history past.now
+  pub run : Run promised past.first past.history past.now
   pub net : w ≡ past.now.net
 
 -- from a past, steps with these outcomes lead to one that the world stands for
-pub record LeadsTo (code_of : List ℕ → Call → Code) (may : List ℕ → Call → List Action → Type 0)
+pub record LeadsTo (promised : Promised)
     (past : Past) (steps : List Step) (outcomes : List Outcome) (w : Net) : Type 0 where
   pub moments : List Moment
   pub after : State
   pub steps_are : steps_of moments ≡ steps
   pub outcomes_are : outcomes_of moments ≡ outcomes
-  pub run : Run code_of may past.now moments after
+  pub run : Run promised past.now moments after
   pub follows : Follows past.now after
-  pub stands : Stands code_of may w (later past moments after)
+  pub stands : Stands promised w (later past moments after)
 
 -- two bots that show one version, each in its net, hold the same records
 abbrev pub SameRecords : Net → Net → Type 0
@@ -92,3 +90,9 @@ AlwaysAtVersion past = (i : ℕ) (s : State) → slice_get (states_of past) i �
 abbrev pub SameCalls : List Moment → Type 0
 SameCalls history = (i j : ℕ) (m n : Moment) (a b : Calling) → slice_get history i ≡ Some m → slice_get history j ≡ Some n
     → calling m.before.net m.step m.outcome ≡ Some a → calling n.before.net n.step n.outcome ≡ Some b → IsAlike a b → a.calls ≡ b.calls
+
+-- so did bots that were alike but for their channels
+abbrev pub SameCallsIgnoringChannels : List Moment → Type 0
+SameCallsIgnoringChannels history = (i j : ℕ) (m n : Moment) (a b : Calling) → slice_get history i ≡ Some m → slice_get history j ≡ Some n
+    → calling m.before.net m.step m.outcome ≡ Some a → calling n.before.net n.step n.outcome ≡ Some b → IsAlikeButChannels a b
+    → a.calls ≡ b.calls

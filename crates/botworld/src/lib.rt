@@ -5,8 +5,9 @@
 //! fail at any call; what was being journaled then counts or doesn't, which its restart finds out. Each step has an
 //! [`Outcome`], and [`World::run`] promises of every list of steps that two bots at the same version hold the same
 //! records, those after the hub's first so many accepted changes; that no bot's version goes back, restarts included; and
-//! that two bots equal in version, binds and `exclusive` call the same procs in the same order for the same events, also at
-//! two different moments.
+//! that two bots equal in version, binds, `exclusive` and channels call the same procs in the same order for the same
+//! events, also at two different moments. A proc that looks at its bot sees its records, which are those of the version,
+//! and its channels; where no promised code depends on the channels, they need not be equal.
 //!
 //! The promise is made of a history that no bot holds: every change that was accepted, every request and every answer. A
 //! world stands for such a history by its bots' ends of the link and by the packets that were sent (`specs/Network`), and

@@ -63,7 +63,8 @@ impl<P: Promise, D: Disk, B: Run> World<P, D, B> {
     ghost use Rattle.botcore.specs.Steps.{IsGoodEvent};
     ghost use Rattle.botworld.specs.Network.{AllNew, AreNumbered, start, accepted_by, IsTruePacket, KeepsPromises, NeverBack};
     ghost use Rattle.botworld.specs.Standing.{Past, beginning, Stands, LeadsTo, SameRecords, SameAlways};
-    ghost use Rattle.botworld.specs.Standing.{NeverBackAlways, AreAtVersion, AlwaysAtVersion, SameCalls};
+    ghost use Rattle.botworld.specs.Standing.{NeverBackAlways, AreAtVersion, AlwaysAtVersion, SameCalls, SameCallsIgnoringChannels};
+    ghost use Rattle.botworld.specs.Calling.{IgnoresChannels};
 
     /// A world of these bots, each of which is as [`Bot::create`] left it. Takes no memory.
     ///
@@ -77,7 +78,7 @@ impl<P: Promise, D: Disk, B: Run> World<P, D, B> {
     ) -> Result<World<P, D, B>, RefusedWorld<P, D, B>>
         requires as_made { AllNew bots.items }
         ensures made { IfOk result (λ w. w ≡ (start bots.items store).net) }
-        ensures stands { IfOk result (λ w. Stands P.code_of P.may w (beginning (start bots.items store))) }
+        ensures stands { IfOk result (λ w. Stands P.promised w (beginning (start bots.items store))) }
         ensures numbered { OnOk result (AreNumbered bots.items) }
         ensures bad_world { OnErr result (¬ AreNumbered bots.items) }
         ensures handed_back { IfErr result (λ refused. (refused.bots ≡ bots) × (refused.store ≡ store)) }
@@ -107,7 +108,7 @@ impl<P: Promise, D: Disk, B: Run> World<P, D, B> {
     /// The userfile of a bot at its version; none where there is no such bot. Takes no memory.
     pub fn userfile(&self, bot: u16) -> Option<&Userfile>
         ensures shown { option_copied result ≡ shown_records self.now bot }
-        ensures at_version { (past : Past) → Stands P.code_of P.may self.now past → (v : ℕ)
+        ensures at_version { (past : Past) → Stands P.promised self.now past → (v : ℕ)
             → shown_version self.now bot ≡ Some v → option_copied result ≡ Some (records_of (accepted_by past.now) v) }
     {
         self.shown(bot)
@@ -118,7 +119,7 @@ impl<P: Promise, D: Disk, B: Run> World<P, D, B> {
         ensures lent { option_copied result ≡ packet_at self.now.packets number }
         // A change is the accepted one of its number, a part is one of the records at its version, a request is what its leaf
         // asked under that number, and an answer is the hub's to that request.
-        ensures true_packet { (past : Past) → Stands P.code_of P.may self.now past
+        ensures true_packet { (past : Past) → Stands P.promised self.now past
             → IfSome (option_copied result) (λ sent. IsTruePacket past.now sent) }
     {
         self.lent(number)
@@ -129,8 +130,8 @@ impl<P: Promise, D: Disk, B: Run> World<P, D, B> {
     /// step in which no bot takes part needs no more.
     pub fn run(&mut self, alloc: Global, steps: &[Step]) -> Transcript
         // The steps and outcomes are a run of the network, and go on from any past that the world had.
-        ensures leads { (past : Past) → Stands P.code_of P.may self.old past
-            → LeadsTo P.code_of P.may past (take (length result.outcomes) steps.now) result.outcomes self.new }
+        ensures leads { (past : Past) → Stands P.promised self.old past
+            → LeadsTo P.promised past (take (length result.outcomes) steps.now) result.outcomes self.new }
         // It is cut exactly where outcomes are fewer than steps, and they are never more.
         ensures whole { result.cut ≡ nat_lt (length result.outcomes) (length steps.now) }
         ensures at_most { length result.outcomes ≤ length steps.now }
@@ -138,26 +139,29 @@ impl<P: Promise, D: Disk, B: Run> World<P, D, B> {
         ensures cut_at { result.cut ≡ true
             → (length result.outcomes ≡ 0) ⊎ TakesPartAt self.new steps.now (length result.outcomes) }
         // Two bots that show one version, the one before the run and the other after it, hold the same records.
-        ensures same_records { (past : Past) → Stands P.code_of P.may self.old past → SameRecords self.old self.new }
+        ensures same_records { (past : Past) → Stands P.promised self.old past → SameRecords self.old self.new }
         // So do two bots that show one version after the run.
-        ensures same_now { (past : Past) → Stands P.code_of P.may self.old past → SameRecords self.new self.new }
+        ensures same_now { (past : Past) → Stands P.promised self.old past → SameRecords self.new self.new }
         // And so did any two, before the first step or after any two steps so far.
-        ensures same_always { (past : Past) → Stands P.code_of P.may self.new past → SameAlways past }
+        ensures same_always { (past : Past) → Stands P.promised self.new past → SameAlways past }
         // The records of a bot are those of its version: what the first so many of the accepted changes make.
-        ensures at_version { (past : Past) → Stands P.code_of P.may self.new past → AreAtVersion past self.new }
+        ensures at_version { (past : Past) → Stands P.promised self.new past → AreAtVersion past self.new }
         // So they were before the first step and after each step so far.
-        ensures always_at_version { (past : Past) → Stands P.code_of P.may self.new past → AlwaysAtVersion past }
+        ensures always_at_version { (past : Past) → Stands P.promised self.new past → AlwaysAtVersion past }
         // No version goes back, also where a bot is restarted.
-        ensures never_back { (past : Past) → Stands P.code_of P.may self.old past → NeverBack self.old self.new }
+        ensures never_back { (past : Past) → Stands P.promised self.old past → NeverBack self.old self.new }
         // Nor did one between any two steps so far.
-        ensures never_back_always { (past : Past) → Stands P.code_of P.may self.new past → NeverBackAlways past }
+        ensures never_back_always { (past : Past) → Stands P.promised self.new past → NeverBackAlways past }
         // All that the links promise of what happened so far holds: a leaf's request is accepted at most once, with the change
         // that the leaf asked for, and is told under its number and never as refused; each change that was ever sent is the
         // accepted one of its number, and each part is one of the records at its version.
-        ensures promises { (past : Past) → Stands P.code_of P.may self.new past → KeepsPromises past.now }
+        ensures promises { (past : Past) → Stands P.promised self.new past → KeepsPromises past.now }
         // In any two steps so far, be they of lines, texts of other bots or readings of the clock, bots equal in version,
-        // binds and `exclusive` called the same procs in the same order for the same events.
-        ensures same_calls { (past : Past) → Stands P.code_of P.may self.new past → SameCalls past.history }
+        // binds, `exclusive` and channels called the same procs in the same order for the same events.
+        ensures same_calls { (past : Past) → Stands P.promised self.new past → SameCalls past.history }
+        // Where the promised codes ignore the channels, these need not be equal.
+        ensures same_calls_ignoring_channels { IgnoresChannels P.promised → (past : Past) → Stands P.promised self.new past
+            → SameCallsIgnoringChannels past.history }
     {
         self.run_all(alloc, steps)
     }
@@ -182,8 +186,8 @@ impl<P: Promise, D: Disk, B: Run> World<P, D, B> {
 
     // As `run`: the steps and outcomes are a run of the network.
     fn run_all(&mut self, alloc: Global, steps: &[Step]) -> Transcript
-        ensures leads { (past : Past) → Stands P.code_of P.may self.old past
-            → LeadsTo P.code_of P.may past (take (length result.outcomes) steps.now) result.outcomes self.new }
+        ensures leads { (past : Past) → Stands P.promised self.old past
+            → LeadsTo P.promised past (take (length result.outcomes) steps.now) result.outcomes self.new }
         ensures whole { result.cut ≡ nat_lt (length result.outcomes) (length steps.now) }
         ensures at_most { length result.outcomes ≤ length steps.now }
         ensures cut_at { result.cut ≡ true
@@ -214,7 +218,7 @@ impl<P: Promise, D: Disk, B: Run> World<P, D, B> {
 
     // Makes a step, or nothing where room for it is refused. A step in which no bot takes part needs none.
     fn make(&mut self, alloc: Global, step: &Step) -> Result<Outcome, NoMemory>
-        ensures { MatchResult result (λ o. NetStep P.code_of P.may self.old step.now o self.new)
+        ensures { MatchResult result (λ o. NetStep P.promised self.old step.now o self.new)
             (λ _. IsOk (part_of self.old step.now) × (self.new ≡ self.old)) }
     {
         match self.missing(step) {
@@ -261,7 +265,7 @@ impl<P: Promise, D: Disk, B: Run> World<P, D, B> {
     // A bot's part in a step, or nothing where room for it is refused.
     fn take_part(&mut self, alloc: Global, step: &Step) -> Result<Outcome, NoMemory>
         requires { IsOk (part_of self.old step.now) }
-        ensures { MatchResult result (λ o. NetStep P.code_of P.may self.old step.now o self.new)
+        ensures { MatchResult result (λ o. NetStep P.promised self.old step.now o self.new)
             (λ _. self.new ≡ self.old) }
     {
         let Part { bot, event } = self.part(alloc, step)?;

@@ -11,12 +11,14 @@ use Rattle.ircline.specs.declared.message.Message.{Message}
 use Rattle.rfccase.specs.Casemapping.{is_same}
 use Rattle.chanstate.specs.Members.{is_called, with_nick}
 use Rattle.chanstate.specs.Channels.{with_topic, with_members}
-use Rattle.chanstate.specs.Items.{Item, Welcomed, Joined, Left, Departed, Renamed, Marked, Titled, Listed, Addressed, items_of}
-use Rattle.chanstate.specs.Steps.{step, steps, after}
+use Rattle.chanstate.specs.Items.{Item, Welcomed, Announced, Joined, Left, Departed, Renamed, ModesSet, Marked, Titled, NamesTold, Listed, Addressed}
+use Rattle.chanstate.specs.Items.{read_by, items_of}
+use Rattle.chanstate.specs.declared.support.Support.{Support}
+use Rattle.chanstate.specs.Steps.{step, each_step, steps, after}
 use Rattle.chanstate.specs.Views.{connected, channel_in, members_of, member_in}
-use Rattle.chanstate.specs.History.{own, own_said, held, channel_said, topic, topic_said, spelling, name_said, on, nick_said, known, member_said, has_mark}
+use Rattle.chanstate.specs.History.{own, own_said, support, support_said, held, channel_said, topic, topic_said, spelling, name_said, on, nick_said, known, member_said, has_mark}
 use Rattle.chanstate.specs.History.{marked, mark_begins, mark_says, user_begins, user_says, host_begins, host_says, nick_begins, nick_says, IsAsSaid}
-use Rattle.chanstate.specs.History.{Agrees, before, history_from, history, after_all, arrival, joins, opening}
+use Rattle.chanstate.specs.History.{Agrees, before, before_read, history_from, history, after_all, arrival, joins, opening}
 use Rattle.chanstate.proofs.FindLemmas.{list_any-find}
 use Rattle.chanstate.proofs.DistinctLemmas.{Distinct}
 use Rattle.chanstate.proofs.OrderLemmas.{Ordered, at, on_name, arrival-is_same, order-after, channels-in-order}
@@ -36,14 +38,37 @@ one_nick false s t is = refl
 
 own-step : (item : Item) (s : ChanState) → (step item s).nick ≡ unwrap_or (own_said item s.nick) s.nick
 own-step (Welcomed nick) s = refl
+own-step (Announced tokens) s = refl
 own-step (Joined nick user host d) s = one_nick (is_same nick s.nick) _ _ refl
 own-step (Left nick d) s = one_nick (is_same nick s.nick) _ _ refl
 own-step (Departed nick) s = one_nick (is_same nick s.nick) _ _ refl
 own-step (Renamed old new) s = chosen (is_same old s.nick) new s.nick
+own-step (ModesSet channel modes arguments) s = refl
 own-step (Marked d mark set nick) s = refl
 own-step (Titled d topic) s = refl
+own-step (NamesTold channel names) s = refl
 own-step (Listed d one) s = refl
 own-step (Addressed d nick user host) s = refl
+
+-- ---- what the server has announced
+
+one_support : (b : Bool) (s t : ChanState) → s.support ≡ t.support → (cond b s t).support ≡ t.support
+one_support true s t is = is
+one_support false s t is = refl
+
+support-step : (item : Item) (s : ChanState) → (step item s).support ≡ support_said item s.support
+support-step (Welcomed nick) s = refl
+support-step (Announced tokens) s = refl
+support-step (Joined nick user host d) s = one_support (is_same nick s.nick) _ _ refl
+support-step (Left nick d) s = one_support (is_same nick s.nick) _ _ refl
+support-step (Departed nick) s = one_support (is_same nick s.nick) _ _ refl
+support-step (Renamed old new) s = refl
+support-step (ModesSet channel modes arguments) s = refl
+support-step (Marked d mark set nick) s = refl
+support-step (Titled d topic) s = refl
+support-step (NamesTold channel names) s = refl
+support-step (Listed d one) s = refl
+support-step (Addressed d nick user host) s = refl
 
 -- ---- channels
 
@@ -69,12 +94,15 @@ h_left false b2 w o is = refl
 
 held-after : (item : Item) (me c : List ℕ) (o : Option Channel) → is_some (channel_after item me c o) ≡ unwrap_or (channel_said item me c) (is_some o)
 held-after (Welcomed nick) me c o = refl
+held-after (Announced tokens) me c o = refl
 held-after (Joined nick user host d) me c o = h_joined (is_same c d) (is_same nick me) _ _ o (some-map _ o)
 held-after (Left nick d) me c o = h_left (is_same c d) (is_same nick me) _ o (some-map _ o)
 held-after (Departed nick) me c o = h_left true (is_same nick me) _ o (some-map _ o)
 held-after (Renamed old new) me c o = some-map _ o
+held-after (ModesSet channel modes arguments) me c o = refl
 held-after (Marked d mark set nick) me c o = some_same (is_same c d) o _ (some-map _ o)
 held-after (Titled d topic) me c o = some_same (is_same c d) o _ (some-map _ o)
+held-after (NamesTold channel names) me c o = refl
 held-after (Listed d one) me c o = some_same (is_same c d) o _ (some-map _ o)
 held-after (Addressed d nick user host) me c o = some_same (is_same c d) o _ (some-map _ o)
 
@@ -111,12 +139,15 @@ t_titled false t new o is = is
 topic-after : (item : Item) (me c t : List ℕ) (o : Option Channel) → HasTopic t o
     → HasTopic (unwrap_or (topic_said item me c) t) (channel_after item me c o)
 topic-after (Welcomed nick) me c t o is = tt
+topic-after (Announced tokens) me c t o is = is
 topic-after (Joined nick user host d) me c t o is = t_joined (is_same c d) (is_same nick me) t _ _ o refl (t_members t _ o is) is
 topic-after (Left nick d) me c t o is = t_left (is_same c d) (is_same nick me) t _ o (t_members t _ o is) is
 topic-after (Departed nick) me c t o is = t_left true (is_same nick me) t _ o (t_members t _ o is) is
 topic-after (Renamed old new) me c t o is = t_members t _ o is
+topic-after (ModesSet channel modes arguments) me c t o is = is
 topic-after (Marked d mark set nick) me c t o is = t_same (is_same c d) t _ o (t_members t _ o is) is
 topic-after (Titled d new) me c t o is = t_titled (is_same c d) t new o is
+topic-after (NamesTold channel names) me c t o is = is
 topic-after (Listed d one) me c t o is = t_same (is_same c d) t _ o (t_members t _ o is) is
 topic-after (Addressed d nick user host) me c t o is = t_same (is_same c d) t _ o (t_members t _ o is) is
 
@@ -146,12 +177,15 @@ n_left false b2 t w o one two = two
 
 name-after : (item : Item) (me c t : List ℕ) (o : Option Channel) → HasName t o → HasName (unwrap_or (name_said item me c) t) (channel_after item me c o)
 name-after (Welcomed nick) me c t o is = tt
+name-after (Announced tokens) me c t o is = is
 name-after (Joined nick user host d) me c t o is = n_joined (is_same c d) (is_same nick me) t d _ _ o refl (n_mapped t _ (λ ch. refl) o is) is
 name-after (Left nick d) me c t o is = n_left (is_same c d) (is_same nick me) t _ o (n_mapped t _ (λ ch. refl) o is) is
 name-after (Departed nick) me c t o is = n_left true (is_same nick me) t _ o (n_mapped t _ (λ ch. refl) o is) is
 name-after (Renamed old new) me c t o is = n_mapped t _ (λ ch. refl) o is
+name-after (ModesSet channel modes arguments) me c t o is = is
 name-after (Marked d mark set nick) me c t o is = n_same (is_same c d) t _ o (n_mapped t _ (λ ch. refl) o is) is
 name-after (Titled d new) me c t o is = n_same (is_same c d) t _ o (n_mapped t _ (λ ch. refl) o is) is
+name-after (NamesTold channel names) me c t o is = is
 name-after (Listed d one) me c t o is = n_same (is_same c d) t _ o (n_mapped t _ (λ ch. refl) o is) is
 name-after (Addressed d nick user host) me c t o is = n_same (is_same c d) t _ o (n_mapped t _ (λ ch. refl) o is) is
 
@@ -191,12 +225,15 @@ o_renamed old new x (Some m) o = ap is_some (rename_as-some old new x m o) ∙ o
 on-after : (item : Item) (me : List ℕ) (here : Bool) (c x : List ℕ) (look : List ℕ → Option Member) →
     is_some (member_after item me here c look x) ≡ unwrap_or (nick_said item me here c (λ y. is_some (look y)) x) (is_some (look x))
 on-after (Welcomed nick) me here c x look = refl
+on-after (Announced tokens) me here c x look = refl
 on-after (Joined nick user host d) me here c x look = o_joined (is_same c d) (is_same nick me) (is_same x nick) here _ _ (look x)
 on-after (Left nick d) me here c x look = o_gone (is_same c d && (is_same nick me || is_same x nick)) (look x)
 on-after (Departed nick) me here c x look = o_gone (is_same nick me || is_same x nick) (look x)
 on-after (Renamed old new) me here c x look = o_renamed old new x (look old) (look x)
+on-after (ModesSet channel modes arguments) me here c x look = refl
 on-after (Marked d mark set nick) me here c x look = some_same (is_same c d && is_same x nick) (look x) _ (some-map _ (look x))
 on-after (Titled d topic) me here c x look = refl
+on-after (NamesTold channel names) me here c x look = refl
 on-after (Listed d one) me here c x look = o_listed (is_same c d && (here && is_same x one.nick)) _ (look x)
 on-after (Addressed d nick user host) me here c x look = some_same (is_same c d && is_same x nick) (look x) _ (some-map _ (look x))
 
@@ -205,13 +242,16 @@ on-after (Addressed d nick user host) me here c x look = some_same (is_same c d 
 nick_said-same : (item : Item) (me : List ℕ) (here : Bool) (c x : List ℕ) (was now : List ℕ → Bool) → ((y : List ℕ) → was y ≡ now y)
     → nick_said item me here c was x ≡ nick_said item me here c now x
 nick_said-same (Welcomed nick) me here c x was now same = refl
+nick_said-same (Announced tokens) me here c x was now same = refl
 nick_said-same (Joined nick user host d) me here c x was now same = refl
 nick_said-same (Left nick d) me here c x was now same = refl
 nick_said-same (Departed nick) me here c x was now same = refl
 nick_said-same (Renamed old new) me here c x was now same = ap
     (λ b. cond b (cond (is_same x new) (Some true) (cond (is_same x old) (Some false) None)) None) (same old)
+nick_said-same (ModesSet channel modes arguments) me here c x was now same = refl
 nick_said-same (Marked d mark set nick) me here c x was now same = refl
 nick_said-same (Titled d topic) me here c x was now same = refl
+nick_said-same (NamesTold channel names) me here c x was now same = refl
 nick_said-same (Listed d one) me here c x was now same = refl
 nick_said-same (Addressed d nick user host) me here c x was now same = refl
 
@@ -219,6 +259,7 @@ member_said-same : {A : Type 0} (begins : Item → A) (says : Item → Option A)
     (old_values : List ℕ → A) → ((y : List ℕ) → was y ≡ now y) →
     member_said begins says item me c was old_values x ≡ member_said begins says item me c now old_values x
 member_said-same begins says (Welcomed nick) me c x was now vs same = refl
+member_said-same begins says (Announced tokens) me c x was now vs same = refl
 member_said-same begins says (Joined nick user host d) me c x was now vs same =
     ap (λ b. cond (is_same c d && is_same x nick)
     (cond (is_same nick me || not b) (begins (Joined nick user host d)) (unwrap_or (says (Joined nick user host d)) (vs x))) (vs x)) (same x)
@@ -226,8 +267,10 @@ member_said-same begins says (Left nick d) me c x was now vs same = refl
 member_said-same begins says (Departed nick) me c x was now vs same = refl
 member_said-same begins says (Renamed old new) me c x was now vs same = ap
     (λ b. cond (b && is_same x new) (unwrap_or (says (Renamed old new)) (vs old)) (vs x)) (same old)
+member_said-same begins says (ModesSet channel modes arguments) me c x was now vs same = refl
 member_said-same begins says (Marked d mark set nick) me c x was now vs same = refl
 member_said-same begins says (Titled d topic) me c x was now vs same = refl
+member_said-same begins says (NamesTold channel names) me c x was now vs same = refl
 member_said-same begins says (Listed d one) me c x was now vs same =
     ap (λ b. cond (is_same c d && is_same x one.nick) (cond b (unwrap_or (says (Listed d one)) (vs x)) (begins (Listed d one))) (vs x)) (same x)
 member_said-same begins says (Addressed d nick user host) me c x was now vs same = refl
@@ -299,6 +342,7 @@ joined-step item s first past stands =
 agrees-step : (item : Item) (s : ChanState) (first : List ℕ) (past : List Item) → Stands first past s → Agrees first (item ∷ past) (step item s)
 agrees-step item s first past stands = record {
   own_nick = own-step item s ∙ ap (λ nick. unwrap_or (own_said item nick) nick) stands.agrees.own_nick;
+  server = support-step item s ∙ ap (support_said item) stands.agrees.server;
   channels = λ c. ap is_some (channel_in-step item s c stands.names) ∙ (held-after item s.nick c (channel_in c s)
       ∙ (ap (λ me. unwrap_or (channel_said item me c) (is_some (channel_in c s))) stands.agrees.own_nick
       ∙ ap (λ b. unwrap_or (channel_said item (own first past) c) b) (stands.agrees.channels c)));
@@ -339,15 +383,28 @@ stands-step item s first past stands = record {
   agrees = agrees-step item s first past stands;
 }
 
+stands-each : (items : List Item) (s : ChanState) (first : List ℕ) (past : List Item) → Stands first past s
+    → Stands first (before past items) (each_step items s)
+stands-each [] s first past stands = stands
+stands-each (item ∷ more) s first past stands = stands-each more (step item s) first (item ∷ past) (stands-step item s first past stands)
+
+-- an item that is read by what the history says that the server has announced
+stands-read : (item : Item) (s : ChanState) (first : List ℕ) (past : List Item) → Stands first past s
+    → Stands first (before past (read_by (support past) item)) (each_step (read_by s.support item) s)
+stands-read item s first past stands =
+    subst (λ (sup : Support). Stands first (before past (read_by sup item)) (each_step (read_by s.support item) s)) stands.agrees.server
+    (stands-each (read_by s.support item) s first past stands)
+
 stands-steps : (items : List Item) (s : ChanState) (first : List ℕ) (past : List Item) → Stands first past s
-    → Stands first (before past items) (steps items s)
+    → Stands first (before_read past items) (steps items s)
 stands-steps [] s first past stands = stands
-stands-steps (item ∷ more) s first past stands = stands-steps more (step item s) first (item ∷ past) (stands-step item s first past stands)
+stands-steps (item ∷ more) s first past stands =
+    stands-steps more (each_step (read_by s.support item) s) first (before past (read_by (support past) item)) (stands-read item s first past stands)
 
 stands-all : (messages : List Message) (s : ChanState) (first : List ℕ) (past : List Item) → Stands first past s
     → Stands first (history_from past messages) (after_all messages s)
 stands-all [] s first past stands = stands
-stands-all (m ∷ more) s first past stands = stands-all more (after m s) first (before past (items_of m)) (stands-steps (items_of m) s first past stands)
+stands-all (m ∷ more) s first past stands = stands-all more (after m s) first (before_read past (items_of m)) (stands-steps (items_of m) s first past stands)
 
 pub stands-connected : (first : List ℕ) → Stands first [] (connected first)
 stands-connected first = record {
@@ -357,6 +414,7 @@ stands-connected first = record {
   joined = (tt, tt);
   agrees = record {
     own_nick = refl;
+    server = refl;
     channels = λ c. refl;
     names = λ c. tt;
     topics = λ c. tt;

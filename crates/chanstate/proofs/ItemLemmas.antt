@@ -13,7 +13,7 @@ use Rattle.chanstate.specs.Firsts.{first_removed, first_changed}
 use Rattle.chanstate.specs.Members.{is_called, has_member, unmarked, with_mark, with_address, with_marks_of, with_nick, arrived, listed, renamed}
 use Rattle.chanstate.specs.Members.{without_namesake}
 use Rattle.chanstate.specs.Channels.{is_named, opened, with_topic, with_members, on_channel, put_last}
-use Rattle.chanstate.specs.Items.{Item, Welcomed, Joined, Left, Departed, Renamed, Marked, Titled, Listed, Addressed}
+use Rattle.chanstate.specs.Items.{Item, Welcomed, Announced, Joined, Left, Departed, Renamed, ModesSet, Marked, Titled, NamesTold, Listed, Addressed}
 use Rattle.chanstate.specs.Steps.{step}
 use Rattle.chanstate.specs.Views.{channel_in, members_of}
 use Rattle.chanstate.proofs.FindLemmas.{is_same-left, is_same-right, is_same-apart, list_any-find, find-agree, find-changed_other, find-removed_same}
@@ -117,14 +117,17 @@ mark_keeps HalfOp set m = refl
 -- the channel of a name after an item
 abbrev pub channel_after : Item → List ℕ → List ℕ → Option Channel → Option Channel
 channel_after (Welcomed nick) me c o = None
+channel_after (Announced tokens) me c o = o
 channel_after (Joined nick user host d) me c o =
     cond (is_same c d) (cond (is_same nick me) (Some (opened d (unmarked nick user host)))
     (option_map (with_members (arrived (unmarked nick user host))) o)) o
 channel_after (Left nick d) me c o = cond (is_same c d) (cond (is_same nick me) None (option_map (with_members (first_removed (is_called nick))) o)) o
 channel_after (Departed nick) me c o = cond (is_same nick me) None (option_map (with_members (first_removed (is_called nick))) o)
 channel_after (Renamed old new) me c o = option_map (with_members (renamed old new)) o
+channel_after (ModesSet channel modes arguments) me c o = o
 channel_after (Marked d mark set nick) me c o = cond (is_same c d) (option_map (with_members (first_changed (is_called nick) (with_mark mark set))) o) o
 channel_after (Titled d topic) me c o = cond (is_same c d) (option_map (with_topic topic) o) o
+channel_after (NamesTold channel names) me c o = o
 channel_after (Listed d one) me c o = cond (is_same c d) (option_map (with_members (listed one)) o) o
 channel_after (Addressed d nick user host) me c o = cond (is_same c d)
     (option_map (with_members (first_changed (is_called nick) (with_address user host))) o) o
@@ -147,6 +150,7 @@ depart_by c s false xs o is = is
 pub channel_in-step : (item : Item) (s : ChanState) (c : List ℕ) → Distinct name_of s.channels
     → channel_in c (step item s) ≡ channel_after item s.nick c (channel_in c s)
 channel_in-step (Welcomed nick) s c distinct = refl
+channel_in-step (Announced tokens) s c distinct = refl
 channel_in-step (Joined nick user host d) s c distinct =
     choose c s (is_same nick s.nick) (is_same c d) _ _ (channel_in c s) _ _
     (find-put_last name_of c (opened d (unmarked nick user host)) s.channels distinct)
@@ -157,8 +161,10 @@ channel_in-step (Left nick d) s c distinct =
 channel_in-step (Departed nick) s c distinct =
     depart_by c s (is_same nick s.nick) _ _ (find-map (is_named c) (is_named c) (with_members (first_removed (is_called nick))) (λ ch. refl) s.channels)
 channel_in-step (Renamed old new) s c distinct = find-map (is_named c) (is_named c) (with_members (renamed old new)) (λ ch. refl) s.channels
+channel_in-step (ModesSet channel modes arguments) s c distinct = refl
 channel_in-step (Marked d mark set nick) s c distinct = on_channel_is (first_changed (is_called nick) (with_mark mark set)) c d s.channels
 channel_in-step (Titled d topic) s c distinct = find-changed name_of (with_topic topic) (λ ch. refl) c d s.channels
+channel_in-step (NamesTold channel names) s c distinct = refl
 channel_in-step (Listed d one) s c distinct = on_channel_is (listed one) c d s.channels
 channel_in-step (Addressed d nick user host) s c distinct = on_channel_is (first_changed (is_called nick) (with_address user host)) c d s.channels
 
@@ -178,6 +184,7 @@ distinct_on f d chs distinct = distinct-changed name_of (is_named d) (with_membe
 
 pub distinct-step : (item : Item) (s : ChanState) → Distinct name_of s.channels → Distinct name_of (step item s).channels
 distinct-step (Welcomed nick) s distinct = tt
+distinct-step (Announced tokens) s distinct = distinct
 distinct-step (Joined nick user host d) s distinct =
     either DistinctChannels (is_same nick s.nick) _ _ (distinct_put (opened d (unmarked nick user host)) s.channels distinct)
     (distinct_on (arrived (unmarked nick user host)) d s.channels distinct)
@@ -188,8 +195,10 @@ distinct-step (Departed nick) s distinct =
     either DistinctChannels (is_same nick s.nick) (record s { channels = [] }) _ tt
     (distinct-map name_of (with_members (first_removed (is_called nick))) (λ ch. refl) s.channels distinct)
 distinct-step (Renamed old new) s distinct = distinct-map name_of (with_members (renamed old new)) (λ ch. refl) s.channels distinct
+distinct-step (ModesSet channel modes arguments) s distinct = distinct
 distinct-step (Marked d mark set nick) s distinct = distinct_on (first_changed (is_called nick) (with_mark mark set)) d s.channels distinct
 distinct-step (Titled d topic) s distinct = distinct-changed name_of (is_named d) (with_topic topic) (λ ch. refl) s.channels distinct
+distinct-step (NamesTold channel names) s distinct = distinct
 distinct-step (Listed d one) s distinct = distinct_on (listed one) d s.channels distinct
 distinct-step (Addressed d nick user host) s distinct = distinct_on (first_changed (is_called nick) (with_address user host)) d s.channels distinct
 
@@ -210,6 +219,7 @@ distinct_titled topic (Some ch) distinct = distinct
 pub members-after : (item : Item) (me c : List ℕ) (o : Option Channel) → Distinct nick_of_member (members_of o)
     → Distinct nick_of_member (members_of (channel_after item me c o))
 members-after (Welcomed nick) me c o distinct = tt
+members-after (Announced tokens) me c o distinct = distinct
 members-after (Joined nick user host d) me c o distinct =
     either DistinctMembers (is_same c d) _ o
     (either DistinctMembers (is_same nick me) (Some (opened d (unmarked nick user host))) _ (refl, tt)
@@ -224,11 +234,13 @@ members-after (Departed nick) me c o distinct =
     either DistinctMembers (is_same nick me) None _ tt
     (members_by (first_removed (is_called nick)) (distinct-removed nick_of_member (is_called nick)) o distinct)
 members-after (Renamed old new) me c o distinct = members_by (renamed old new) (distinct-renamed_members old new) o distinct
+members-after (ModesSet channel modes arguments) me c o distinct = distinct
 members-after (Marked d mark set nick) me c o distinct =
     either DistinctMembers (is_same c d) _ o
     (members_by (first_changed (is_called nick) (with_mark mark set))
     (distinct-changed nick_of_member (is_called nick) (with_mark mark set) (mark_keeps mark set)) o distinct) distinct
 members-after (Titled d topic) me c o distinct = either DistinctMembers (is_same c d) _ o (distinct_titled topic o distinct) distinct
+members-after (NamesTold channel names) me c o distinct = distinct
 members-after (Listed d one) me c o distinct = either DistinctMembers (is_same c d) _ o (members_by (listed one) (distinct-listed one) o distinct) distinct
 members-after (Addressed d nick user host) me c o distinct =
     either DistinctMembers (is_same c d) _ o
@@ -240,14 +252,17 @@ members-after (Addressed d nick user host) me c o distinct =
 -- the member of a nick after an item, by those before it
 abbrev pub member_after : Item → List ℕ → Bool → List ℕ → (List ℕ → Option Member) → List ℕ → Option Member
 member_after (Welcomed nick) me here c look x = None
+member_after (Announced tokens) me here c look x = look x
 member_after (Joined nick user host d) me here c look x =
     cond (is_same c d) (cond (is_same nick me) (cond (is_same x nick) (Some (unmarked nick user host)) None)
     (cond (here && is_same x nick) (Some (come_as (unmarked nick user host) (with_address user host) (look x))) (look x))) (look x)
 member_after (Left nick d) me here c look x = cond (is_same c d && (is_same nick me || is_same x nick)) None (look x)
 member_after (Departed nick) me here c look x = cond (is_same nick me || is_same x nick) None (look x)
 member_after (Renamed old new) me here c look x = rename_as old new x (look old) (look x)
+member_after (ModesSet channel modes arguments) me here c look x = look x
 member_after (Marked d mark set nick) me here c look x = cond (is_same c d && is_same x nick) (option_map (with_mark mark set) (look x)) (look x)
 member_after (Titled d topic) me here c look x = look x
+member_after (NamesTold channel names) me here c look x = look x
 member_after (Listed d one) me here c look x = cond (is_same c d && (here && is_same x one.nick)) (Some (come_as one (with_marks_of one) (look x))) (look x)
 member_after (Addressed d nick user host) me here c look x = cond (is_same c d && is_same x nick) (option_map (with_address user host) (look x)) (look x)
 
@@ -303,11 +318,14 @@ m_renamed x old new (Some ch) distinct = find-renamed old new x ch.members disti
 pub member-after : (item : Item) (me c x : List ℕ) (o : Option Channel) → Distinct nick_of_member (members_of o) →
     find (is_called x) (members_of (channel_after item me c o)) ≡ member_after item me (is_some o) c (λ y. find (is_called y) (members_of o)) x
 member-after (Welcomed nick) me c x o distinct = refl
+member-after (Announced tokens) me c x o distinct = refl
 member-after (Joined nick user host d) me c x o distinct = m_joined x d (unmarked nick user host) (is_same c d) (is_same nick me) o
 member-after (Left nick d) me c x o distinct = m_left x nick (is_same c d) (is_same nick me) o distinct
 member-after (Departed nick) me c x o distinct = m_left x nick true (is_same nick me) o distinct
 member-after (Renamed old new) me c x o distinct = m_renamed x old new o distinct
+member-after (ModesSet channel modes arguments) me c x o distinct = refl
 member-after (Marked d mark set nick) me c x o distinct = m_changed x nick (with_mark mark set) (mark_keeps mark set) (is_same c d) o
 member-after (Titled d topic) me c x o distinct = m_titled x topic (is_same c d) o
+member-after (NamesTold channel names) me c x o distinct = refl
 member-after (Listed d one) me c x o distinct = m_listed x one (is_same c d) o
 member-after (Addressed d nick user host) me c x o distinct = m_changed x nick (with_address user host) (λ m. refl) (is_same c d) o

@@ -1,19 +1,18 @@
 -- Changes that leave a list as it is, and which names and members a change leaves.
-use Rattle.std.proofs.Common.{◌≡◌, ℕ, ◌<◌, suc, zero, Bool, true, false, cond, not, ◌||◌, ◌&&◌, List, [], ◌∷◌, ◌++◌, length, get_or, map, filter, refl, sym, ap, ◌∙◌}
+use Rattle.std.proofs.Common.{◌≡◌, ℕ, ◌<◌, suc, zero, Bool, true, false, cond, not, ◌||◌, ◌&&◌, List, [], ◌∷◌, length, get_or, map, filter, refl, sym, ap, ◌∙◌}
 use Rattle.std.proofs.Common.{Option, None, Some, arith}
 use Rattle.std.specs.Prelude.{find, is_some}
 use Rattle.std.specs.List.{list_any}
 use Rattle.std.proofs.lemmas.Bool.{cond-true, cond-false}
 use Rattle.chanstate.specs.declared.member.Member.{Member}
 use Rattle.chanstate.specs.declared.channel.Channel.{Channel}
-use Rattle.chanstate.specs.declared.member.Mark.{Mark}
 use Rattle.chanstate.specs.declared.state.ChanState.{ChanState}
 use Rattle.rfccase.specs.Casemapping.{is_same}
 use Rattle.chanstate.specs.Firsts.{first_changed}
 use Rattle.chanstate.specs.Members.{is_called, has_member, with_marks_of, listed, listed_each, shown_each, arrived, unmarked, renamed}
 use Rattle.chanstate.specs.Channels.{is_named, is_held, with_members, on_channel, all_renamed}
 use Rattle.chanstate.specs.Views.{channel_in, member_in, members_of}
-use Rattle.chanstate.specs.Items.{Item, Single, Joined, Left, Listed, Renamed, marking, markings, mark_of}
+use Rattle.chanstate.specs.Items.{Item, Joined, Left, NamesTold, Renamed, names_in}
 use Rattle.chanstate.specs.Steps.{joined, step, steps}
 use Rattle.chanstate.specs.Memory.{adds, any_adds, lacks, readdresses, respells, retitles}
 use Rattle.std.specs.Prelude.{nat_eq}
@@ -168,10 +167,13 @@ named-piece p (y ∷ ys) (suc i) x less at is =
     step true more = omega arith
     step false more = more
 
-pub any_adds-listed : (channel : List ℕ) (names : List Member) (s : ChanState)
-    → any_adds (map (Listed channel) names) s ≡ list_any (λ one. lacks one.nick (channel_in channel s)) names
-any_adds-listed channel [] s = refl
-any_adds-listed channel (one ∷ more) s = ap (λ b. lacks one.nick (channel_in channel s) || b) (any_adds-listed channel more s)
+-- one item alone
+pub any_adds-one : (item : Item) (s : ChanState) → any_adds (item ∷ []) s ≡ adds item s
+any_adds-one item s = by (adds item s)
+  where
+    by : (b : Bool) → (b || false) ≡ b
+    by true = refl
+    by false = refl
 
 -- the bot's joins take memory, if there are any
 pub any_adds-own : (nick user host : List ℕ) (names : List (List ℕ)) (s : ChanState) → is_same nick s.nick ≡ true → 0 < length names
@@ -194,24 +196,17 @@ joins_none nick user host (n ∷ ns) s none =
     let apart = or-parts (is_same nick s.nick) (is_held n s.channels) parts.0 in
     ap (steps (map (Joined nick user host) ns)) (joined-nowhere nick user host n s apart.0 apart.1) ∙ joins_none nick user host ns s parts.1
 
-pub shown_none : (channel : List ℕ) (names : List Member) (s : ChanState) → any_adds (map (Listed channel) names) s ≡ false
-    → on_channel channel (shown_each names) s.channels ≡ on_channel channel (listed_each names) s.channels
+pub shown_none : (channel names : List ℕ) (s : ChanState) → adds (NamesTold channel names) s ≡ false
+    → on_channel channel (shown_each (names_in s.support names)) s.channels ≡ on_channel channel (listed_each (names_in s.support names)) s.channels
 shown_none channel names s none =
-    first_changed-agree (is_named channel) (with_members (shown_each names)) (with_members (listed_each names)) s.channels
-    (λ c found. ap (λ ms. record c { members = ms }) (sym (listed-members names c.members
-    (ap (λ o. list_any (λ one. lacks one.nick o) names) (sym found) ∙ sym (any_adds-listed channel names s) ∙ none))))
+    let ones = names_in s.support names in
+    first_changed-agree (is_named channel) (with_members (shown_each ones)) (with_members (listed_each ones)) s.channels
+    (λ c found. ap (λ ms. record c { members = ms }) (sym (listed-members ones c.members
+    (ap (λ o. list_any (λ one. lacks one.nick o) ones) (sym found) ∙ none))))
 
 pub any_adds-left : (nick : List ℕ) (names : List (List ℕ)) (s : ChanState) → any_adds (map (Left nick) names) s ≡ false
 any_adds-left nick [] s = refl
 any_adds-left nick (n ∷ ns) s = any_adds-left nick ns s
-
-pub any_adds-marks : (channel : List ℕ) (modes : List Single) (s : ChanState) → any_adds (markings channel modes) s ≡ false
-any_adds-marks channel [] s = refl
-any_adds-marks channel (one ∷ more) s = by (mark_of one.letter) (any_adds-marks channel more s)
-  where
-    by : (o : Option Mark) → any_adds (markings channel more) s ≡ false → any_adds (marking channel one.on one.argument o ++ markings channel more) s ≡ false
-    by None rest = rest
-    by (Some mark) rest = rest
 
 pub lacks_none : (names : List Member) → list_any (λ one. lacks one.nick None) names ≡ false
 lacks_none [] = refl

@@ -12,7 +12,7 @@ use Rattle.chanstate.specs.Firsts.{first_removed, first_changed}
 use Rattle.chanstate.specs.Members.{is_called, has_member, unmarked, with_mark, with_address, with_marks_of, with_nick, arrived, listed, renamed}
 use Rattle.chanstate.specs.Members.{without_namesake}
 use Rattle.chanstate.specs.Channels.{is_named, opened, with_topic, with_members, put_last}
-use Rattle.chanstate.specs.Items.{Item, Welcomed, Joined, Left, Departed, Renamed, Marked, Titled, Listed, Addressed}
+use Rattle.chanstate.specs.Items.{Item, Welcomed, Announced, Joined, Left, Departed, Renamed, ModesSet, Marked, Titled, NamesTold, Listed, Addressed}
 use Rattle.chanstate.specs.Steps.{step}
 use Rattle.chanstate.specs.Views.{members_of}
 use Rattle.chanstate.specs.History.{Behind, Rising, member_said, own, on, arrival, joins}
@@ -176,6 +176,9 @@ on_alike_joined b1 b2 here w v p q one two = cc
 pub on-is_same : (first c x y : List ℕ) (past : List Item) → is_same x y ≡ true → on first c past x ≡ on first c past y
 on-is_same first c x y [] is = refl
 on-is_same first c x y (Welcomed nick ∷ past) is = refl
+on-is_same first c x y (Announced tokens ∷ past) is = on-is_same first c x y past is
+on-is_same first c x y (ModesSet channel modes arguments ∷ past) is = on-is_same first c x y past is
+on-is_same first c x y (NamesTold channel names ∷ past) is = on-is_same first c x y past is
 on-is_same first c x y (Joined nick user host d ∷ past) is = let here = is_same-left x y nick is in let before = on-is_same first c x y past is in cc
 on-is_same first c x y (Left nick d ∷ past) is = let here = is_same-left x y nick is in let before = on-is_same first c x y past is in cc
 on-is_same first c x y (Departed nick ∷ past) is = let here = is_same-left x y nick is in let before = on-is_same first c x y past is in cc
@@ -189,6 +192,9 @@ on-is_same first c x y (Addressed d nick user host ∷ past) is = on-is_same fir
 pub arrival-is_same : (first c x y : List ℕ) (past : List Item) → is_same x y ≡ true → arrival first c past x ≡ arrival first c past y
 arrival-is_same first c x y [] is = refl
 arrival-is_same first c x y (Welcomed nick ∷ past) is = arrival-is_same first c x y past is
+arrival-is_same first c x y (Announced tokens ∷ past) is = arrival-is_same first c x y past is
+arrival-is_same first c x y (ModesSet channel modes arguments ∷ past) is = arrival-is_same first c x y past is
+arrival-is_same first c x y (NamesTold channel names ∷ past) is = arrival-is_same first c x y past is
 arrival-is_same first c x y
     (Joined nick user host d ∷ past) is = let here = is_same-left x y nick is in let was = on-is_same first c x y past is in let before =
     arrival-is_same first c x y past is in cc
@@ -345,14 +351,17 @@ pub order-after : (item : Item) (me c : List ℕ) (o : Option Channel) (was : Li
     ((x y : List ℕ) → is_same x y ≡ true → place x ≡ place y) → OrderedMembers n place o →
     OrderedMembers (suc n) (member_said (λ _. n) (λ _. None) item me c was place) (channel_after item me c o)
 order-after (Welcomed nick) me c o was place n distinct on respects ordered = (tt, tt)
+order-after (Announced tokens) me c o was place n distinct on respects ordered = ord_titled [] false place n o ordered
 order-after (Joined nick user host d) me c o was place n distinct on respects ordered =
     ord_joined nick d (unmarked nick user host) (with_address user host) (is_same c d) (is_same nick me) was place n o refl refl on ordered
 order-after (Left nick d) me c o was place n distinct on respects ordered = ord_left nick (is_same c d) (is_same nick me) place n o ordered
 order-after (Departed nick) me c o was place n distinct on respects ordered = ord_left nick true (is_same nick me) place n o ordered
 order-after (Renamed old new) me c o was place n distinct on respects ordered = ord_renamed old new was place n o on respects distinct ordered
+order-after (ModesSet channel modes arguments) me c o was place n distinct on respects ordered = ord_titled [] false place n o ordered
 order-after (Marked d mark set nick) me c o was place n distinct on respects ordered = ord_changed nick (with_mark mark set) (mark_keeps mark set)
     (is_same c d) place n o ordered
 order-after (Titled d topic) me c o was place n distinct on respects ordered = ord_titled topic (is_same c d) place n o ordered
+order-after (NamesTold channel names) me c o was place n distinct on respects ordered = ord_titled [] false place n o ordered
 order-after (Listed d one) me c o was place n distinct on respects ordered = ord_listed one (is_same c d) was place n o on ordered
 order-after (Addressed d nick user host) me c o was place n distinct on respects ordered = ord_changed nick (with_address user host) (λ m. refl)
     (is_same c d) place n o ordered
@@ -405,6 +414,7 @@ pub channels-in-order : (item : Item) (s : ChanState) (place : List ℕ → ℕ)
     → Ordered n (map (on_name place) s.channels) →
     Ordered (suc n) (map (on_name (λ c. cond (joins item s.nick c) n (place c))) (step item s).channels)
 channels-in-order (Welcomed nick) s place n distinct ordered = (tt, tt)
+channels-in-order (Announced tokens) s place n distinct ordered = ordered-more n _ ordered
 channels-in-order (Joined nick user host d) s place n distinct ordered =
     either (InOrder (suc n) (λ c. cond (is_same c d && is_same nick s.nick) n (place c))) (is_same nick s.nick) _ _
     (λ is. opened_last nick s.nick d (opened d (unmarked nick user host)) place n s.channels refl is distinct ordered)
@@ -420,9 +430,11 @@ channels-in-order (Departed nick) s place n distinct ordered =
     (ordered-more n _ ordered))
 channels-in-order (Renamed old new) s place n distinct ordered =
     subst (Ordered (suc n)) (sym (map-map (on_name place) (with_members (renamed old new)) (λ ch. refl) s.channels)) (ordered-more n _ ordered)
+channels-in-order (ModesSet channel modes arguments) s place n distinct ordered = ordered-more n _ ordered
 channels-in-order (Marked d mark set nick) s place n distinct ordered = unjoined place place n _ (is_named d) (λ c. refl) (λ ch. refl) s.channels ordered
 channels-in-order (Titled d topic) s place n distinct ordered = unjoined place place n (with_topic topic) (is_named d) (λ c. refl)
     (λ ch. refl) s.channels ordered
+channels-in-order (NamesTold channel names) s place n distinct ordered = ordered-more n _ ordered
 channels-in-order (Listed d one) s place n distinct ordered = unjoined place place n _ (is_named d) (λ c. refl) (λ ch. refl) s.channels ordered
 channels-in-order (Addressed d nick user host) s place n distinct ordered = unjoined place place n _ (is_named d) (λ c. refl)
     (λ ch. refl) s.channels ordered

@@ -7,7 +7,7 @@ use Rattle.chanstate.specs.declared.member.Mark.{Mark}
 use Rattle.chanstate.specs.declared.member.Mark.TheVariants.{Op, Voice, HalfOp}
 use Rattle.rfccase.specs.Casemapping.{is_same}
 use Rattle.chanstate.specs.Members.{unmarked, with_mark, with_address, with_marks_of, with_nick}
-use Rattle.chanstate.specs.Items.{Item, Welcomed, Joined, Left, Departed, Renamed, Marked, Titled, Listed, Addressed}
+use Rattle.chanstate.specs.Items.{Item, Welcomed, Announced, Joined, Left, Departed, Renamed, ModesSet, Marked, Titled, NamesTold, Listed, Addressed}
 use Rattle.chanstate.specs.History.{topic, member_said, has_mark, mark_begins, mark_says, if_same_mark, user_begins, user_says, host_begins, host_says}
 use Rattle.chanstate.specs.History.{nick_begins, nick_says, before}
 use Rattle.chanstate.proofs.LookLemmas.{come_as, come_as-none, come_as-some, rename_as, rename_as-none, rename_as-some}
@@ -92,6 +92,7 @@ pub known-after : {A : Type 0} (get : Member → A) (begins : Item → A) (says 
     → ((y : List ℕ) → Has get (before y) (look y)) →
     Has get (member_said begins says item me c (λ y. is_some (look y)) before x) (member_after item me here c look x)
 known-after get begins says part (Welcomed nick) me here c x look before away is = tt
+known-after get begins says part (Announced tokens) me here c x look before away is = is x
 known-after get begins says part (Joined nick user host d) me here c x look before away is =
     d_joined get (unmarked nick user host) (with_address user host) (begins (Joined nick user host d)) (says (Joined nick user host d)) (before x)
     (look x) (is_same c d) (is_same nick me) (is_same x nick) here
@@ -101,10 +102,12 @@ known-after get begins says part (Left nick d) me here c x look before away is =
 known-after get begins says part (Departed nick) me here c x look before away is = d_gone get (before x) (look x) (is_same nick me || is_same x nick) (is x)
 known-after get begins says part (Renamed old new) me here c x look before away is =
     d_renamed get old new x (says (Renamed old new)) (before x) (before old) (look old) (look x) (part.renames old new) (is old) (is x)
+known-after get begins says part (ModesSet channel modes arguments) me here c x look before away is = is x
 known-after get begins says part (Marked d mark set nick) me here c x look before away is =
     d_changed get (with_mark mark set) (says (Marked d mark set nick)) (before x) (look x) (is_same c d && is_same x nick) (part.marks d mark set nick)
     (is x)
 known-after get begins says part (Titled d topic) me here c x look before away is = is x
+known-after get begins says part (NamesTold channel names) me here c x look before away is = is x
 known-after get begins says part (Listed d one) me here c x look before away is =
     d_listed get one (with_marks_of one) (begins (Listed d one)) (says (Listed d one)) (before x) (look x) (is_same c d) (is_same x one.nick) here
     (part.lists d one) (part.relists d one) away (is x)

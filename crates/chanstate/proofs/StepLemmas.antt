@@ -13,12 +13,19 @@ use Rattle.chanstate.specs.Firsts.{first_changed}
 use Rattle.chanstate.specs.Members.{listed, listed_each}
 use Rattle.chanstate.specs.Channels.{is_named, with_members, on_channel}
 use Rattle.chanstate.specs.declared.member.Mark.{Mark}
-use Rattle.chanstate.specs.Items.{Item, Listed, Single, marking, markings, mark_of, is_letter, single_at, singles, sign_after, argument_of, arguments_after}
-use Rattle.chanstate.specs.Steps.{step, steps}
+use Rattle.chanstate.specs.declared.support.Support.{Support}
+use Rattle.chanstate.specs.Announced.{is_in}
+use Rattle.chanstate.specs.Items.{Item, Listed, Single, marking, markings, mark_of, rank_of, is_letter, single_at, singles, sign_after, argument_of}
+use Rattle.chanstate.specs.Items.{arguments_after, read_by}
+use Rattle.chanstate.specs.Steps.{step, each_step, steps}
+
+each_step-append : (xs ys : List Item) (s : ChanState) → each_step (xs ++ ys) s ≡ each_step ys (each_step xs s)
+each_step-append [] ys s = refl
+each_step-append (x ∷ xs) ys s = each_step-append xs ys (step x s)
 
 pub steps-append : (xs ys : List Item) (s : ChanState) → steps (xs ++ ys) s ≡ steps ys (steps xs s)
 steps-append [] ys s = refl
-steps-append (x ∷ xs) ys s = steps-append xs ys (step x s)
+steps-append (x ∷ xs) ys s = steps-append xs ys (each_step (read_by s.support x) s)
 
 -- what each of a list stands for, read through a view of it
 pub map-by : {X Y Z : Type 0} (g : Y → Z) (v : X → Y) (xs : List X) → map (λ x. g (v x)) xs ≡ map g (map v xs)
@@ -51,12 +58,12 @@ first_changed-same p f same [] = refl
 first_changed-same p f same (x ∷ xs) = same_by x (f x) xs (first_changed p f xs) (p x) (same x) (first_changed-same p f same xs)
 
 -- the names of a listing, one after the other, are one change of the channel's members
-pub steps-listed : (channel : List ℕ) (names : List Member) (s : ChanState)
-    → steps (map (Listed channel) names) s ≡ record s { channels = on_channel channel (listed_each names) s.channels }
-steps-listed channel [] s = ap (λ cs. record s { channels = cs })
+pub each_step-listed : (channel : List ℕ) (names : List Member) (s : ChanState)
+    → each_step (map (Listed channel) names) s ≡ record s { channels = on_channel channel (listed_each names) s.channels }
+each_step-listed channel [] s = ap (λ cs. record s { channels = cs })
     (sym (first_changed-same (is_named channel) (with_members (listed_each [])) (λ c. refl) s.channels))
-steps-listed channel (one ∷ more) s =
-    steps-listed channel more (step (Listed channel one) s)
+each_step-listed channel (one ∷ more) s =
+    each_step-listed channel more (step (Listed channel one) s)
     ∙ ap (λ cs. record s { channels = cs })
     (first_changed-twice (is_named channel) (with_members (listed one)) (with_members (listed_each more)) (λ c. refl) s.channels)
 
@@ -69,38 +76,49 @@ pieces_more f p xs x s =
 
 -- ---- marks
 
-pub markings-append : (channel : List ℕ) (xs ys : List Single) → markings channel (xs ++ ys) ≡ markings channel xs ++ markings channel ys
-markings-append channel [] ys = refl
-markings-append channel (x ∷ xs) ys =
-    let one = marking channel x.on x.argument (mark_of x.letter) in
-    ap (λ rest. one ++ rest) (markings-append channel xs ys) ∙ sym (append_assoc one (markings channel xs) (markings channel ys))
+pub markings-append : (sup : Support) (channel : List ℕ) (xs ys : List Single)
+    → markings sup channel (xs ++ ys) ≡ markings sup channel xs ++ markings sup channel ys
+markings-append sup channel [] ys = refl
+markings-append sup channel (x ∷ xs) ys =
+    let one = marking channel x.on x.argument (rank_of sup x.letter) in
+    ap (λ rest. one ++ rest) (markings-append sup channel xs ys)
+    ∙ sym (append_assoc one (markings sup channel xs) (markings sup channel ys))
 
 -- one more byte of a mode string
-pub markings_more : (channel : List ℕ) (on : Bool) (string : List ℕ) (i d : ℕ) (arguments : List (List ℕ)) (s next : ChanState) → i < length string
-    → let b = get_or string i d in
-    next ≡ steps (markings channel (option_to_list (single_at on b arguments))) s →
-    steps (markings channel (singles (sign_after on b) (drop (i + 1) string) (arguments_after on b arguments))) next
-    ≡ steps (markings channel (singles on (drop i string) arguments)) s
-markings_more channel on string i d arguments s next less is =
+pub markings_more : (sup : Support) (channel : List ℕ) (on : Bool) (string : List ℕ) (i d : ℕ) (arguments : List (List ℕ)) (s next : ChanState)
+    → i < length string → let b = get_or string i d in
+    next ≡ each_step (markings sup channel (option_to_list (single_at sup on b arguments))) s →
+    each_step (markings sup channel (singles sup (sign_after on b) (drop (i + 1) string) (arguments_after sup on b arguments))) next
+    ≡ each_step (markings sup channel (singles sup on (drop i string) arguments)) s
+markings_more sup channel on string i d arguments s next less is =
     let b = get_or string i d in
-    let one = option_to_list (single_at on b arguments) in
-    let rest = singles (sign_after on b) (drop (i + 1) string) (arguments_after on b arguments) in
-    ap (steps (markings channel rest)) is
-    ∙ (sym (ap (λ items. steps items s) (markings-append channel one rest) ∙ steps-append (markings channel one) (markings channel rest) s)
-    ∙ sym (at_drop_more (λ bs. steps (markings channel (singles on bs arguments)) s) string i d less))
+    let one = option_to_list (single_at sup on b arguments) in
+    let rest = singles sup (sign_after on b) (drop (i + 1) string) (arguments_after sup on b arguments) in
+    ap (each_step (markings sup channel rest)) is
+    ∙ (sym (ap (λ items. each_step items s) (markings-append sup channel one rest)
+    ∙ each_step-append (markings sup channel one) (markings sup channel rest) s)
+    ∙ sym (at_drop_more (λ bs. each_step (markings sup channel (singles sup on bs arguments)) s) string i d less))
 
 -- the single mode of a byte that stands for a mark
-marked_by : (channel : List ℕ) (on : Bool) (b : ℕ) (arguments : List (List ℕ)) (letter : Bool) (o : Option Mark) → mark_of b ≡ o
-    → (letter ≡ false → o ≡ None)
-    → markings channel (option_to_list (cond letter (Some (record { on = on; letter = b; argument = argument_of on b arguments })) None))
-    ≡ marking channel on (argument_of on b arguments) o
-marked_by channel on b arguments true o is sign = ap (λ w. marking channel on (argument_of on b arguments) w ++ []) is
-    ∙ append-nil (marking channel on (argument_of on b arguments) o)
-marked_by channel on b arguments false o is sign = ap (marking channel on (argument_of on b arguments)) (sym (sign refl))
+marked_by : (sup : Support) (channel : List ℕ) (on : Bool) (b : ℕ) (arguments : List (List ℕ)) (letter : Bool) (o : Option Mark)
+    → rank_of sup b ≡ o → (letter ≡ false → o ≡ None)
+    → markings sup channel (option_to_list (cond letter (Some (record { on = on; letter = b; argument = argument_of sup on b arguments })) None))
+    ≡ marking channel on (argument_of sup on b arguments) o
+marked_by sup channel on b arguments true o is sign = ap (λ w. marking channel on (argument_of sup on b arguments) w ++ []) is
+    ∙ append-nil (marking channel on (argument_of sup on b arguments) o)
+marked_by sup channel on b arguments false o is sign = ap (marking channel on (argument_of sup on b arguments)) (sym (sign refl))
 
 sign_marks_none : (b : ℕ) → is_letter b ≡ false → mark_of b ≡ None
 sign_marks_none b sign = grind (arith, nat_tests)
 
-pub marked : (channel : List ℕ) (on : Bool) (b : ℕ) (arguments : List (List ℕ)) (o : Option Mark) → mark_of b ≡ o
-    → markings channel (option_to_list (single_at on b arguments)) ≡ marking channel on (argument_of on b arguments) o
-marked channel on b arguments o is = marked_by channel on b arguments (is_letter b) o is (λ sign. sym is ∙ sign_marks_none b sign)
+sign_ranks_none : (sup : Support) (b : ℕ) → is_letter b ≡ false → rank_of sup b ≡ None
+sign_ranks_none sup b sign = by (is_in b sup.ranks)
+  where
+    by : (ranked : Bool) → cond ranked (mark_of b) None ≡ None
+    by true = sign_marks_none b sign
+    by false = refl
+
+pub marked : (sup : Support) (channel : List ℕ) (on : Bool) (b : ℕ) (arguments : List (List ℕ)) (o : Option Mark) → rank_of sup b ≡ o
+    → markings sup channel (option_to_list (single_at sup on b arguments)) ≡ marking channel on (argument_of sup on b arguments) o
+marked sup channel on b arguments o is =
+    marked_by sup channel on b arguments (is_letter b) o is (λ sign. sym is ∙ sign_ranks_none sup b sign)

@@ -5,6 +5,7 @@ use Rattle.std.specs.Option.{option_to_list}
 use Rattle.std.proofs.lemmas.List.{map-append, at_drop_more}
 use Rattle.std.proofs.lemmas.List.Elements.{filter-append, filter_map-append}
 use Rattle.chanstate.specs.declared.event.Event.{Event}
+use Rattle.chanstate.specs.declared.support.Support.{Support}
 use Rattle.chanstate.specs.Items.{Single, single_at, singles, sign_after, arguments_after}
 
 -- one more piece of a list that is cut into pieces, of which some name a channel that events tell of
@@ -22,15 +23,16 @@ told_more v f g p xs x names old new so_far named more =
     ∙ sym (ap (λ ps. map f (filter_map g (filter p ps))) (map-append v xs (x ∷ [])))
 
 -- one more byte of a mode string: the events so far and those of the bytes that are left are all events still
-pub modes_more : (f : Single → Event) (on : Bool) (string : List ℕ) (i d : ℕ) (arguments : List (List ℕ)) (old new : List Event) → i < length string
+pub modes_more : (sup : Support) (f : Single → Event) (on : Bool) (string : List ℕ) (i d : ℕ) (arguments : List (List ℕ)) (old new : List Event) → i < length string
     → let b = get_or string i d in
-    new ≡ old ++ map f (option_to_list (single_at on b arguments)) →
-    new ++ map f (singles (sign_after on b) (drop (i + 1) string) (arguments_after on b arguments)) ≡ old ++ map f (singles on (drop i string) arguments)
-modes_more f on string i d arguments old new less is =
+    new ≡ old ++ map f (option_to_list (single_at sup on b arguments)) →
+    new ++ map f (singles sup (sign_after on b) (drop (i + 1) string) (arguments_after sup on b arguments))
+    ≡ old ++ map f (singles sup on (drop i string) arguments)
+modes_more sup f on string i d arguments old new less is =
     let b = get_or string i d in
-    let one = option_to_list (single_at on b arguments) in
-    let rest = singles (sign_after on b) (drop (i + 1) string) (arguments_after on b arguments) in
+    let one = option_to_list (single_at sup on b arguments) in
+    let rest = singles sup (sign_after on b) (drop (i + 1) string) (arguments_after sup on b arguments) in
     ap (λ z. z ++ map f rest) is
     ∙ append_assoc old (map f one) (map f rest)
     ∙ ap (λ z. old ++ z) (sym (map-append f one rest))
-    ∙ sym (at_drop_more (λ bs. old ++ map f (singles on bs arguments)) string i d less)
+    ∙ sym (at_drop_more (λ bs. old ++ map f (singles sup on bs arguments)) string i d less)

@@ -7,6 +7,7 @@ use Rattle.std.proofs.lemmas.List.{map-append}
 use Rattle.std.proofs.lemmas.List.Elements.{filter_map-append}
 use Rattle.chanstate.specs.declared.member.Member.{Member}
 use Rattle.chanstate.specs.Firsts.{first_changed}
+use Rattle.chanstate.specs.declared.support.Support.{Support}
 use Rattle.chanstate.specs.Items.{named}
 use Rattle.chanstate.specs.Members.{shown_each, is_called, with_marks_of}
 use denote.Ref.{Bor}
@@ -19,12 +20,13 @@ one_word {Y = Y} h x = by (h x)
     by (Some y) = refl
 
 -- one more word
-pub named_more : (words : List (Bor (List ℕ))) (word : Bor (List ℕ))
-    → filter_map named (map (λ x. x.now) (words ++ word ∷ [])) ≡ filter_map named (map (λ x. x.now) words) ++ option_to_list (named word.now)
-named_more words word =
-    ap (filter_map named) (map-append (λ x. x.now) words (word ∷ []))
-    ∙ filter_map-append named (map (λ x. x.now) words) (word.now ∷ [])
-    ∙ ap (λ ms. filter_map named (map (λ x. x.now) words) ++ ms) (one_word named word.now)
+pub named_more : (sup : Support) (words : List (Bor (List ℕ))) (word : Bor (List ℕ))
+    → filter_map (named sup) (map (λ x. x.now) (words ++ word ∷ []))
+    ≡ filter_map (named sup) (map (λ x. x.now) words) ++ option_to_list (named sup word.now)
+named_more sup words word =
+    ap (filter_map (named sup)) (map-append (λ x. x.now) words (word ∷ []))
+    ∙ filter_map-append (named sup) (map (λ x. x.now) words) (word.now ∷ [])
+    ∙ ap (λ ms. filter_map (named sup) (map (λ x. x.now) words) ++ ms) (one_word (named sup) word.now)
 
 pub shown_each-append : (xs ys ms : List Member) → shown_each (xs ++ ys) ms ≡ shown_each ys (shown_each xs ms)
 shown_each-append [] ys ms = refl

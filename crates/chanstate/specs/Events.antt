@@ -27,6 +27,7 @@ typed_by verb.Kick who ps s = by_anyone who (λ nick address. kicks nick address
 typed_by verb.Mode who ps s = by_anyone who (λ nick address. modes nick address ps s)
 typed_by verb.Topic who ps s = by_anyone who (λ nick address. topics nick address ps s)
 typed_by verb.RplWelcome who ps s = []
+typed_by verb.RplISupport who ps s = []
 typed_by verb.RplTopic who ps s = []
 typed_by verb.RplNoTopic who ps s = []
 typed_by verb.RplNamReply who ps s = []

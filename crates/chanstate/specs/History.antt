@@ -9,7 +9,9 @@ use Rattle.chanstate.specs.declared.member.Mark.TheVariants.{Op, Voice, HalfOp}
 use Rattle.chanstate.specs.declared.state.ChanState.{ChanState}
 use Rattle.ircline.specs.declared.message.Message.{Message}
 use Rattle.rfccase.specs.Casemapping.{is_same}
-use Rattle.chanstate.specs.Items.{Item, Welcomed, Joined, Left, Departed, Renamed, Marked, Titled, Listed, Addressed, items_of}
+use Rattle.chanstate.specs.declared.support.Support.{Support}
+use Rattle.chanstate.specs.Announced.{unannounced, announced}
+use Rattle.chanstate.specs.Items.{Item, Welcomed, Announced, Joined, Left, Departed, Renamed, Marked, Titled, Listed, Addressed, read_by, items_of}
 use Rattle.chanstate.specs.Steps.{after}
 use Rattle.chanstate.specs.Views.{channel_in, members_in, member_in}
 
@@ -22,6 +24,16 @@ own_said item me = None
 abbrev pub own : List ℕ → List Item → List ℕ
 own first [] = first
 own first (item ∷ past) = unwrap_or (own_said item (own first past)) (own first past)
+
+-- what the server has announced since it last welcomed the bot, token by token
+abbrev pub support_said : Item → Support → Support
+support_said (Welcomed nick) was = unannounced
+support_said (Announced tokens) was = announced tokens was
+support_said item was = was
+
+abbrev pub support : List Item → Support
+support [] = unannounced
+support (item ∷ past) = support_said item (support past)
 
 -- whether a channel is held: a join of the bot puts it on, its leaving, its departure and a welcome take it off
 abbrev pub channel_said : Item → List ℕ → List ℕ → Option Bool
@@ -185,6 +197,7 @@ pub record IsAsSaid (first c : List ℕ) (past : List Item) (x : List ℕ) (m : 
 -- the state is as the history says
 pub record Agrees (first : List ℕ) (past : List Item) (s : ChanState) : Type 0 where
   pub own_nick : s.nick ≡ own first past
+  pub server : s.support ≡ support past
   pub channels : (c : List ℕ) → is_some (channel_in c s) ≡ held first c past
   pub names : (c : List ℕ) → IfSome (channel_in c s) (λ channel. channel.name ≡ spelling first c past)
   pub topics : (c : List ℕ) → IfSome (channel_in c s) (λ channel. channel.topic ≡ topic first c past)
@@ -198,10 +211,15 @@ abbrev pub before : List Item → List Item → List Item
 before past [] = past
 before past (item ∷ more) = before (item ∷ past) more
 
+-- the same, where each is read by what the server has announced until then
+abbrev pub before_read : List Item → List Item → List Item
+before_read past [] = past
+before_read past (item ∷ more) = before_read (before past (read_by (support past) item)) more
+
 -- the items of some messages, the newest first
 abbrev pub history_from : List Item → List Message → List Item
 history_from past [] = past
-history_from past (m ∷ more) = history_from (before past (items_of m)) more
+history_from past (m ∷ more) = history_from (before_read past (items_of m)) more
 
 abbrev pub history : List Message → List Item
 history messages = history_from [] messages

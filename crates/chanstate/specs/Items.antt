@@ -1,6 +1,7 @@
 -- What a message says of the bot's channels (RFC 2812 sections 3.1.2, 3.1.3, 3.1.7, 3.2 and 5), one item at a time:
 -- a list of channels, of modes or of names gives an item for each, in its order.
--- A line that lacks a needed parameter says nothing.
+-- A line that lacks a needed parameter says nothing. What mode strings and lists of names say depends on what the server has
+-- announced: so they stand in an item of their own, which is read where it is taken in.
 use Rattle.std.specs.Option.{option_to_list}
 use Rattle.std.specs.Prelude.{ℕ, ◌-◌, unwrap_or, Bool, true, false, ◌||◌, ◌&&◌, not, ◌==◌, List, [], ◌∷◌, ◌++◌, map, filter, drop, take}
 use Rattle.std.specs.Prelude.{length, if◌then◌else◌, codes, find, Option, Some, None, slice_get}
@@ -12,12 +13,16 @@ use Rattle.ircline.specs.Sources.{Source, Person, source_of}
 use Rattle.chanstate.specs.declared.member.Member.{Member}
 use Rattle.chanstate.specs.declared.member.Mark.{Mark}
 use Rattle.chanstate.specs.declared.member.Mark.TheVariants.{Op, Voice, HalfOp}
+use Rattle.chanstate.specs.declared.support.Support.{Support}
+use Rattle.chanstate.specs.Announced.{is_in, is_sign, takes_argument}
 use Rattle.chanstate.specs.declared.verb.Verb.{Verb}
 use Rattle.chanstate.specs.declared.verb.Verb.TheVariants as verb
 
 pub data Item : Type 0 where
   -- the server has welcomed the bot under this nick
   Welcomed : List ℕ → Item
+  -- the server has announced these tokens
+  Announced : List (List ℕ) → Item
   -- the person nick, user, host has joined the channel
   Joined : List ℕ → List ℕ → List ℕ → List ℕ → Item
   -- the nick has left the channel
@@ -26,10 +31,14 @@ pub data Item : Type 0 where
   Departed : List ℕ → Item
   -- the first nick is now the second
   Renamed : List ℕ → List ℕ → Item
+  -- on the channel, the modes of this string are set and cleared, with these arguments
+  ModesSet : List ℕ → List ℕ → List (List ℕ) → Item
   -- on the channel, the mark of the nick is set or cleared
   Marked : List ℕ → Mark → Bool → List ℕ → Item
   -- the channel has this topic
   Titled : List ℕ → List ℕ → Item
+  -- the channel has the members of this list of names
+  NamesTold : List ℕ → List ℕ → Item
   -- the channel has this member, who has these marks at least
   Listed : List ℕ → Member → Item
   -- on the channel, the nick has this user and host
@@ -44,14 +53,11 @@ if_given (Some text) items = items text
 abbrev pub channels_in : List ℕ → List (List ℕ)
 channels_in text = filter is_channel_name (slice_split (λ b. b == 44) text)
 
--- @ % + & ~ stand before a nick in a list of names
-abbrev pub is_sign : ℕ → Bool
-is_sign b = b == 64 || (b == 37 || (b == 43 || (b == 38 || b == 126)))
+-- signs stand before a nick in a list of names
+abbrev pub signs_len : Support → List ℕ → ℕ
+signs_len s word = position_or_len (λ b. not (is_sign s b)) word
 
-abbrev pub signs_len : List ℕ → ℕ
-signs_len word = position_or_len (λ b. not (is_sign b)) word
-
--- a word of such a list: @ is op, % is half-op, + is voice
+-- a word of such a list: @ is op, % is half-op, + is voice, and any other sign is none of these
 abbrev pub shown_by : List ℕ → List ℕ → Member
 shown_by signs nick = record {
   nick = nick;
@@ -65,21 +71,17 @@ shown_by signs nick = record {
 abbrev pub named_by : List ℕ → List ℕ → Option Member
 named_by signs nick = if length nick == 0 then None else Some (shown_by signs nick)
 
-abbrev pub named : List ℕ → Option Member
-named word = named_by (take (signs_len word) word) (drop (signs_len word) word)
+abbrev pub named : Support → List ℕ → Option Member
+named s word = named_by (take (signs_len s word) word) (drop (signs_len s word) word)
 
-abbrev pub names_in : List ℕ → List Member
-names_in text = filter_map named (slice_split (λ b. b == 32) text)
+abbrev pub names_in : Support → List ℕ → List Member
+names_in s text = filter_map (named s) (slice_split (λ b. b == 32) text)
 
 -- one mode of a mode string
 pub record Single : Type 0 where
   pub on : Bool
   pub letter : ℕ
   pub argument : List ℕ
-
--- o v b e I k h have an argument under both signs, l under plus alone, and no other letter has one
-abbrev pub has_argument : Bool → ℕ → Bool
-has_argument on b = b == 111 || (b == 118 || (b == 98 || (b == 101 || (b == 73 || (b == 107 || (b == 104 || (on && b == 108)))))))
 
 -- + and - are signs, and each holds until the next one
 abbrev pub sign_after : Bool → ℕ → Bool
@@ -89,36 +91,47 @@ abbrev pub is_letter : ℕ → Bool
 is_letter b = not (b == 43 || b == 45)
 
 -- the argument of a letter; a missing one is the empty text
-abbrev pub argument_of : Bool → ℕ → List (List ℕ) → List ℕ
-argument_of on b arguments = if has_argument on b then unwrap_or (slice_get arguments 0) [] else []
+abbrev pub argument_of : Support → Bool → ℕ → List (List ℕ) → List ℕ
+argument_of s on b arguments = if takes_argument s on b then unwrap_or (slice_get arguments 0) [] else []
 
-abbrev pub arguments_after : Bool → ℕ → List (List ℕ) → List (List ℕ)
-arguments_after on b arguments = if is_letter b && has_argument on b then drop 1 arguments else arguments
+abbrev pub arguments_after : Support → Bool → ℕ → List (List ℕ) → List (List ℕ)
+arguments_after s on b arguments = if is_letter b && takes_argument s on b then drop 1 arguments else arguments
 
 -- the single mode of a byte, which is none for a sign
-abbrev pub single_at : Bool → ℕ → List (List ℕ) → Option Single
-single_at on b arguments = if is_letter b then Some (record { on = on; letter = b; argument = argument_of on b arguments }) else None
+abbrev pub single_at : Support → Bool → ℕ → List (List ℕ) → Option Single
+single_at s on b arguments = if is_letter b then Some (record { on = on; letter = b; argument = argument_of s on b arguments }) else None
 
 -- the single modes of a mode string; the sign is plus at first
-abbrev pub singles : Bool → List ℕ → List (List ℕ) → List Single
-singles on [] arguments = []
-singles on (b ∷ bs) arguments = option_to_list (single_at on b arguments) ++ singles (sign_after on b) bs (arguments_after on b arguments)
+abbrev pub singles : Support → Bool → List ℕ → List (List ℕ) → List Single
+singles s on [] arguments = []
+singles s on (b ∷ bs) arguments =
+    option_to_list (single_at s on b arguments) ++ singles s (sign_after on b) bs (arguments_after s on b arguments)
 
--- o v h set or clear a mark
+-- o v h set or clear a mark, where they are modes that mark a member
 abbrev pub mark_of : ℕ → Option Mark
 mark_of b = if b == 111 then Some Op else (if b == 118 then Some Voice else (if b == 104 then Some HalfOp else None))
+
+abbrev pub rank_of : Support → ℕ → Option Mark
+rank_of s b = if is_in b s.ranks then mark_of b else None
 
 abbrev pub marking : List ℕ → Bool → List ℕ → Option Mark → List Item
 marking channel on nick None = []
 marking channel on nick (Some mark) = Marked channel mark on nick ∷ []
 
-abbrev pub markings : List ℕ → List Single → List Item
-markings channel [] = []
-markings channel (one ∷ more) = marking channel one.on one.argument (mark_of one.letter) ++ markings channel more
+abbrev pub markings : Support → List ℕ → List Single → List Item
+markings s channel [] = []
+markings s channel (one ∷ more) = marking channel one.on one.argument (rank_of s one.letter) ++ markings s channel more
+
+-- the items that an item stands for, by what the server has announced
+abbrev pub read_by : Support → Item → List Item
+read_by s (ModesSet channel modes arguments) = markings s channel (singles s true modes arguments)
+read_by s (NamesTold channel names) = map (Listed channel) (names_in s names)
+read_by s item = item ∷ []
 
 -- the command of a message, as far as channels and events are concerned
 abbrev pub word_of : Verb → List ℕ
 word_of verb.RplWelcome = codes "001"
+word_of verb.RplISupport = codes "005"
 word_of verb.Join = codes "JOIN"
 word_of verb.Part = codes "PART"
 word_of verb.Kick = codes "KICK"
@@ -137,6 +150,7 @@ word_of verb.Other = []
 abbrev pub all_verbs : List Verb
 all_verbs =
     verb.RplWelcome ∷
+    verb.RplISupport ∷
     verb.Join ∷
     verb.Part ∷
     verb.Kick ∷
@@ -158,6 +172,10 @@ verb_of command = unwrap_or (find (λ verb. bytes_eq (word_of verb) command) all
 -- 001: the first parameter is the bot's nick
 abbrev pub rpl_welcome_items : List (List ℕ) → List Item
 rpl_welcome_items ps = if_given (slice_get ps 0) (λ nick. Welcomed nick ∷ [])
+
+-- 005: each parameter after the nick is a token
+abbrev pub rpl_isupport_items : List (List ℕ) → List Item
+rpl_isupport_items ps = Announced (drop 1 ps) ∷ []
 
 -- JOIN and PART of a person
 abbrev pub join_items : Source → List (List ℕ) → List Item
@@ -183,7 +201,7 @@ nick_items who ps = []
 
 -- MODE of a channel, by anyone
 abbrev pub mode_items : List (List ℕ) → List Item
-mode_items ps = if_given (slice_get ps 0) (λ channel. if_given (slice_get ps 1) (λ modes. markings channel (singles true modes (drop 2 ps))))
+mode_items ps = if_given (slice_get ps 0) (λ channel. if_given (slice_get ps 1) (λ modes. ModesSet channel modes (drop 2 ps) ∷ []))
 
 abbrev pub last_of : List (List ℕ) → Option (List ℕ)
 last_of ps = slice_get ps (length ps - 1)
@@ -200,7 +218,7 @@ rpl_no_topic_items ps = if_given (slice_get ps 1) (λ channel. Titled channel []
 
 -- 353: the third parameter is the channel, the fourth the names
 abbrev pub rpl_nam_reply_items : List (List ℕ) → List Item
-rpl_nam_reply_items ps = if_given (slice_get ps 2) (λ channel. if_given (slice_get ps 3) (λ names. map (Listed channel) (names_in names)))
+rpl_nam_reply_items ps = if_given (slice_get ps 2) (λ channel. if_given (slice_get ps 3) (λ names. NamesTold channel names ∷ []))
 
 -- 352: the second, third, fourth and sixth are channel, user, host and nick
 abbrev pub rpl_who_reply_items : List (List ℕ) → List Item
@@ -211,6 +229,7 @@ rpl_who_reply_items ps =
 
 abbrev pub items_by : Verb → Source → List (List ℕ) → List Item
 items_by verb.RplWelcome who ps = rpl_welcome_items ps
+items_by verb.RplISupport who ps = rpl_isupport_items ps
 items_by verb.Join who ps = join_items who ps
 items_by verb.Part who ps = part_items who ps
 items_by verb.Kick who ps = kick_items ps

@@ -1,6 +1,7 @@
 pub mod Firsts
 pub mod Members
 pub mod Channels
+pub mod Announced
 pub mod Items
 pub mod Steps
 pub mod Seen

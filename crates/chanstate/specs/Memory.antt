@@ -10,7 +10,8 @@ use Rattle.rfccase.specs.Casemapping.{is_same}
 use Rattle.chanstate.specs.Members.{is_called, has_member}
 use Rattle.chanstate.specs.Channels.{is_held}
 use Rattle.chanstate.specs.Views.{channel_in, member_in}
-use Rattle.chanstate.specs.Items.{Item, Welcomed, Joined, Left, Departed, Renamed, Marked, Titled, Listed, Addressed, items_of}
+use Rattle.chanstate.specs.Items.{Item, Welcomed, Announced, Joined, Left, Departed, Renamed, ModesSet, Marked, Titled, NamesTold, Listed, Addressed}
+use Rattle.chanstate.specs.Items.{names_in, items_of}
 
 -- whether the channel is held, and nobody there has this nick
 abbrev pub lacks : List ℕ → Option Channel → Bool
@@ -35,12 +36,15 @@ respells nick (Some m) = not (pointwise nat_eq m.nick nick)
 -- whether an item concerns a held channel or the bot's own nick, and brings a text that has to be kept
 abbrev pub adds : Item → ChanState → Bool
 adds (Welcomed nick) s = true
+adds (Announced tokens) s = false
 adds (Joined nick user host channel) s = is_same nick s.nick || is_held channel s.channels
 adds (Left nick channel) s = false
 adds (Departed nick) s = false
 adds (Renamed old new) s = (is_same old s.nick && not (pointwise nat_eq s.nick new)) || list_any (λ c. respells new (find (is_called old) c.members)) s.channels
+adds (ModesSet channel modes arguments) s = false
 adds (Marked channel mark on nick) s = false
 adds (Titled channel topic) s = retitles topic (channel_in channel s)
+adds (NamesTold channel names) s = list_any (λ one. lacks one.nick (channel_in channel s)) (names_in s.support names)
 adds (Listed channel one) s = lacks one.nick (channel_in channel s)
 adds (Addressed channel nick user host) s = readdresses user host (member_in channel nick s)
 

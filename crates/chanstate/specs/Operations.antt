@@ -33,7 +33,7 @@ abbrev pub modes : List ℕ → List ℕ → List (List ℕ) → ChanState → L
 modes nick address ps s =
     when_given (slice_get ps 0)
     (λ name. when_given (slice_get ps 1)
-    (λ letters. when_held (channel_in name s) (λ channel. map (mode_on nick address channel) (singles true letters (drop 2 ps)))))
+    (λ letters. when_held (channel_in name s) (λ channel. map (mode_on nick address channel) (singles s.support true letters (drop 2 ps)))))
 
 -- TOPIC, with the topic, which is the last parameter
 abbrev pub topics : List ℕ → List ℕ → List (List ℕ) → ChanState → List Event

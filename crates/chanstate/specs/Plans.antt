@@ -21,7 +21,7 @@ settled done (Welcome nick) s = if done then step (Welcomed nick) s else s
 settled done (Title channel topic) s = if done then step (Titled channel topic) s else s
 settled done (Address channel nick user host) s = if done then step (Addressed channel nick user host) s else s
 settled done (Open o) s = record s { channels = if done then o.1 else o.0 }
-settled done (Seat own takes) s = record {
+settled done (Seat own takes) s = record s {
   nick = if done then unwrap_or own s.nick else s.nick;
   channels = given done takes.items s.channels;
 }

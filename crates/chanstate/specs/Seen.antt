@@ -1,9 +1,9 @@
 -- What contracts see of a message, borrowed part by part.
-use Rattle.std.specs.Prelude.{ℕ, List, [], ◌∷◌, map, true}
+use Rattle.std.specs.Prelude.{ℕ, List, [], ◌∷◌, map}
 use Rattle.ircline.specs.declared.person.Person.{Person}
 use Rattle.chanstate.specs.declared.change.Change.{Change}
 use Rattle.chanstate.specs.declared.change.Change.TheVariants as change
-use Rattle.chanstate.specs.Items.{Item, Welcomed, Joined, Left, Departed, Renamed, Titled, Listed, Addressed, channels_in, names_in, markings, singles}
+use Rattle.chanstate.specs.Items.{Item, Welcomed, Announced, Joined, Left, Departed, Renamed, ModesSet, Titled, NamesTold, Addressed, channels_in}
 
 -- the joins of a person, as a list of channels names them
 abbrev pub joins_in : Person → List ℕ → List Item
@@ -13,12 +13,13 @@ joins_in person list = map (Joined person.nick.now person.user.now person.host.n
 abbrev pub items_seen : Change → List Item
 items_seen change.Nothing = []
 items_seen (change.Welcome nick) = Welcomed nick.now ∷ []
+items_seen (change.Announce tokens) = Announced tokens.now ∷ []
 items_seen (change.Join person list) = joins_in person list.now
 items_seen (change.Part nick list) = map (Left nick.now) (channels_in list.now)
 items_seen (change.Kick channel target) = Left target.now channel.now ∷ []
 items_seen (change.Quit nick) = Departed nick.now ∷ []
 items_seen (change.Nick old new) = Renamed old.now new.now ∷ []
-items_seen (change.Mode channel modes arguments) = markings channel.now (singles true modes.now arguments.now)
+items_seen (change.Mode channel modes arguments) = ModesSet channel.now modes.now arguments.now ∷ []
 items_seen (change.Topic channel topic) = Titled channel.now topic.now ∷ []
-items_seen (change.Names channel names) = map (Listed channel.now) (names_in names.now)
+items_seen (change.Names channel names) = NamesTold channel.now names.now ∷ []
 items_seen (change.Address channel user host nick) = Addressed channel.now nick.now user.now host.now ∷ []

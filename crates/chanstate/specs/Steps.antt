@@ -6,7 +6,9 @@ use Rattle.rfccase.specs.Casemapping.{is_same}
 use Rattle.chanstate.specs.Firsts.{first_removed, first_changed}
 use Rattle.chanstate.specs.Members.{is_called, unmarked, with_mark, with_address, arrived, listed}
 use Rattle.chanstate.specs.Channels.{is_named, opened, with_topic, on_channel, put_last, all_without, all_renamed}
-use Rattle.chanstate.specs.Items.{Item, Welcomed, Joined, Left, Departed, Renamed, Marked, Titled, Listed, Addressed, items_of}
+use Rattle.chanstate.specs.Announced.{unannounced, announced}
+use Rattle.chanstate.specs.Items.{Item, Welcomed, Announced, Joined, Left, Departed, Renamed, ModesSet, Marked, Titled, NamesTold, Listed, Addressed}
+use Rattle.chanstate.specs.Items.{read_by, items_of}
 
 -- a person joins a channel: for the bot the channel is put last anew
 abbrev pub joined : List ℕ → List ℕ → List ℕ → List ℕ → ChanState → ChanState
@@ -26,22 +28,29 @@ left nick channel s =
 abbrev pub departed : List ℕ → ChanState → ChanState
 departed nick s = if is_same nick s.nick then record s { channels = [] } else record s { channels = all_without nick s.channels }
 
--- the state after one item
+-- the state after one item that stands for itself; one that stands for others changes nothing by itself
 abbrev pub step : Item → ChanState → ChanState
-step (Welcomed nick) s = record { nick = nick; channels = [] }
+step (Welcomed nick) s = record { nick = nick; channels = []; support = unannounced }
+step (Announced tokens) s = record s { support = announced tokens s.support }
 step (Joined nick user host channel) s = joined nick user host channel s
 step (Left nick channel) s = left nick channel s
 step (Departed nick) s = departed nick s
-step (Renamed old new) s = record { nick = if is_same old s.nick then new else s.nick; channels = all_renamed old new s.channels }
+step (Renamed old new) s = record s { nick = if is_same old s.nick then new else s.nick; channels = all_renamed old new s.channels }
+step (ModesSet channel modes arguments) s = s
 step (Marked channel mark on nick) s = record s { channels = on_channel channel (first_changed (is_called nick) (with_mark mark on)) s.channels }
 step (Titled channel topic) s = record s { channels = first_changed (is_named channel) (with_topic topic) s.channels }
+step (NamesTold channel names) s = s
 step (Listed channel one) s = record s { channels = on_channel channel (listed one) s.channels }
 step (Addressed channel nick user host) s = record s { channels = on_channel channel (first_changed (is_called nick) (with_address user host)) s.channels }
 
--- the state after some items, in their order
+abbrev pub each_step : List Item → ChanState → ChanState
+each_step [] s = s
+each_step (item ∷ more) s = each_step more (step item s)
+
+-- the state after some items, in their order: each is read by what the server has announced until then
 abbrev pub steps : List Item → ChanState → ChanState
 steps [] s = s
-steps (item ∷ more) s = steps more (step item s)
+steps (item ∷ more) s = steps more (each_step (read_by s.support item) s)
 
 -- the state after a message
 abbrev pub after : Message → ChanState → ChanState

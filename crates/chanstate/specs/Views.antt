@@ -1,21 +1,27 @@
 -- What a bot may ask of its channels.
 use Rattle.std.specs.Prelude.{ℕ, Bool, false, Option, None, Some, List, [], map, filter, find}
 use Rattle.std.specs.Option.{option_map}
+use Rattle.std.specs.List.{slice_get}
 use Rattle.chanstate.specs.declared.member.Member.{Member}
 use Rattle.chanstate.specs.declared.channel.Channel.{Channel}
 use Rattle.chanstate.specs.declared.state.ChanState.{ChanState}
 use Rattle.chanstate.specs.Members.{is_called, has_member}
 use Rattle.chanstate.specs.Channels.{is_named}
+use Rattle.chanstate.specs.Announced.{unannounced}
 
--- no channel is held yet
+-- no channel is held yet, and the server has announced nothing
 abbrev pub connected : List ℕ → ChanState
-connected nick = record { nick = nick; channels = [] }
+connected nick = record { nick = nick; channels = []; support = unannounced }
 
 -- the channel of this name, if it is held
 abbrev pub channel_in : List ℕ → ChanState → Option Channel
 channel_in name s = find (is_named name) s.channels
 
--- its topic
+-- the name of the channel at a place, in the order in which the bot joined them
+abbrev pub channel_at : ℕ → ChanState → Option (List ℕ)
+channel_at place s = option_map (λ channel. channel.name) (slice_get s.channels place)
+
+-- the topic of the channel of this name
 abbrev pub topic_in : List ℕ → ChanState → Option (List ℕ)
 topic_in name s = option_map (λ channel. channel.topic) (channel_in name s)
 
@@ -35,6 +41,11 @@ member_in name nick s = find (is_called nick) (members_in name s)
 abbrev pub is_op : Option Member → Bool
 is_op None = false
 is_op (Some member) = member.op
+
+-- whether that member has voice
+abbrev pub is_voice : Option Member → Bool
+is_voice None = false
+is_voice (Some member) = member.voice
 
 -- the names of the channels that have a member of this nick, in the order in which the bot joined them
 abbrev pub channels_with : List ℕ → ChanState → List (List ℕ)

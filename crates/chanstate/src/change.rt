@@ -17,6 +17,7 @@ pub enum Change<'a> {
     // Nothing that concerns channels.
     Nothing,
     Welcome(&'a [u8]),
+    Announce(&'a [Text]),
     Join {
         person: Person<'a>,
         list: &'a [u8],
@@ -222,6 +223,7 @@ pub fn change_of(message: &Message) -> Change<'_>
     let params = message.params.as_slice();
     match read_verb(message.command.as_bytes()) {
         Verb::RplWelcome => rpl_welcome(params),
+        Verb::RplISupport => Change::Announce(params_from(params, 1)),
         Verb::Join => join(from, params),
         Verb::Part => part(from, params),
         Verb::Kick => kick(params),

@@ -16,6 +16,7 @@ use crate::member::{Mark, Member};
 use crate::names::is_same;
 use crate::plan::Opening;
 use crate::roster::Roster;
+use crate::support::Support;
 use crate::take::Take;
 use crate::task::Task;
 use bytetext::{NoMemory, Text, TryCopy, copies_of};
@@ -97,27 +98,32 @@ impl Channels {
     }
 
     // The place of the channel of this name, if it lacks one of those whom a list of names names.
-    pub(crate) fn place_lacking(&self, name: &[u8], names: &[u8]) -> Option<usize>
+    pub(crate) fn place_lacking(
+        &self,
+        support: &Support,
+        name: &[u8],
+        names: &[u8],
+    ) -> Option<usize>
         ensures some { IfSome result (λ at. position (is_named name.now) self.now ≡ Some at) }
-        ensures lacking { is_some result ≡ list_any (λ one. lacks one.nick (find (is_named name.now) self.now)) (names_in names.now) }
+        ensures lacking { is_some result ≡ list_any (λ one. lacks one.nick (find (is_named name.now) self.now)) (names_in support.now names.now) }
     {
         let Some(at) = self.place(name) else {
             return None;
         };
         let channel = &self.items[at];
-        if !channel.members.lacks_any(names) {
+        if !channel.members.lacks_any(support, names) {
             return None;
         }
         Some(at)
     }
 
     // Those members of a channel whom a list of names names are listed.
-    pub(crate) fn show(&mut self, alloc: Global, name: &[u8], names: &[u8])
-        ensures { self.new ≡ on_channel name.now (shown_each (names_in names.now)) self.old }
+    pub(crate) fn show(&mut self, alloc: Global, support: &Support, name: &[u8], names: &[u8])
+        ensures { self.new ≡ on_channel name.now (shown_each (names_in support.now names.now)) self.old }
     {
         if let Some(at) = self.place(name) {
             let channel = &mut self.items[at];
-            channel.members.show_all(alloc, names);
+            channel.members.show_all(alloc, support, names);
         }
     }
 

@@ -9,6 +9,10 @@
 //! channel that it concerns (for QUIT and NICK on every held channel), however many are there, also for those who come
 //! again. All seats of a channel are gone through only where room for more is made, which is then for as many again.
 //!
+//! Which modes have an argument, and which signs stand before a nick in a list of names, is as the server announces it
+//! (RPL_ISUPPORT, numeric 005, its tokens PREFIX and CHANMODES), and until then as RFC 2812 says. The state keeps that
+//! in tables of a fixed size; a welcome forgets it.
+//!
 //! `apply` either takes a message in whole or leaves the state as it was. Who has other growths to make for a message calls
 //! its two halves: [`ChanState::ready`] makes all room that the message needs, or is refused, and then [`Update::commit`]
 //! takes it in without memory, or [`Update::cancel`] gives it up where another growth was refused.
@@ -25,6 +29,7 @@
 //! let mut state = ChanState::new(alloc, b"Egg")?;
 //! state.apply(alloc, &message)?;                 // :Egg!e@h JOIN #a
 //! state.members(alloc, b"#A")?.len()             // 1
+//! state.is_op(b"#a", b"egg")                     // false; takes no memory, as `member`, `is_on` and `is_voice`
 //! events(alloc, &message, &state)?               // :a!b@c PRIVMSG egg :hi you gives raw, msgm and msg
 //!
 //! let update = state.ready(alloc, &message)?;    // all that the message takes
@@ -47,6 +52,7 @@ mod event;
 mod history;
 mod joins;
 mod leavings;
+mod letters;
 mod listings;
 mod marks;
 mod meaning;
@@ -63,6 +69,7 @@ mod seating;
 mod seats;
 mod speech;
 mod state;
+mod support;
 mod take;
 mod task;
 mod topics;

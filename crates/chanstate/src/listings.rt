@@ -1,6 +1,6 @@
 // The names of a channel are listed (RFC 2812 section 3.2.5, reply 353).
-ghost use Rattle.std.specs.Prelude.{◌≡◌, true, OnErr, MatchResult, map};
-ghost use Rattle.chanstate.specs.Items.{Listed, names_in};
+ghost use Rattle.std.specs.Prelude.{◌≡◌, ◌∷◌, [], true, OnErr, MatchResult};
+ghost use Rattle.chanstate.specs.Items.{NamesTold};
 ghost use Rattle.chanstate.specs.Memory.{any_adds};
 ghost use Rattle.chanstate.specs.Plans.{IsPlanFor};
 
@@ -19,14 +19,13 @@ impl ChanState {
         channel: &[u8],
         names: &[u8],
     ) -> Result<Plan, NoMemory>
-        ensures memory { OnErr result (any_adds (map (Listed channel.now) (names_in names.now)) self.old ≡ true) }
-        ensures ready { MatchResult result (λ plan. IsPlanFor (map (Listed channel.now) (names_in names.now)) plan self.new self.old)
-            (λ _. self.new ≡ self.old) }
+        ensures memory { OnErr result (any_adds (NamesTold channel.now names.now ∷ []) self.old ≡ true) }
+        ensures ready { MatchResult result (λ plan. IsPlanFor (NamesTold channel.now names.now ∷ []) plan self.new self.old) (λ _. self.new ≡ self.old) }
     {
-        let Some(at) = self.channels.place_lacking(channel, names) else {
+        let Some(at) = self.channels.place_lacking(&self.support, channel, names) else {
             return Ok(Plan::Plain);
         };
-        let ones = named_by(alloc, names)?;
+        let ones = named_by(alloc, &self.support, names)?;
         let mut takes = Vec::new(alloc);
         self.channels.take(alloc, at, Task::List(ones), &mut takes)?;
         Ok(Plan::Seat { own: None, takes })

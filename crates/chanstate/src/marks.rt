@@ -1,33 +1,35 @@
 // Marks are set and cleared (RFC 2812 section 3.2.3).
-ghost use Rattle.std.specs.Prelude.{◌≡◌, true};
+ghost use Rattle.std.specs.Prelude.{◌≡◌, ◌∷◌, [], true};
 ghost use Rattle.std.specs.Option.{option_to_list};
-ghost use Rattle.chanstate.specs.Items.{markings, single_at, singles};
-ghost use Rattle.chanstate.specs.Steps.{steps};
+ghost use Rattle.chanstate.specs.Items.{ModesSet, markings, single_at};
+ghost use Rattle.chanstate.specs.Steps.{each_step, steps};
 
-use crate::modes::{argument, mark_by, next_arguments, next_sign};
+use crate::modes::{argument, mark_in, next_arguments, next_sign};
 use crate::state::ChanState;
 use bytetext::Text;
 
 impl ChanState {
     // A byte of a mode string sets or clears a mark of a member, if it is about one.
     fn mark(&mut self, channel: &[u8], on: bool, byte: u8, arguments: &[Text])
-        ensures { self.new ≡ steps (markings channel.now (option_to_list (single_at on byte arguments.now))) self.old }
+        ensures marked { self.new ≡ each_step (markings self.old.support channel.now
+            (option_to_list (single_at self.old.support on byte arguments.now))) self.old }
+        ensures support { self.new.support ≡ self.old.support }
     {
-        if let Some(mark) = mark_by(byte) {
-            self.channels
-                .mark(channel, argument(on, byte, arguments), mark, on);
+        if let Some(mark) = mark_in(&self.support, byte) {
+            let nick = argument(&self.support, on, byte, arguments);
+            self.channels.mark(channel, nick, mark, on);
         }
     }
 
     // The modes of a channel change, in the order of their letters.
     pub(crate) fn mode(&mut self, channel: &[u8], string: &[u8], arguments: &[Text])
-        ensures { self.new ≡ steps (markings channel.now (singles true string.now arguments.now)) self.old }
+        ensures { self.new ≡ steps (ModesSet channel.now string.now arguments.now ∷ []) self.old }
     {
         let mut on = true;
         let mut rest = arguments;
         for byte in string {
             self.mark(channel, on, *byte, rest);
-            rest = next_arguments(on, *byte, rest);
+            rest = next_arguments(&self.support, on, *byte, rest);
             on = next_sign(on, *byte);
         }
     }

@@ -67,6 +67,7 @@ fn by_server(
             Ok(Vec::new(alloc))
         }
         Verb::RplWelcome
+        | Verb::RplISupport
         | Verb::RplTopic
         | Verb::RplNoTopic
         | Verb::RplNamReply
@@ -102,6 +103,7 @@ fn by_person(
         Verb::Mode => mode(alloc, by, params, state),
         Verb::Topic => title(alloc, by, params, state),
         Verb::RplWelcome
+        | Verb::RplISupport
         | Verb::RplTopic
         | Verb::RplNoTopic
         | Verb::RplNamReply

@@ -1,13 +1,14 @@
 // Mode strings (RFC 2812 sections 3.1.5 and 3.2.3).
 ghost use Rattle.std.specs.Prelude.{◌≡◌};
-ghost use Rattle.chanstate.specs.Items.{has_argument, sign_after, is_letter, argument_of, arguments_after, mark_of};
+ghost use Rattle.chanstate.specs.Items.{sign_after, is_letter, argument_of, arguments_after, mark_of, rank_of};
 
 use crate::member::Mark;
+use crate::support::Support;
 use crate::words::{param, params_from};
 use bytetext::Text;
 
-/// The mark that a letter stands for.
-pub fn mark_by(letter: u8) -> Option<Mark>
+// The mark that a letter stands for where it marks members.
+fn mark_by(letter: u8) -> Option<Mark>
     ensures { result ≡ mark_of letter }
 {
     match letter {
@@ -18,13 +19,14 @@ pub fn mark_by(letter: u8) -> Option<Mark>
     }
 }
 
-fn takes_argument(on: bool, letter: u8) -> bool
-    ensures { result ≡ has_argument on letter }
+/// The mark that a mode sets or clears.
+pub fn mark_in(support: &Support, letter: u8) -> Option<Mark>
+    ensures { result ≡ rank_of support.now letter }
 {
-    match letter {
-        b'o' | b'v' | b'b' | b'e' | b'I' | b'k' | b'h' => true,
-        b'l' => on,
-        _ => false,
+    if support.is_rank(letter) {
+        mark_by(letter)
+    } else {
+        None
     }
 }
 
@@ -47,10 +49,10 @@ pub fn next_sign(on: bool, byte: u8) -> bool
 }
 
 /// The argument of a letter, empty where it has none.
-pub fn argument<'a>(on: bool, letter: u8, arguments: &'a [Text]) -> &'a [u8]
-    ensures { result.now ≡ argument_of on letter arguments.now }
+pub fn argument<'a>(support: &Support, on: bool, letter: u8, arguments: &'a [Text]) -> &'a [u8]
+    ensures { result.now ≡ argument_of support.now on letter arguments.now }
 {
-    if takes_argument(on, letter) {
+    if support.takes_argument(on, letter) {
         param(arguments, 0).unwrap_or(b"")
     } else {
         b""
@@ -58,10 +60,15 @@ pub fn argument<'a>(on: bool, letter: u8, arguments: &'a [Text]) -> &'a [u8]
 }
 
 /// The arguments that are left after this byte.
-pub fn next_arguments<'a>(on: bool, byte: u8, arguments: &'a [Text]) -> &'a [Text]
-    ensures { result.now ≡ arguments_after on byte arguments.now }
+pub fn next_arguments<'a>(
+    support: &Support,
+    on: bool,
+    byte: u8,
+    arguments: &'a [Text],
+) -> &'a [Text]
+    ensures { result.now ≡ arguments_after support.now on byte arguments.now }
 {
-    if is_mode(byte) && takes_argument(on, byte) {
+    if is_mode(byte) && support.takes_argument(on, byte) {
         params_from(arguments, 1)
     } else {
         arguments

@@ -11,19 +11,24 @@ ghost use Rattle.chanstate.specs.Members.{listed, listed_each};
 use crate::edit::Edit;
 use crate::member::Member;
 use crate::seats::{Seats, edit_at, place_of, seat_last};
+use crate::support::Support;
 use crate::words::named_member;
 use bytetext::NoMemory;
 use rfccase::fold_text;
 use std::alloc::Global;
 
 // Those whom a list of names names, each with its key, in their order.
-pub(crate) fn named_by(alloc: Global, names: &[u8]) -> Result<Vec<(Vec<u8>, Member)>, NoMemory>
+pub(crate) fn named_by(
+    alloc: Global,
+    support: &Support,
+    names: &[u8],
+) -> Result<Vec<(Vec<u8>, Member)>, NoMemory>
     ensures keyed { IfOk result (λ ones. AreUnder ones.items) }
-    ensures named { IfOk result (λ ones. values_of ones.items ≡ names_in names.now) }
+    ensures named { IfOk result (λ ones. values_of ones.items ≡ names_in support.now names.now) }
 {
     let mut ones = Vec::new(alloc);
     for word in names.split(|byte| *byte == b' ') {
-        push_some(&mut ones, alloc, named_member(alloc, word)?)?;
+        push_some(&mut ones, alloc, named_member(alloc, support, word)?)?;
     }
     Ok(ones)
 }

@@ -8,6 +8,7 @@ use crate::deed::{Author, Deed};
 use crate::event::{Event, Kind};
 use crate::modes::{argument, is_mode, next_arguments, next_sign};
 use crate::state::ChanState;
+use crate::support::Support;
 use crate::words::{last, param, params_from, text_at};
 use bytetext::{NoMemory, Text};
 use std::alloc::Global;
@@ -87,7 +88,14 @@ pub(crate) fn mode(
     let Some(channel) = state.held(name) else {
         return Ok(Vec::new(alloc));
     };
-    each_mode(alloc, by, channel, letters, params_from(params, 2))
+    each_mode(
+        alloc,
+        by,
+        channel,
+        &state.support,
+        letters,
+        params_from(params, 2),
+    )
 }
 
 // Each single mode of a mode string.
@@ -95,18 +103,19 @@ fn each_mode(
     alloc: Global,
     by: Author<'_>,
     channel: &[u8],
+    support: &Support,
     letters: &[u8],
     arguments: &[Text],
 ) -> Result<Vec<Event>, NoMemory>
     ensures { IfOk result (λ v. v.items
-        ≡ map (mode_on by.entry.nick.now by.entry.address.now channel.now) (singles true letters.now arguments.now)) }
+        ≡ map (mode_on by.entry.nick.now by.entry.address.now channel.now) (singles support.now true letters.now arguments.now)) }
 {
     let mut events = Vec::new(alloc);
     let mut on = true;
     let mut rest = arguments;
     for byte in letters {
-        push_mode(&mut events, alloc, by, channel, on, *byte, rest)?;
-        rest = next_arguments(on, *byte, rest);
+        push_mode(&mut events, alloc, by, channel, support, on, *byte, rest)?;
+        rest = next_arguments(support, on, *byte, rest);
         on = next_sign(on, *byte);
     }
     Ok(events)
@@ -118,12 +127,13 @@ fn push_mode(
     alloc: Global,
     by: Author<'_>,
     channel: &[u8],
+    support: &Support,
     on: bool,
     byte: u8,
     arguments: &[Text],
 ) -> Result<(), NoMemory>
     ensures { OnOk result (events.new.items ≡ events.old.items
-        ++ map (mode_on by.entry.nick.now by.entry.address.now channel.now) (option_to_list (single_at on byte arguments.now))) }
+        ++ map (mode_on by.entry.nick.now by.entry.address.now channel.now) (option_to_list (single_at support.now on byte arguments.now))) }
 {
     if !is_mode(byte) {
         return Ok(());
@@ -133,7 +143,7 @@ fn push_mode(
         kind: Kind::Mode,
         by,
         about: &signed,
-        more: &[&signed, argument(on, byte, arguments)],
+        more: &[&signed, argument(support, on, byte, arguments)],
     };
     events.push(deed.on(alloc, channel)?)?;
     Ok(())

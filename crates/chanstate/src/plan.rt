@@ -6,6 +6,7 @@ ghost use Rattle.chanstate.specs.Plans.{is_plain, settled};
 use crate::channel::Channel;
 use crate::channels::{Channels, put_each};
 use crate::state::ChanState;
+use crate::support::Support;
 use crate::take::Take;
 use bytetext::Text;
 use std::marker::Model;
@@ -92,6 +93,7 @@ impl ChanState {
                 if done {
                     self.nick = nick;
                     self.channels.clear();
+                    self.support = Support::unannounced();
                 }
             }
             Plan::Title { channel, topic } => {
@@ -124,6 +126,7 @@ impl ChanState {
     fn rename_own(&mut self, own: Option<Text>)
         ensures nick { self.new.nick ≡ unwrap_or own self.old.nick }
         ensures channels { self.new.channels ≡ self.old.channels }
+        ensures support { self.new.support ≡ self.old.support }
     {
         if let Some(nick) = own {
             self.nick = nick;

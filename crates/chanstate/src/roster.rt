@@ -14,6 +14,7 @@ use crate::edit::Edit;
 use crate::member::{Mark, Member};
 use crate::seating::Seating;
 use crate::seats::{Seats, add, edit_at, index_taken, make_room, member_of, place_of, vacate};
+use crate::support::Support;
 use crate::task::Task;
 use crate::words::{shown, split_signs};
 use bytetext::{NoMemory, Text, TryCopy};
@@ -121,30 +122,30 @@ impl Roster {
     }
 
     // Whether a word of a list of names names someone who isn't among them.
-    fn lacks(&self, word: &[u8]) -> bool
-        ensures { result ≡ list_any (λ one. not (has_member one.nick self.now)) (option_to_list (named word.now)) }
+    fn lacks(&self, support: &Support, word: &[u8]) -> bool
+        ensures { result ≡ list_any (λ one. not (has_member one.nick self.now)) (option_to_list (named support.now word.now)) }
     {
-        let (_, nick) = split_signs(word);
+        let (_, nick) = split_signs(support, word);
         !nick.is_empty() && !self.holds(nick)
     }
 
     // Whether a list of names names someone who isn't among them.
-    pub(crate) fn lacks_any(&self, names: &[u8]) -> bool
-        ensures { result ≡ list_any (λ one. not (has_member one.nick self.now)) (names_in names.now) }
+    pub(crate) fn lacks_any(&self, support: &Support, names: &[u8]) -> bool
+        ensures { result ≡ list_any (λ one. not (has_member one.nick self.now)) (names_in support.now names.now) }
     {
         for word in names.split(|byte| *byte == b' ') {
-            if self.lacks(word) {
+            if self.lacks(support, word) {
                 return true;
             }
         }
         false
     }
 
-    // The member whom a word names, if there is one, has the marks before the nick.
-    fn show(&mut self, alloc: Global, word: &[u8])
-        ensures { self.new ≡ shown_each (option_to_list (named word.now)) self.old }
+    // The member whom a word names, if there is one, has the marks whose signs stand before the nick.
+    fn show(&mut self, alloc: Global, support: &Support, word: &[u8])
+        ensures { self.new ≡ shown_each (option_to_list (named support.now word.now)) self.old }
     {
-        let (signs, nick) = split_signs(word);
+        let (signs, nick) = split_signs(support, word);
         if !nick.is_empty() {
             let one = shown(alloc, signs, Text::empty(alloc));
             self.edit(nick, Edit::Listed(one));
@@ -152,11 +153,11 @@ impl Roster {
     }
 
     // The same for each word of a list of names, in their order.
-    pub(crate) fn show_all(&mut self, alloc: Global, names: &[u8])
-        ensures { self.new ≡ shown_each (names_in names.now) self.old }
+    pub(crate) fn show_all(&mut self, alloc: Global, support: &Support, names: &[u8])
+        ensures { self.new ≡ shown_each (names_in support.now names.now) self.old }
     {
         for word in names.split(|byte| *byte == b' ') {
-            self.show(alloc, word);
+            self.show(alloc, support, word);
         }
     }
 

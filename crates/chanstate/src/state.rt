@@ -1,8 +1,8 @@
 // The bot's channels.
-ghost use Rattle.std.specs.Prelude.{◌≡◌, true, false, IfOk, OnErr, MatchResult};
+ghost use Rattle.std.specs.Prelude.{◌≡◌, true, false, length, is_some, IfOk, OnErr, MatchResult};
 ghost use Rattle.std.specs.Option.{option_copied, option_map};
 ghost use Rattle.chanstate.specs.Channels.{is_held};
-ghost use Rattle.chanstate.specs.Views.{connected, channel_in, topic_in, members_in, member_in, is_op, channels_with};
+ghost use Rattle.chanstate.specs.Views.{connected, channel_in, channel_at, topic_in, members_in, member_in, is_op, is_voice, channels_with};
 ghost use Rattle.chanstate.specs.Steps.{after};
 ghost use Rattle.chanstate.specs.Memory.{takes_memory};
 ghost use Rattle.chanstate.specs.Items.{items_of};
@@ -10,8 +10,10 @@ ghost use Rattle.chanstate.specs.Plans.{IsPlanFor};
 
 use crate::change::{Change, change_of};
 use crate::channels::Channels;
+use crate::member::Member;
 use crate::members::Members;
 use crate::plan::Plan;
+use crate::support::Support;
 use bytetext::{NoMemory, Text, Texts, TryCopy};
 use ircline::Message;
 use std::alloc::Global;
@@ -21,10 +23,12 @@ use std::alloc::Global;
 pub struct ChanState {
     pub(crate) nick: Text,
     pub(crate) channels: Channels,
+    pub(crate) support: Support,
 }
 
 impl ChanState {
-    /// The state of a bot that has just connected under this nick: it is on no channel.
+    /// The state of a bot that has just connected under this nick: it is on no channel, and the server has
+    /// announced nothing.
     ///
     /// # Errors
     /// `NoMemory` where room for the nick is refused.
@@ -35,6 +39,7 @@ impl ChanState {
         Ok(ChanState {
             nick,
             channels: Channels::new(alloc),
+            support: Support::unannounced(),
         })
     }
 
@@ -62,6 +67,24 @@ impl ChanState {
         }
     }
 
+    /// How many channels the bot is on. Takes no memory.
+    pub fn channel_count(&self) -> usize
+        ensures { result ≡ length self.now.channels }
+    {
+        self.channels.as_slice().len()
+    }
+
+    /// The name of the channel at this place, from 0, in the order in which the bot joined them, as it spells it; none from
+    /// [`channel_count`](ChanState::channel_count) on. Takes no memory.
+    pub fn channel_at(&self, place: usize) -> Option<&[u8]>
+        ensures { option_copied result ≡ channel_at place self.now }
+    {
+        match self.channels.as_slice().get(place) {
+            Some(channel) => Some(channel.name.as_bytes()),
+            None => None,
+        }
+    }
+
     /// The topic of a channel, empty where it has none; nothing where the bot isn't on the channel.
     pub fn topic(&self, channel: &[u8]) -> Option<&[u8]>
         ensures { option_copied result ≡ topic_in channel.now self.now }
@@ -72,12 +95,40 @@ impl ChanState {
         }
     }
 
-    /// Whether the nick is a channel operator there.
+    /// The member of this nick on a channel, with its address and marks; none where the bot isn't on the channel or nobody
+    /// of this nick is. Takes no memory.
+    pub fn member(&self, channel: &[u8], nick: &[u8]) -> Option<&Member>
+        ensures { option_copied result ≡ member_in channel.now nick.now self.now }
+    {
+        match self.channels.find(channel) {
+            Some(held) => held.members.find(nick),
+            None => None,
+        }
+    }
+
+    /// Whether someone of this nick is on a channel; false where the bot isn't on the channel. Takes no memory.
+    pub fn is_on(&self, channel: &[u8], nick: &[u8]) -> bool
+        ensures { result ≡ is_some (member_in channel.now nick.now self.now) }
+    {
+        self.member(channel, nick).is_some()
+    }
+
+    /// Whether the nick is a channel operator there; false where nobody of this nick is. Takes no memory.
     pub fn is_op(&self, channel: &[u8], nick: &[u8]) -> bool
         ensures { result ≡ is_op (member_in channel.now nick.now self.now) }
     {
         match self.channels.find(channel) {
             Some(held) => held.members.is_op(nick),
+            None => false,
+        }
+    }
+
+    /// Whether the nick has voice there; false where nobody of this nick is. Takes no memory.
+    pub fn is_voice(&self, channel: &[u8], nick: &[u8]) -> bool
+        ensures { result ≡ is_voice (member_in channel.now nick.now self.now) }
+    {
+        match self.member(channel, nick) {
+            Some(member) => member.voice,
             None => false,
         }
     }
@@ -112,7 +163,7 @@ impl ChanState {
     /// `NoMemory` where room is refused; the state is then as before. Only a message that brings a text to be kept asks for
     /// room: a welcome, a JOIN, another spelling of the bot's nick or of a member's, and on held channels another topic,
     /// another address of a member in a reply 352, and a reply 353 that names someone new. Any other message, as each PART,
-    /// KICK, QUIT and MODE, takes no memory.
+    /// KICK, QUIT and MODE and what the server announces, takes no memory.
     pub fn apply(&mut self, alloc: Global, message: &Message) -> Result<(), NoMemory>
         ensures memory { OnErr result (takes_memory message.now self.old ≡ true) }
         ensures applied { MatchResult result (λ _. self.new ≡ after message.now self.old) (λ _. self.new ≡ self.old) }
@@ -129,6 +180,7 @@ impl ChanState {
     {
         match change_of(message) {
             Change::Nothing => Ok(Plan::Plain),
+            Change::Announce(_) => Ok(Plan::Plain),
             Change::Part { .. } => Ok(Plan::Plain),
             Change::Kick { .. } => Ok(Plan::Plain),
             Change::Quit(_) => Ok(Plan::Plain),
@@ -160,6 +212,7 @@ impl ChanState {
             Change::Nick { .. } => {}
             Change::Topic { .. } => {}
             Change::Address { .. } => {}
+            Change::Announce(tokens) => self.support.announce(tokens),
             Change::Part { nick, list } => self.leave_all(nick, list),
             Change::Kick { channel, target } => self.leave(target, channel),
             Change::Quit(nick) => self.depart(nick),
@@ -168,7 +221,9 @@ impl ChanState {
                 modes,
                 arguments,
             } => self.mode(channel, modes, arguments),
-            Change::Names { channel, names } => self.channels.show(alloc, channel, names),
+            Change::Names { channel, names } => {
+                self.channels.show(alloc, &self.support, channel, names);
+            }
         }
     }
 }
@@ -178,6 +233,7 @@ impl TryCopy for ChanState {
         Ok(ChanState {
             nick: self.nick.copy(alloc)?,
             channels: self.channels.copy(alloc)?,
+            support: self.support,
         })
     }
 }

@@ -127,6 +127,7 @@ fn make(state: &mut ChanState, alloc: Global, message: &Message) -> Result<Made,
     let empty = ChanState {
         nick: Text::empty(alloc),
         channels: Channels::new(alloc),
+        support: state.support,
     };
     let state = mem::replace(state, empty);
     Ok(Made { state, plan, alloc })

@@ -7,6 +7,7 @@ ghost use Rattle.chanstate.specs.Items.{word_of, all_verbs, verb_of};
 #[derive(Clone, Copy)]
 pub enum Verb {
     RplWelcome,
+    RplISupport,
     Join,
     Part,
     Kick,
@@ -24,8 +25,9 @@ pub enum Verb {
 }
 
 // Every command that has a word.
-const ALL: [Verb; 14] = [
+const ALL: [Verb; 15] = [
     Verb::RplWelcome,
+    Verb::RplISupport,
     Verb::Join,
     Verb::Part,
     Verb::Kick,
@@ -48,6 +50,7 @@ impl Verb {
     {
         match self {
             Verb::RplWelcome => b"001",
+            Verb::RplISupport => b"005",
             Verb::Join => b"JOIN",
             Verb::Part => b"PART",
             Verb::Kick => b"KICK",
@@ -66,7 +69,7 @@ impl Verb {
     }
 }
 
-/// The command by its name (RFC 2812 sections 3.1, 3.2, 3.3 and 5.1).
+/// The command by its name (RFC 2812 sections 3.1, 3.2, 3.3 and 5.1; for 005 RPL_ISUPPORT of today's servers).
 pub fn read_verb(command: &[u8]) -> Verb
     ensures { result ≡ verb_of command.now }
 {

@@ -2,10 +2,11 @@
 ghost use Rattle.std.specs.Prelude.{◌≡◌, ◌≤◌, length, IfOk, take, drop};
 ghost use Rattle.std.specs.List.{slice_get};
 ghost use Rattle.std.specs.Option.{option_copied};
-ghost use Rattle.chanstate.specs.Items.{is_sign, signs_len, shown_by, named, last_of};
+ghost use Rattle.chanstate.specs.Items.{signs_len, shown_by, named, last_of};
 ghost use Rattle.chanstate.specs.Given.{text_at};
 
 use crate::member::Member;
+use crate::support::Support;
 use bytetext::{NoMemory, Text};
 use std::alloc::Global;
 
@@ -50,30 +51,24 @@ pub fn params_from(params: &[Text], from: usize) -> &[Text]
     }
 }
 
-fn is_sign_byte(byte: u8) -> bool
-    ensures { result ≡ is_sign byte }
-{
-    byte == b'@' || byte == b'%' || byte == b'+' || byte == b'&' || byte == b'~'
-}
-
-// How many marks stand before the nick.
-fn count_signs(word: &[u8]) -> usize
-    ensures value { result ≡ signs_len word.now }
+// How many signs stand before the nick.
+fn count_signs(support: &Support, word: &[u8]) -> usize
+    ensures value { result ≡ signs_len support.now word.now }
     ensures within { result ≤ length word.now }
 {
     let mut count = 0;
-    while count < word.len() && is_sign_byte(word[count]) {
+    while count < word.len() && support.is_sign(word[count]) {
         count += 1;
     }
     count
 }
 
-/// The marks of a word of a list of names, and the nick after them.
-pub fn split_signs(word: &[u8]) -> (&[u8], &[u8])
-    ensures signs { result.0.now ≡ take (signs_len word.now) word.now }
-    ensures nick { result.1.now ≡ drop (signs_len word.now) word.now }
+/// The signs of a word of a list of names, and the nick after them.
+pub fn split_signs<'a>(support: &Support, word: &'a [u8]) -> (&'a [u8], &'a [u8])
+    ensures signs { result.0.now ≡ take (signs_len support.now word.now) word.now }
+    ensures nick { result.1.now ≡ drop (signs_len support.now word.now) word.now }
 {
-    word.split_at(count_signs(word))
+    word.split_at(count_signs(support, word))
 }
 
 /// A member of this nick, with the marks that stand before it and no address. Takes no memory.
@@ -90,11 +85,15 @@ pub fn shown(alloc: Global, signs: &[u8], nick: Text) -> Member
     }
 }
 
-/// A word of a list of names, as a member; none where no nick follows the marks.
-pub fn named_member(alloc: Global, word: &[u8]) -> Result<Option<Member>, NoMemory>
-    ensures { IfOk result (λ one. one ≡ named word.now) }
+/// A word of a list of names, as a member; none where no nick follows the signs.
+pub fn named_member(
+    alloc: Global,
+    support: &Support,
+    word: &[u8],
+) -> Result<Option<Member>, NoMemory>
+    ensures { IfOk result (λ one. one ≡ named support.now word.now) }
 {
-    let (signs, nick) = split_signs(word);
+    let (signs, nick) = split_signs(support, word);
     if nick.is_empty() {
         return Ok(None);
     }

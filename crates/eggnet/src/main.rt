@@ -11,17 +11,13 @@
 //! server running on this machine, for other programs. It prints the port, which the system chooses where PORT is 0, and
 //! then serves until it is ended.
 //!
-//! Binds may call the procs `quiet`, `stop`, `adduser`, `tick`, `tell` and `echo`.
+//! Binds may call the procs of `eggprocs`, whose first page lists them.
 //!
 //! It ends with status 0 when all is done; 1 for a faulty configuration, another bot's journal, a command that a bot
 //! refuses or does not understand, and a script that breaks a rule; 2 for a command line that is not understood; 3 where
 //! reading, writing, a folder, a disk or a socket fails, where no bot runs, and where a live botnet stalls; 4 where
 //! memory runs out. Standard error says which.
 #![tactic(auto)]
-
-ghost use Rattle.std.specs.Prelude.{◌≡◌, codes, IfOk};
-ghost use Rattle.procstore.specs.declared.reply.Code.TheVariants.{Zero, One};
-ghost use Rattle.eggprocs.specs.Procs.{IsBody, plain, reply_of_adduser, reply_of_echo, reply_of_tell, reply_of_tick};
 
 mod configuration;
 mod live;
@@ -35,10 +31,8 @@ use crate::serve::serve_port;
 use crate::talk::{show_folder, tell_folder};
 use crate::words::{Task, refused, task_of};
 use bytetext::NoMemory;
-use eggprocs::{
-    Ours, plain, reply_of_adduser, reply_of_echo, reply_of_tell, reply_of_tick, store_of,
-};
-use procstore::{Body, Call, Code, ProcStore, Reply, Run};
+use eggprocs::{EggProc, Ours, store};
+use procstore::ProcStore;
 use replaying::{out_of_memory, picture_script, replay_file, replay_input, unread, words_of};
 use std::fs::File;
 use std::net::Net;
@@ -48,76 +42,13 @@ use std::rt::{Env, Files};
 use std::time::Clock;
 
 fn main(rt: HostRuntime) -> ExitCode {
-    let alloc = rt.alloc();
-    let quiet: Body = match Box::new(
-        alloc,
-        move |_call: &Call| -> Result<Reply, NoMemory>
-            ensures { IfOk result (λ reply. reply ≡ plain Zero) }
-        { Ok(plain(alloc, Code::Zero)) },
-    ) {
-        Ok(body) => body,
-        Err(_) => return ExitCode::from(out_of_memory(&rt)),
-    };
-    let stop: Body = match Box::new(
-        alloc,
-        move |_call: &Call| -> Result<Reply, NoMemory>
-            ensures { IfOk result (λ reply. reply ≡ plain One) }
-        { Ok(plain(alloc, Code::One)) },
-    ) {
-        Ok(body) => body,
-        Err(_) => return ExitCode::from(out_of_memory(&rt)),
-    };
-    let adduser: Body = match Box::new(
-        alloc,
-        move |call: &Call| -> Result<Reply, NoMemory>
-            ensures { IfOk result (λ reply. reply ≡ reply_of_adduser call.now) }
-        { reply_of_adduser(alloc, call) },
-    ) {
-        Ok(body) => body,
-        Err(_) => return ExitCode::from(out_of_memory(&rt)),
-    };
-    let tick: Body = match Box::new(
-        alloc,
-        move |_call: &Call| -> Result<Reply, NoMemory>
-            ensures { IfOk result (λ reply. reply ≡ reply_of_tick) }
-        { reply_of_tick(alloc) },
-    ) {
-        Ok(body) => body,
-        Err(_) => return ExitCode::from(out_of_memory(&rt)),
-    };
-    let tell: Body = match Box::new(
-        alloc,
-        move |call: &Call| -> Result<Reply, NoMemory>
-            ensures { IfOk result (λ reply. reply ≡ reply_of_tell call.now) }
-        { reply_of_tell(alloc, call) },
-    ) {
-        Ok(body) => body,
-        Err(_) => return ExitCode::from(out_of_memory(&rt)),
-    };
-    let echo: Body = match Box::new(
-        alloc,
-        move |call: &Call| -> Result<Reply, NoMemory>
-            ensures { IfOk result (λ reply. reply ≡ reply_of_echo call.now) }
-        { reply_of_echo(alloc, call) },
-    ) {
-        Ok(body) => body,
-        Err(_) => return ExitCode::from(out_of_memory(&rt)),
-    };
-    ExitCode::from(status(&rt, quiet, stop, adduser, tick, tell, echo))
+    ExitCode::from(status(&rt))
 }
 
 // The status that the program ends with.
 fn status<
     R: Input + Print + Eprint + AllocGlobal + Env + Net + Clock + Files<File = File> + RandomSource,
-    B: Run,
->(rt: &R, quiet: B, stop: B, adduser: B, tick: B, tell: B, echo: B) -> u8
-    requires quiet { IsBody (codes "quiet") (B.can_run quiet) (B.answers quiet) }
-    requires stop { IsBody (codes "stop") (B.can_run stop) (B.answers stop) }
-    requires adduser { IsBody (codes "adduser") (B.can_run adduser) (B.answers adduser) }
-    requires tick { IsBody (codes "tick") (B.can_run tick) (B.answers tick) }
-    requires tell { IsBody (codes "tell") (B.can_run tell) (B.answers tell) }
-    requires echo { IsBody (codes "echo") (B.can_run echo) (B.answers echo) }
-{
+>(rt: &R) -> u8 {
     let words = match words_of(rt) {
         Ok(words) => words,
         Err(error) => return unread(rt, &error),
@@ -126,17 +57,18 @@ fn status<
         Ok(task) => task,
         Err(error) => return refused(rt, &error),
     };
-    match store_of(rt.alloc(), quiet, stop, adduser, tick, tell, echo) {
+    match store(rt.alloc()) {
         Ok(store) => done(rt, &task, store),
         Err(NoMemory) => out_of_memory(rt),
     }
 }
 
 // Does what the command line asks for.
-fn done<
-    R: Input + Print + Eprint + AllocGlobal + Net + Clock + Files<File = File> + RandomSource,
-    B: Run,
->(rt: &R, task: &Task<'_>, store: ProcStore<Ours, B>) -> u8 {
+fn done<R: Input + Print + Eprint + AllocGlobal + Net + Clock + Files<File = File> + RandomSource>(
+    rt: &R,
+    task: &Task<'_>,
+    store: ProcStore<Ours, EggProc>,
+) -> u8 {
     match task {
         Task::Run(file) => run_file(rt, &store, file),
         Task::Check(file) => check_file(rt, &store, file),

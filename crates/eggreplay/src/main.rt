@@ -8,15 +8,9 @@
 //! file `stdout` is the picture. It was looked at in a browser; whoever changes it looks at it again.
 #![tactic(auto)]
 
-ghost use Rattle.std.specs.Prelude.{◌≡◌, codes, IfOk};
-ghost use Rattle.procstore.specs.declared.reply.Code.TheVariants.{Zero, One};
-ghost use Rattle.eggprocs.specs.Procs.{IsBody, plain, reply_of_adduser, reply_of_echo, reply_of_tell, reply_of_tick};
-
 use bytetext::NoMemory;
-use eggprocs::{
-    Ours, plain, reply_of_adduser, reply_of_echo, reply_of_tell, reply_of_tick, store_of,
-};
-use procstore::{Body, Call, Code, ProcStore, Reply, Run};
+use eggprocs::{EggProc, Ours, store};
+use procstore::ProcStore;
 use replaying::{
     USAGE, out_of_memory, picture_script, replay_file, replay_input, unread, words_of,
 };
@@ -25,96 +19,26 @@ use std::process::ExitCode;
 use std::rt::{Env, Files};
 
 fn main(rt: HostRuntime) -> ExitCode {
-    let alloc = rt.alloc();
-    let quiet: Body = match Box::new(
-        alloc,
-        move |_call: &Call| -> Result<Reply, NoMemory>
-            ensures { IfOk result (λ reply. reply ≡ plain Zero) }
-        { Ok(plain(alloc, Code::Zero)) },
-    ) {
-        Ok(body) => body,
-        Err(_) => return ExitCode::from(out_of_memory(&rt)),
-    };
-    let stop: Body = match Box::new(
-        alloc,
-        move |_call: &Call| -> Result<Reply, NoMemory>
-            ensures { IfOk result (λ reply. reply ≡ plain One) }
-        { Ok(plain(alloc, Code::One)) },
-    ) {
-        Ok(body) => body,
-        Err(_) => return ExitCode::from(out_of_memory(&rt)),
-    };
-    let adduser: Body = match Box::new(
-        alloc,
-        move |call: &Call| -> Result<Reply, NoMemory>
-            ensures { IfOk result (λ reply. reply ≡ reply_of_adduser call.now) }
-        { reply_of_adduser(alloc, call) },
-    ) {
-        Ok(body) => body,
-        Err(_) => return ExitCode::from(out_of_memory(&rt)),
-    };
-    let tick: Body = match Box::new(
-        alloc,
-        move |_call: &Call| -> Result<Reply, NoMemory>
-            ensures { IfOk result (λ reply. reply ≡ reply_of_tick) }
-        { reply_of_tick(alloc) },
-    ) {
-        Ok(body) => body,
-        Err(_) => return ExitCode::from(out_of_memory(&rt)),
-    };
-    let tell: Body = match Box::new(
-        alloc,
-        move |call: &Call| -> Result<Reply, NoMemory>
-            ensures { IfOk result (λ reply. reply ≡ reply_of_tell call.now) }
-        { reply_of_tell(alloc, call) },
-    ) {
-        Ok(body) => body,
-        Err(_) => return ExitCode::from(out_of_memory(&rt)),
-    };
-    let echo: Body = match Box::new(
-        alloc,
-        move |call: &Call| -> Result<Reply, NoMemory>
-            ensures { IfOk result (λ reply. reply ≡ reply_of_echo call.now) }
-        { reply_of_echo(alloc, call) },
-    ) {
-        Ok(body) => body,
-        Err(_) => return ExitCode::from(out_of_memory(&rt)),
-    };
-    ExitCode::from(status(&rt, quiet, stop, adduser, tick, tell, echo))
+    ExitCode::from(status(&rt))
 }
 
 // The status that the program ends with.
-fn status<R: Input + Print + Eprint + AllocGlobal + Env + Files<File = File>, B: Run>(
-    rt: &R,
-    quiet: B,
-    stop: B,
-    adduser: B,
-    tick: B,
-    tell: B,
-    echo: B,
-) -> u8
-    requires quiet { IsBody (codes "quiet") (B.can_run quiet) (B.answers quiet) }
-    requires stop { IsBody (codes "stop") (B.can_run stop) (B.answers stop) }
-    requires adduser { IsBody (codes "adduser") (B.can_run adduser) (B.answers adduser) }
-    requires tick { IsBody (codes "tick") (B.can_run tick) (B.answers tick) }
-    requires tell { IsBody (codes "tell") (B.can_run tell) (B.answers tell) }
-    requires echo { IsBody (codes "echo") (B.can_run echo) (B.answers echo) }
-{
+fn status<R: Input + Print + Eprint + AllocGlobal + Env + Files<File = File>>(rt: &R) -> u8 {
     let words = match words_of(rt) {
         Ok(words) => words,
         Err(error) => return unread(rt, &error),
     };
-    match store_of(rt.alloc(), quiet, stop, adduser, tick, tell, echo) {
+    match store(rt.alloc()) {
         Ok(store) => done(rt, words.as_slice(), store),
         Err(NoMemory) => out_of_memory(rt),
     }
 }
 
 // Does what the words ask for.
-fn done<R: Input + Print + Eprint + AllocGlobal + Files<File = File>, B: Run>(
+fn done<R: Input + Print + Eprint + AllocGlobal + Files<File = File>>(
     rt: &R,
     words: &[String],
-    store: ProcStore<Ours, B>,
+    store: ProcStore<Ours, EggProc>,
 ) -> u8 {
     match (word_at(words, 1), word_at(words, 2), word_at(words, 3)) {
         (Some("replay"), Some(file), None) => replay_file(rt, store, file),

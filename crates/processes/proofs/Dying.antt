@@ -5,14 +5,16 @@ use Rattle.bytetext.specs.declared.failure.Failure.TheVariants.{Refused as refus
 use Rattle.userfile.specs.declared.change.Change.{Change}
 use Rattle.bottimers.specs.declared.fault.ClockFault.{ClockFault}
 use Rattle.bottimers.specs.declared.timer.TimerKind.TheVariants.{Minutes, Seconds}
-use Rattle.bottimers.specs.Held.{add_fault, holds}
+use Rattle.bottimers.specs.Held.{add_fault, holds_named}
 use Rattle.bottimers.specs.Seconds.{reading_fault}
 use Rattle.ircline.specs.declared.line.Line.TheVariants.{Message as a_message, Bad as a_bad_line}
 use Rattle.sharewire.specs.declared.packet.Packet.{Packet}
 use Rattle.storage.specs.State.{moment, left_since}
 use Rattle.storage.specs.Laws.{only_now}
 use Rattle.procstore.specs.declared.action.Action.{Action}
+use Rattle.procstore.specs.Promises.{Promised}
 use Rattle.procstore.specs.declared.action.Action.TheVariants.{Ask as ask_wished, Timer as timer_wished, Utimer, KillTimer, SendBot, Put}
+use Rattle.procstore.specs.declared.action.TimerName.{TimerName}
 use Rattle.procstore.specs.declared.call.Call.{Call}
 use Rattle.procstore.specs.declared.reply.Code.{Code}
 use Rattle.bindtable.specs.declared.bind.Bind.{Bind as HeldBind}
@@ -53,9 +55,9 @@ module _ (old : Acting) where
   made_device None timer = refl
   made_device (Some fault) timer = refl
 
-  killed_device : (held : Bool) (id : ℕ) → (killed_if held old id).after.link.device ≡ old.link.device
-  killed_device true id = refl
-  killed_device false id = refl
+  killed_device : (held : Bool) (name : TimerName) → (killed_if held old name).after.link.device ≡ old.link.device
+  killed_device true name = refl
+  killed_device false name = refl
 
   sent_device : (packets : _) → (sent_if packets old).after.link.device ≡ old.link.device
   sent_device (Ok packets) = refl
@@ -69,7 +71,7 @@ module _ (old : Acting) where
   acted_device (ask_wished change) = asked_device (asked old.link change).told (asked old.link change).after
   acted_device (timer_wished wish) = made_device (add_fault old.timers wish.interval old.last) (timer_of old Minutes wish)
   acted_device (Utimer wish) = made_device (add_fault old.timers wish.interval old.last) (timer_of old Seconds wish)
-  acted_device (KillTimer id) = killed_device (holds old.timers id) id
+  acted_device (KillTimer name) = killed_device (holds_named old.timers name.proc name.text) name
   acted_device (SendBot wish) = sent_device _
   acted_device (Put wish) = put_device _ wish
 
@@ -83,10 +85,10 @@ all_acted_device old (a ∷ actions) = all_acted_device (acted old a).after acti
 abbrev IsLeft : BotEnd → LinkEnd → Device → Type 0
 IsLeft old end now = (now ≡ old.device) ⊎ LeavesOwn (with_end old end) old.device now
 
-module _ (code_of : List ℕ → Call → Code) (may : List ℕ → Call → List Action → Type 0) (names : List (List ℕ)) where
+module _ (promised : Promised) (names : List (List ℕ)) where
   calls_device : (end : End) (told : List Told) (old start : Bot) (came : Option Note) (finish : List MadeCall → Finish) (report : Report) (new : Bot)
       → start.link.device ≡ old.link.device → ((calls : List MadeCall) → (finish calls).after.link ≡ (acting_after start calls).link)
-      → TakesCalls end code_of may told old start came finish report new → new.link.device ≡ old.link.device
+      → TakesCalls end promised told old start came finish report new → new.link.device ≡ old.link.device
   calls_device Done told old start came finish report new begins finishes t =
       ap (λ (b : Bot). b.link.device) t.after ∙ ap (λ (l : BotEnd). l.device) (finishes report.calls)
       ∙ all_acted_device (acting_of start) (actions_of report.calls) ∙ begins
@@ -114,25 +116,25 @@ module _ (code_of : List ℕ → Call → Code) (may : List ℕ → Call → Lis
   ask_device old new change (Err no_memory) met = ap (λ (l : BotEnd). l.device) met.1
 
   packet_left : (saying : Option Saying) (old : Bot) (packet : Packet) (report : Report) (new : Bot)
-      → TakesPacket saying code_of may names old packet report new → IsLeft old.link (took old.link packet Fails).after new.link.device
+      → TakesPacket saying promised names old packet report new → IsLeft old.link (took old.link packet Fails).after new.link.device
   packet_left None old packet report new t = t.met.moments
   packet_left (Some saying) old packet report new (device, moments, t) =
       let there = with_device old device in
       subst (IsLeft old.link (took old.link packet Fails).after)
       (sym (calls_device report.end _ there there (Some (text_note saying)) (finish_text there) report new refl (λ calls. refl) t)) moments
 
-  moment_device : (stale : Bool) (old : Bot) (now : ℕ) (report : Report) (new : Bot) → TakesMoment stale code_of may names old now report new
+  moment_device : (stale : Bool) (old : Bot) (now : ℕ) (report : Report) (new : Bot) → TakesMoment stale promised names old now report new
       → new.link.device ≡ old.link.device
   moment_device true old now report new t = ap (λ (b : Bot). b.link.device) t.1
   moment_device false old now report new t =
       calls_device report.end _ old (run_to old now) None (finish_reading (run_to old now) now) report new refl (λ calls. refl) t.2
 
   reading_device : (fault : Option ClockFault) (old : Bot) (now : ℕ) (report : Report) (new : Bot)
-      → TakesReading fault code_of may names old now report new → new.link.device ≡ old.link.device
+      → TakesReading fault promised names old now report new → new.link.device ≡ old.link.device
   reading_device (Some fault) old now report new t = ap (λ (b : Bot). b.link.device) t.1
   reading_device None old now report new t = moment_device (is_stale old.clock now) old now report new t
 
-  step_left : (event : Event) (old : Bot) (report : Report) (new : Bot) → TakesStep code_of may names old event report new
+  step_left : (event : Event) (old : Bot) (report : Report) (new : Bot) → TakesStep promised names old event report new
       → IsLeft old.link (failing old.link (Telling event)) new.link.device
   step_left Connect old report new t = inl (gives_device report.end _ old (connect_due old) report new refl t)
   step_left (Line (a_message message)) old report new t =
@@ -151,7 +153,7 @@ module _ (code_of : List ℕ → Call → Code) (may : List ℕ → Call → Lis
 
   -- what a crash leaves at a moment of the step
   pub step_dies : (event : Event) (was : Bot) (report : Report) (after : Bot) (x y : List ℕ)
-      → MayLeave was.link.device.first was.link.device.second was.link → TakesStep code_of may names was event report after
+      → MayLeave was.link.device.first was.link.device.second was.link → TakesStep promised names was event report after
       → CrashesIn was.link after.link x y → LeavesIn Nothing was.link x y ⊎ LeavesIn (Telling event) was.link x y
   step_dies event was report after x y leaves takes crash = by (step_left event was report after takes)
     where

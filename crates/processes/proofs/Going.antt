@@ -3,6 +3,7 @@ use Rattle.std.proofs.Common.{◌≡◌, inl, inr, ℕ, List, [], ◌++◌, leng
 use Rattle.std.proofs.Common.{subst, ◌∙◌, arith}
 use Rattle.std.proofs.lemmas.List.{append-nil}
 use Rattle.procstore.specs.declared.action.Action.{Action}
+use Rattle.procstore.specs.Promises.{Promised}
 use Rattle.procstore.specs.declared.call.Call.{Call}
 use Rattle.procstore.specs.declared.reply.Code.{Code}
 use Rattle.botjournal.specs.Contents.{meaning}
@@ -69,11 +70,11 @@ module _ (w : Net) (h : History) (st : Stands w h) where
 
   -- ---- a step
 
-  made_goes : (code_of : List ℕ → Call → Code) (may : List ℕ → Call → List Action → Type 0) (bot : ℕ) (step : Step)
-      → Makes code_of may w bot step → Reaches h (after_deed w (Made bot step))
-  made_goes code_of may bot step m =
+  made_goes : (promised : Promised) (bot : ℕ) (step : Step)
+      → Makes promised w bot step → Reaches h (after_deed w (Made bot step))
+  made_goes promised bot step m =
       let among = (running bot step.was m.running).among in
-      let g = bot_goes code_of may step.names h st.ends st.packets bot step.was among step.event step.report step.after
+      let g = bot_goes promised step.names h st.ends st.packets bot step.was among step.event step.report step.after
       (was_sent w.packets st.packets st.told bot step.event m.told) m.takes in
       moves w h st bot step.was.link among.at (Runs step.after) (w.packets ++ posted bot step.report.packets)
       (st.packets ++ link_posted bot (outgoings_of step.report.packets)) step.after.link g.after g.sound g.grows g.count
@@ -183,11 +184,11 @@ module _ (w : Net) (h : History) (st : Stands w h) where
 
   -- ---- any deed
 
-  pub deed_goes : (code_of : List ℕ → Call → Code) (may : List ℕ → Call → List Action → Type 0) (deed : Deed)
-      → Happens code_of may w deed
+  pub deed_goes : (promised : Promised) (deed : Deed)
+      → Happens promised w deed
       → Reaches h (after_deed w deed)
-  deed_goes code_of may (Made bot step) m = made_goes code_of may bot step m
-  deed_goes code_of may (Died bot was doing first second) d =
+  deed_goes promised (Made bot step) m = made_goes promised bot step m
+  deed_goes promised (Died bot was doing first second) d =
       died_goes bot was (running bot was d.running).among first second doing d.told d.leaves
-  deed_goes code_of may (Opened bot after) o = opened_goes bot o.0 o.1 o.2 after o.3
-  deed_goes code_of may (Unopened bot first second) o = unopened_goes bot o.0 o.1 first second o.2 o.3
+  deed_goes promised (Opened bot after) o = opened_goes bot o.0 o.1 o.2 after o.3
+  deed_goes promised (Unopened bot first second) o = unopened_goes bot o.0 o.1 first second o.2 o.3

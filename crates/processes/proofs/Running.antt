@@ -4,9 +4,7 @@ use Rattle.std.proofs.Common.{ap, sym, subst, ◌∙◌, arith}
 use Rattle.userfile.specs.Records.{Records}
 use Rattle.userfile.specs.declared.change.Change.{Change as UserChange}
 use Rattle.sharewire.specs.declared.packet.Packet.{Packet}
-use Rattle.procstore.specs.declared.action.Action.{Action}
-use Rattle.procstore.specs.declared.call.Call.{Call}
-use Rattle.procstore.specs.declared.reply.Code.{Code}
+use Rattle.procstore.specs.Promises.{Promised}
 use Rattle.protocol.specs.Numbers.{item_at}
 use Rattle.protocol.specs.Packets.{AcceptedChange, Sent as LinkSent, from_wire}
 use Rattle.protocol.specs.History.{History, start}
@@ -30,27 +28,27 @@ use Rattle.processes.proofs.Going.{deed_goes}
 
 -- ---- lists of deeds
 
-pub run_goes : (code_of : List ℕ → Call → Code) (may : List ℕ → Call → List Action → Type 0) (w : Net) (h : History)
+pub run_goes : (promised : Promised) (w : Net) (h : History)
     (deeds : List Deed)
-    → Stands w h → Run code_of may w deeds → Reaches h (net_after w deeds)
-run_goes code_of may w h [] st run = record { after = h; stands = st; grows = Grows-refl h }
-run_goes code_of may w h (deed ∷ deeds) st run =
-    let one = deed_goes w h st code_of may deed run.0 in
-    let rest = run_goes code_of may (after_deed w deed) one.after deeds one.stands run.1 in
+    → Stands w h → Run promised w deeds → Reaches h (net_after w deeds)
+run_goes promised w h [] st run = record { after = h; stands = st; grows = Grows-refl h }
+run_goes promised w h (deed ∷ deeds) st run =
+    let one = deed_goes w h st promised deed run.0 in
+    let rest = run_goes promised (after_deed w deed) one.after deeds one.stands run.1 in
     record { after = rest.after; stands = rest.stands; grows = Grows-trans h one.after rest.after one.grows rest.grows }
 
 -- the first of these deeds, and then the others
-record Parts (code_of : List ℕ → Call → Code) (may : List ℕ → Call → List Action → Type 0) (w : Net)
+record Parts (promised : Promised) (w : Net)
     (first more : List Deed) : Type 0 where
-  front : Run code_of may w first
-  back : Run code_of may (net_after w first) more
+  front : Run promised w first
+  back : Run promised (net_after w first) more
   leads : net_after w (first ++ more) ≡ net_after (net_after w first) more
 
-parts : (code_of : List ℕ → Call → Code) (may : List ℕ → Call → List Action → Type 0) (w : Net) (first more : List Deed)
-    → Run code_of may w (first ++ more) → Parts code_of may w first more
-parts code_of may w [] more run = record { front = tt; back = run; leads = refl }
-parts code_of may w (deed ∷ first) more run =
-    let rest = parts code_of may (after_deed w deed) first more run.1 in
+parts : (promised : Promised) (w : Net) (first more : List Deed)
+    → Run promised w (first ++ more) → Parts promised w first more
+parts promised w [] more run = record { front = tt; back = run; leads = refl }
+parts promised w (deed ∷ first) more run =
+    let rest = parts promised (after_deed w deed) first more run.1 in
     record { front = (run.0, rest.front); back = rest.back; leads = rest.leads }
 
 -- ---- the first moment
@@ -144,16 +142,16 @@ shown w h st bot version shows = by (slice_get w.processes bot) refl shows
           records_are = ap records_in at;
         }
 
-module _ (code_of : List ℕ → Call → Code) (may : List ℕ → Call → List Action → Type 0) (count : ℕ) (w : Net)
-    (first more : List Deed) (is : IsFirst count w) (run : Run code_of may w (first ++ more)) where
-  abbrev apart : Parts code_of may w first more
-  apart = parts code_of may w first more run
+module _ (promised : Promised) (count : ℕ) (w : Net)
+    (first more : List Deed) (is : IsFirst count w) (run : Run promised w (first ++ more)) where
+  abbrev apart : Parts promised w first more
+  apart = parts promised w first more run
 
   abbrev one : Reaches (start count) (net_after w first)
-  one = run_goes code_of may w (start count) first (first_stands count w is) apart.front
+  one = run_goes promised w (start count) first (first_stands count w is) apart.front
 
   abbrev two : Reaches one.after (net_after (net_after w first) more)
-  two = run_goes code_of may (net_after w first) one.after more one.stands apart.back
+  two = run_goes promised (net_after w first) one.after more one.stands apart.back
 
   abbrev kept : Keeps one.stands.ends two.stands.ends
   kept =

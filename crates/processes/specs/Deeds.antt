@@ -3,6 +3,7 @@ use Rattle.std.specs.Prelude.{◌≡◌, ℕ, suc, ◌+◌, List, [], ◌∷◌,
 use Rattle.userfile.specs.Records.{Records}
 use Rattle.sharewire.specs.declared.packet.Packet.{Packet}
 use Rattle.procstore.specs.declared.action.Action.{Action}
+use Rattle.procstore.specs.Promises.{Promised}
 use Rattle.procstore.specs.declared.call.Call.{Call}
 use Rattle.procstore.specs.declared.reply.Code.{Code}
 use Rattle.storage.specs.State.{moment, left_since}
@@ -138,12 +139,12 @@ pub record IsOpened (bot bots : ℕ) (first second : List ℕ) (after : Bot) : T
   }
   pub anew : after ≡ begun after.config after.link
 
-module _ (code_of : List ℕ → Call → Code) (may : List ℕ → Call → List Action → Type 0) where
+module _ (promised : Promised) where
   -- the bot runs, a packet that it takes was told to it, and the step is one that a bot takes
   pub record Makes (w : Net) (bot : ℕ) (step : Step) : Type 0 where
     pub running : slice_get w.processes bot ≡ Some (Runs step.was)
     pub told : WasTold w.packets bot step.event
-    pub takes : TakesStep code_of may step.names step.was step.event step.report step.after
+    pub takes : TakesStep promised step.names step.was step.event step.report step.after
 
   -- the bot ran, and a death at that moment of the call may leave these bytes
   pub record Dies (w : Net) (bot : ℕ) (was : Bot) (doing : Doing) (first second : List ℕ) : Type 0 where

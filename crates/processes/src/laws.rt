@@ -9,7 +9,7 @@ ghost use Rattle.botcore.specs.declared.event.Event.{Event};
 ghost use Rattle.botcore.specs.declared.report.Report.{Report};
 ghost use Rattle.botcore.specs.Making.{Finds};
 ghost use Rattle.botcore.specs.Steps.{TakesStep};
-ghost use Rattle.botworld.specs.Calling.{Calling, IsAlike};
+ghost use Rattle.botworld.specs.Calling.{Calling, IsAlike, IsAlikeButChannels, IgnoresChannels};
 ghost use Rattle.processes.specs.Deeds.{Net, Step, Deed, Made, Nothing, Telling, IsOpened, CrashesIn, LeavesIn, Run, IsFirst, net_after};
 ghost use Rattle.processes.specs.Deeds.{shown_version, shown_records};
 ghost use Rattle.processes.specs.Standing.{Stands, Reaches};
@@ -25,26 +25,32 @@ pub fn laws_of_processes<P: Promise, D: Disk>()
     ensures begins { (count : ℕ) (w : Net) → IsFirst count w → Stands w (start count) }
     // Deeds lead to a moment that history grew into.
     ensures goes { (w : Net) (h : History) (deeds : List Deed)
-        → Stands w h → Run P.code_of P.may w deeds → Reaches h (net_after w deeds) }
+        → Stands w h → Run P.promised w deeds → Reaches h (net_after w deeds) }
     // At any two moments, bots at one version hold the same records.
     ensures same_records { (count : ℕ) (w : Net) (first more : List Deed)
-        → IsFirst count w → Run P.code_of P.may w (first ++ more) → (one other version : ℕ)
+        → IsFirst count w → Run P.promised w (first ++ more) → (one other version : ℕ)
         → shown_version (net_after w first) one ≡ Some version
         → shown_version (net_after w (first ++ more)) other ≡ Some version
         → shown_records (net_after w first) one ≡ shown_records (net_after w (first ++ more)) other }
     // No version goes back, also where the bot's process died between and another opened it.
     ensures never_back { (count : ℕ) (w : Net) (first more : List Deed)
-        → IsFirst count w → Run P.code_of P.may w (first ++ more) → (bot before after : ℕ)
+        → IsFirst count w → Run P.promised w (first ++ more) → (bot before after : ℕ)
         → shown_version (net_after w first) bot ≡ Some before
         → shown_version (net_after w (first ++ more)) bot ≡ Some after → before ≤ after }
     // A request is accepted at most once, and is told so.
     ensures once { (count : ℕ) (w : Net) (deeds : List Deed)
-        → IsFirst count w → Run P.code_of P.may w deeds → Once (net_after w deeds) }
+        → IsFirst count w → Run P.promised w deeds → Once (net_after w deeds) }
     // Alike bots call the same procs, at any two moments, over stores of the same names.
-    ensures same_calls { (count : ℕ) (w : Net) (deeds : List Deed) → IsFirst count w → Run P.code_of P.may w deeds
+    ensures same_calls { (count : ℕ) (w : Net) (deeds : List Deed) → IsFirst count w → Run P.promised w deeds
         → (i j one other : ℕ) (s t : Step) (a b : Calling)
         → slice_get deeds i ≡ Some (Made one s) → slice_get deeds j ≡ Some (Made other t) → s.names ≡ t.names
         → calling_of s ≡ Some a → calling_of t ≡ Some b → IsAlike a b → a.calls ≡ b.calls }
+    // So do bots that are alike but for their channels, where the promised codes ignore these.
+    ensures same_calls_ignoring_channels { IgnoresChannels P.promised → (count : ℕ) (w : Net) (deeds : List Deed)
+        → IsFirst count w → Run P.promised w deeds
+        → (i j one other : ℕ) (s t : Step) (a b : Calling)
+        → slice_get deeds i ≡ Some (Made one s) → slice_get deeds j ≡ Some (Made other t) → s.names ≡ t.names
+        → calling_of s ≡ Some a → calling_of t ≡ Some b → IsAlikeButChannels a b → a.calls ≡ b.calls }
     // A bot that `Bot::open` found is opened on what its disks held.
     ensures opened { (config : Config) (first second : D) (bot : Bot) → Finds D.state config first second (Ok bot)
         → IsOpened config.number (config.leaves + 1) (D.state first).seen (D.state second).seen bot }
@@ -56,6 +62,6 @@ pub fn laws_of_processes<P: Promise, D: Disk>()
     // that one. That a crash before it leaves what is the bot's is what `Bot::know_disks` says.
     ensures died { (names : List (List ℕ)) (event : Event) (was after : Bot) (report : Report) (x y : List ℕ)
         → MayLeave was.link.device.first was.link.device.second was.link
-        → TakesStep P.code_of P.may names was event report after → CrashesIn was.link after.link x y
+        → TakesStep P.promised names was event report after → CrashesIn was.link after.link x y
         → LeavesIn Nothing was.link x y ⊎ LeavesIn (Telling event) was.link x y }
 {}

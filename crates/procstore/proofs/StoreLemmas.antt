@@ -9,12 +9,11 @@ use Rattle.std.specs.declared.vec.Vec.{Vec}
 use Rattle.std.specs.declared.alloc.Global.{Global}
 use Rattle.indexmap.specs.IndexMap.{insert_entry}
 use Rattle.bytetext.specs.declared.memory.NoMemory.{NoMemory}
-use Rattle.procstore.specs.declared.action.Action.{Action}
 use Rattle.procstore.specs.declared.call.Call.{Call}
-use Rattle.procstore.specs.declared.reply.Code.{Code}
 use Rattle.procstore.specs.declared.reply.Reply.{Reply}
 use Rattle.procstore.specs.Named.{Named, names_of, AreKeyed}
-use Rattle.procstore.specs.Promises.{IsAllowed}
+use Rattle.procstore.specs.Promises.{Promised, IsAllowed}
+use Rattle.procstore.specs.Seen.{Seen}
 use Rattle.procstore.specs.Calling.{holds, refusal, IsCalled, as_called}
 use Rattle.procstore.specs.declared.fault.AddFault.TheVariants.{NameTaken, Full}
 use Rattle.procstore.specs.declared.limits.TheConstants.{MAX_PROCS}
@@ -117,14 +116,11 @@ added-names es new key p own last =
 -- ---- calls
 
 -- the proc that has the name answers as a call by name does
-pub IsCalled-found : (code_of : List ℕ → Call → Code) (may : List ℕ → Call → List Action → Type 0) (may_lack : List ℕ → Call → Type 0)
-    (names : List (List ℕ)) (own name : List ℕ) (call : Call) (answer : Result Reply NoMemory)
-    → holds names name ≡ true → own ≡ name → IsAllowed code_of may may_lack own call answer
-    → IsCalled code_of may may_lack names name call (as_called answer)
-IsCalled-found code_of may may_lack names own name call answer held same allowed =
-    by answer (subst (λ (n : List ℕ). IsAllowed code_of may may_lack n call answer) same allowed)
+pub IsCalled-found : (promised : Promised) (names : List (List ℕ)) (own name : List ℕ) (call : Call) (seen : Seen) (answer : Result Reply NoMemory)
+    → holds names name ≡ true → own ≡ name → IsAllowed promised own call seen answer → IsCalled promised names name call seen (as_called answer)
+IsCalled-found promised names own name call seen answer held same allowed =
+    by answer (subst (λ (n : List ℕ). IsAllowed promised n call seen answer) same allowed)
   where
-    by : (answer : Result Reply NoMemory) → IsAllowed code_of may may_lack name call answer
-        → IsCalled code_of may may_lack names name call (as_called answer)
+    by : (answer : Result Reply NoMemory) → IsAllowed promised name call seen answer → IsCalled promised names name call seen (as_called answer)
     by (Ok reply) kept = (held, kept)
     by (Err lack) may = (held, may)

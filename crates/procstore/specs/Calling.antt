@@ -5,16 +5,15 @@ use Rattle.std.specs.Str.{bytes_eq}
 use Rattle.bytetext.specs.declared.failure.Failure.{Failure}
 use Rattle.bytetext.specs.declared.failure.Failure.TheVariants.{Refused, NoMemory as no_memory}
 use Rattle.bytetext.specs.declared.memory.NoMemory.{NoMemory}
-use Rattle.procstore.specs.declared.action.Action.{Action}
 use Rattle.procstore.specs.declared.call.Call.{Call}
 use Rattle.procstore.specs.declared.fault.AddFault.{AddFault}
 use Rattle.procstore.specs.declared.fault.AddFault.TheVariants.{NameTaken, Full}
 use Rattle.procstore.specs.declared.fault.CallFault.{CallFault}
 use Rattle.procstore.specs.declared.fault.CallFault.TheVariants.{NoSuchProc}
 use Rattle.procstore.specs.declared.limits.TheConstants.{MAX_PROCS}
-use Rattle.procstore.specs.declared.reply.Code.{Code}
 use Rattle.procstore.specs.declared.reply.Reply.{Reply}
-use Rattle.procstore.specs.Promises.{IsKept}
+use Rattle.procstore.specs.Promises.{Promised, IsKept}
+use Rattle.procstore.specs.Seen.{Seen}
 
 -- whether a store of these names has a proc of this one, byte for byte
 abbrev pub holds : List (List ℕ) → List ℕ → Bool
@@ -32,11 +31,10 @@ IsWhy refusal (Refused fault) = refusal ≡ Some fault
 IsWhy refusal no_memory = refusal ≡ None
 
 -- What a call by name answers: a reply that keeps the promise, that no proc has the name, or that the proc lacks memory.
-abbrev pub IsCalled : (List ℕ → Call → Code) → (List ℕ → Call → List Action → Type 0) → (List ℕ → Call → Type 0)
-    → List (List ℕ) → List ℕ → Call → Result Reply (Failure CallFault) → Type 0
-IsCalled code_of may may_lack names name call (Ok reply) = (holds names name ≡ true) × IsKept code_of may name call reply
-IsCalled code_of may may_lack names name call (Err (Refused NoSuchProc)) = holds names name ≡ false
-IsCalled code_of may may_lack names name call (Err no_memory) = (holds names name ≡ true) × may_lack name call
+abbrev pub IsCalled : Promised → List (List ℕ) → List ℕ → Call → Seen → Result Reply (Failure CallFault) → Type 0
+IsCalled promised names name call seen (Ok reply) = (holds names name ≡ true) × IsKept promised name call seen reply
+IsCalled promised names name call seen (Err (Refused NoSuchProc)) = holds names name ≡ false
+IsCalled promised names name call seen (Err no_memory) = (holds names name ≡ true) × promised.may_lack name call
 
 -- what a proc answered, as the answer to a call by name
 abbrev pub as_called : Result Reply NoMemory → Result Reply (Failure CallFault)

@@ -3,3 +3,4 @@ pub mod Calling
 pub mod Faults
 pub mod Named
 pub mod Promises
+pub mod Seen

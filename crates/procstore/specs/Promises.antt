@@ -1,26 +1,40 @@
--- What it is to keep a promise. A promise gives the code of each answer, by the proc's name and the call, a relation of
--- name, call and actions, and the calls that may lack memory.
+-- What procs promise, and what it is to keep a promise.
 use Rattle.std.specs.Prelude.{◌≡◌, ℕ, List, Result, Ok, Err}
 use Rattle.bytetext.specs.declared.memory.NoMemory.{NoMemory}
 use Rattle.procstore.specs.declared.action.Action.{Action}
 use Rattle.procstore.specs.declared.call.Call.{Call}
 use Rattle.procstore.specs.declared.reply.Code.{Code}
 use Rattle.procstore.specs.declared.reply.Reply.{Reply}
+use Rattle.procstore.specs.Seen.{Sight, Seen}
+
+-- What the procs of a program promise, by the proc's name and the call. The code of an answer is a function of these and of
+-- records and channels, so that it can't depend on the clock.
+pub record Promised : Type 1 where
+  pub code_of : List ℕ → Call → Sight → Code
+  -- the actions that an answer may have
+  pub may : List ℕ → Call → Seen → List Action → Type 0
+  -- the calls that may lack memory
+  pub may_lack : List ℕ → Call → Type 0
+
+-- a promise of codes and actions, where any call may lack memory
+abbrev pub promised : (List ℕ → Call → Sight → Code) → (List ℕ → Call → Seen → List Action → Type 0) → Promised
+promised code_of may = record { code_of = code_of; may = may; may_lack = λ _ _. Unit {0} }
+
+-- the codes that are promised while records and channels are these
+abbrev pub code_at : Promised → Sight → List ℕ → Call → Code
+code_at promised sight name call = promised.code_of name call sight
 
 -- a reply has the promised code, and actions that the promise allows
-pub record IsKept (code_of : List ℕ → Call → Code) (may : List ℕ → Call → List Action → Type 0)
-    (name : List ℕ) (call : Call) (reply : Reply) : Type 0 where
-  pub code : reply.code ≡ code_of name call
-  pub actions : may name call reply.actions
+pub record IsKept (promised : Promised) (name : List ℕ) (call : Call) (seen : Seen) (reply : Reply) : Type 0 where
+  pub code : reply.code ≡ promised.code_of name call seen.sight
+  pub actions : promised.may name call seen reply.actions
 
 -- what a proc of this name may answer to this call
-abbrev pub IsAllowed : (List ℕ → Call → Code) → (List ℕ → Call → List Action → Type 0) → (List ℕ → Call → Type 0)
-    → List ℕ → Call → Result Reply NoMemory → Type 0
-IsAllowed code_of may may_lack name call (Ok reply) = IsKept code_of may name call reply
-IsAllowed code_of may may_lack name call (Err lack) = may_lack name call
+abbrev pub IsAllowed : Promised → List ℕ → Call → Seen → Result Reply NoMemory → Type 0
+IsAllowed promised name call seen (Ok reply) = IsKept promised name call seen reply
+IsAllowed promised name call seen (Err lack) = promised.may_lack name call
 
 -- a body whose answers are these keeps the promise of this name
-abbrev pub KeepsPromise : (List ℕ → Call → Code) → (List ℕ → Call → List Action → Type 0) → (List ℕ → Call → Type 0)
-    → List ℕ → (Call → Result Reply NoMemory → Type 0) → Type 0
-KeepsPromise code_of may may_lack name answers =
-    (call : Call) (answer : Result Reply NoMemory) → answers call answer → IsAllowed code_of may may_lack name call answer
+abbrev pub KeepsPromise : Promised → List ℕ → (Call → Seen → Result Reply NoMemory → Type 0) → Type 0
+KeepsPromise promised name answers =
+    (call : Call) (seen : Seen) (answer : Result Reply NoMemory) → answers call seen answer → IsAllowed promised name call seen answer

@@ -13,8 +13,8 @@ pub enum Action {
     Timer(TimerWish),
     /// Makes a utimer, which counts seconds.
     Utimer(TimerWish),
-    /// Takes away the timer or utimer of this id.
-    KillTimer(u32),
+    /// Takes away the oldest timer or utimer of this proc and text.
+    KillTimer(TimerName),
     /// Sends a text to another bot.
     SendBot(BotWish),
     /// Puts a line for the server into a queue.
@@ -27,7 +27,7 @@ impl TryCopy for Action {
             Action::Ask(change) => Ok(Action::Ask(change.copy(alloc)?)),
             Action::Timer(wish) => Ok(Action::Timer(wish.copy(alloc)?)),
             Action::Utimer(wish) => Ok(Action::Utimer(wish.copy(alloc)?)),
-            Action::KillTimer(id) => Ok(Action::KillTimer(*id)),
+            Action::KillTimer(name) => Ok(Action::KillTimer(name.copy(alloc)?)),
             Action::SendBot(wish) => Ok(Action::SendBot(wish.copy(alloc)?)),
             Action::Put(wish) => Ok(Action::Put(wish.copy(alloc)?)),
         }
@@ -43,16 +43,37 @@ pub struct TimerWish {
     pub count: u32,
     /// The name of the proc that it calls.
     pub proc: Text,
+    /// The argument of its calls.
+    pub text: Text,
 }
 
 impl TryCopy for TimerWish {
     fn copy(&self, alloc: Global) -> Result<TimerWish, NoMemory> {
         let proc = self.proc.copy(alloc)?;
+        let text = self.text.copy(alloc)?;
         Ok(TimerWish {
             interval: self.interval,
             count: self.count,
             proc,
+            text,
         })
+    }
+}
+
+/// Which timer is meant: one that calls this proc with this text.
+#[derive(Debug, Drop)]
+pub struct TimerName {
+    /// The name of the proc that it calls.
+    pub proc: Text,
+    /// The argument of its calls.
+    pub text: Text,
+}
+
+impl TryCopy for TimerName {
+    fn copy(&self, alloc: Global) -> Result<TimerName, NoMemory> {
+        let proc = self.proc.copy(alloc)?;
+        let text = self.text.copy(alloc)?;
+        Ok(TimerName { proc, text })
     }
 }
 

@@ -1,14 +1,14 @@
 //! Procs: the code that a bot's user writes, each under a name and with a promise that its every answer keeps.
 //!
-//! A proc is called with a [`Call`], which is the [`Kind`] of an event and its arguments. It answers a [`Reply`]: a
-//! [`Code`] and at most eight [`Actions`]. It changes nothing itself: what it wants done stands in its actions, and its
-//! bot does it.
+//! A proc is called with a [`Call`], which is the [`Kind`] of an event and its arguments, and a [`View`] of its bot: the
+//! records of people and bans, the channels, and the second of its clock. It answers a [`Reply`]: a [`Code`] and at most
+//! eight [`Actions`]. It changes nothing itself: what it wants done stands in its actions, and its bot does it.
 //!
-//! A [`Promise`] says what procs answer. It is written for contracts alone: for each proc name and `Call` the code, a
-//! relation that the actions lie in, and whether the proc may lack memory. [`Proc::new`] asks that a body keeps the
-//! promise of its name, so nothing above has to ask it again. [`ProcStore`] holds at most 200 procs and calls them by
-//! name: what [`ProcStore::call`] answers is what the promise says of that name and `Call`, whatever closure stands
-//! there. Contracts see a store as the list of its names.
+//! A [`Promise`] says what procs answer. It is written for contracts alone: for each proc name, `Call` and view the code, a
+//! relation that the actions lie in, and whether the proc may lack memory. Codes can't depend on the clock. [`Proc::new`]
+//! asks that a body keeps the promise of its name, so nothing above has to ask it again. [`ProcStore`] holds at most 200
+//! procs and calls them by name: what [`ProcStore::call`] answers is what the promise says of that name, `Call` and view,
+//! whatever closure stands there. Contracts see a store as the list of its names.
 //!
 //! A body is anything that [`Run`]s. A program's `main` boxes closures ([`Body`]), and one function that is generic in
 //! its bodies makes the store:
@@ -16,14 +16,15 @@
 //! ```text
 //! struct Ours;
 //! impl Promise for Ours {
-//!     ghost code_of = { λ name call. Zero };               // every proc answers 0
-//!     ghost may = { λ name call actions. actions ≡ [] };   // and asks for nothing
+//!     // Every proc answers 0, and asks for nothing.
+//!     ghost promised = { promised (λ name call sight. Zero) (λ name call seen actions. actions ≡ []) };
 //! }
 //!
 //! let mut store: ProcStore<Ours, B> = ProcStore::new(alloc);
 //! store.add(alloc, Proc::new(Text::from_slice(alloc, b"quiet")?, quiet));
-//! store.call(b"quiet", &call)    // Ok(Reply { code: Code::Zero, actions: none })
-//! store.call(b"other", &call)    // Err(Refused(NoSuchProc)): P3
+//! let view = View::new(&userfile, &channels, Some(1_000_000_000));
+//! store.call(b"quiet", &call, &view)    // Ok(Reply { code: Code::Zero, actions: none })
+//! store.call(b"other", &call, &view)    // Err(Refused(NoSuchProc)): P3
 //! ```
 #![tactic(auto)]
 
@@ -39,8 +40,9 @@ mod promise;
 mod reply;
 mod run;
 mod store;
+mod view;
 
-pub use crate::action::{Action, BotWish, PutWish, TimerWish};
+pub use crate::action::{Action, BotWish, PutWish, TimerName, TimerWish};
 pub use crate::actions::Actions;
 pub use crate::call::Call;
 pub use crate::fault::{ActionsFault, AddError, AddFault, CallError, CallFault, PushError};
@@ -52,3 +54,4 @@ pub use crate::promise::Promise;
 pub use crate::reply::{Code, Reply};
 pub use crate::run::{Body, Run};
 pub use crate::store::{NotAdded, ProcStore};
+pub use crate::view::View;

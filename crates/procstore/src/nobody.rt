@@ -4,6 +4,7 @@ use crate::promise::Promise;
 use crate::reply::Reply;
 use crate::run::Run;
 use crate::store::ProcStore;
+use crate::view::View;
 use bytetext::NoMemory;
 
 /// The procs of a store that has none. Nobody is ever put into a store, so it is never called; it would answer that it
@@ -14,10 +15,9 @@ pub struct Nobody;
 impl Promise for Nobody {
     ghost use Rattle.std.specs.Prelude.{◌≡◌, []};
     ghost use Rattle.procstore.specs.declared.reply.Code.TheVariants.{Zero};
+    ghost use Rattle.procstore.specs.Promises.{promised};
 
-    ghost code_of = { λ _ _. Zero };
-
-    ghost may = { λ _ _ actions. actions ≡ [] };
+    ghost promised = { promised (λ _ _ _. Zero) (λ _ _ _ actions. actions ≡ []) };
 }
 
 impl Run for Nobody {
@@ -25,9 +25,9 @@ impl Run for Nobody {
 
     ghost can_run = { λ _. Unit {0} };
 
-    ghost answers = { λ _ _ result. IsErr result };
+    ghost answers = { λ _ _ _ result. IsErr result };
 
-    fn run(&self, _call: &Call) -> Result<Reply, NoMemory> {
+    fn run(&self, _call: &Call, _view: &View<'_>) -> Result<Reply, NoMemory> {
         Err(NoMemory)
     }
 }

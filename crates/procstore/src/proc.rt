@@ -3,6 +3,7 @@ use crate::call::Call;
 use crate::promise::Promise;
 use crate::reply::Reply;
 use crate::run::{Body, Run};
+use crate::view::View;
 use bytetext::{NoMemory, Text};
 use std::marker::{Model, PhantomData};
 
@@ -23,7 +24,7 @@ impl<P: Promise, B: Run> Model for Proc<P, B> {
 
     ghost view = { λ p. record { name = p.name; body = p.body } };
 
-    ghost invariant = { λ p. B.can_run p.body × KeepsPromise P.code_of P.may P.may_lack p.name (B.answers p.body) };
+    ghost invariant = { λ p. B.can_run p.body × KeepsPromise P.promised p.name (B.answers p.body) };
 }
 
 impl<P: Promise, B: Run> Proc<P, B> {
@@ -32,10 +33,10 @@ impl<P: Promise, B: Run> Proc<P, B> {
 
     /// The proc of this name and body. Any bytes are a name. Takes no memory.
     pub fn new(name: Text, body: B) -> Proc<P, B>
-        // The body may be called on every Call.
+        // The body may be called on every Call, whatever it sees.
         requires can_run { B.can_run body }
         // Whatever it answers is what `P` promises of this name.
-        requires keeps { KeepsPromise P.code_of P.may P.may_lack name (B.answers body) }
+        requires keeps { KeepsPromise P.promised name (B.answers body) }
         ensures { result ≡ record { name = name; body = body } }
     {
         Proc {
@@ -56,9 +57,9 @@ impl<P: Promise, B: Run> Proc<P, B> {
     ///
     /// # Errors
     /// `NoMemory` where the body lacks memory, which the promise allows for this name and call.
-    pub fn call(&self, call: &Call) -> Result<Reply, NoMemory>
-        ensures { IsAllowed P.code_of P.may P.may_lack self.now.name call.now result }
+    pub fn call(&self, call: &Call, view: &View<'_>) -> Result<Reply, NoMemory>
+        ensures { IsAllowed P.promised self.now.name call.now view.now result }
     {
-        self.body.run(call)
+        self.body.run(call, view)
     }
 }

@@ -9,6 +9,7 @@ use crate::proc::Proc;
 use crate::promise::Promise;
 use crate::reply::Reply;
 use crate::run::{Body, Run};
+use crate::view::View;
 use bytetext::{Failure, NoMemory, Text, TryCopy};
 use indexmap::IndexMap;
 use std::alloc::Global;
@@ -20,7 +21,7 @@ use std::marker::Model;
 /// ```text
 /// let mut store: ProcStore<Ours, Body> = ProcStore::new(alloc);
 /// store.add(alloc, Proc::new(name, body))?;
-/// let reply = store.call(b"greet", &call)?;
+/// let reply = store.call(b"greet", &call, &view)?;
 /// ```
 #[derive(Drop)]
 pub struct ProcStore<P: Promise, B: Run = Body> {
@@ -130,16 +131,16 @@ impl<P: Promise, B: Run> ProcStore<P, B> {
         None
     }
 
-    /// Calls the proc of this name. The store itself takes no memory.
+    /// Calls the proc of this name, which sees this of its bot. The store itself takes no memory.
     ///
     /// # Errors
     /// `NoSuchProc` (P3) where no proc has this name, and only there. `NoMemory` (P4) where the proc lacks memory and its
     /// promise allows that for this call.
-    pub fn call(&self, name: &[u8], call: &Call) -> Result<Reply, CallError>
-        ensures { IsCalled P.code_of P.may P.may_lack self.now name.now call.now result }
+    pub fn call(&self, name: &[u8], call: &Call, view: &View<'_>) -> Result<Reply, CallError>
+        ensures { IsCalled P.promised self.now name.now call.now view.now result }
     {
         match self.procs.get(name) {
-            Some(proc) => as_called(proc.call(call)),
+            Some(proc) => as_called(proc.call(call, view)),
             None => Err(Failure::Refused(CallFault::NoSuchProc)),
         }
     }

@@ -4,9 +4,7 @@ use Rattle.std.proofs.Common.{append-nil, Result, Ok, Err, OnOk, Bool, false, na
 use Rattle.std.proofs.lemmas.Bool.Decides.{nat_tests}
 use Rattle.std.proofs.lemmas.List.{take_more, take_all, map-append}
 use Rattle.std.proofs.lemmas.Grind.{flat_map-append}
-use Rattle.procstore.specs.declared.action.Action.{Action}
-use Rattle.procstore.specs.declared.call.Call.{Call}
-use Rattle.procstore.specs.declared.reply.Code.{Code}
+use Rattle.procstore.specs.Promises.{Promised}
 use Rattle.script.specs.declared.command.Command.{Command}
 use Rattle.botworld.specs.declared.outcome.Outcome.{Outcome}
 use Rattle.botworld.specs.declared.step.Step.{Step}
@@ -37,14 +35,14 @@ steps_in-append [] ys = refl
 steps_in-append (Makes step ∷ xs) ys = ap (λ (l : List Step). step ∷ l) (steps_in-append xs ys)
 steps_in-append (Shows bot ∷ xs) ys = steps_in-append xs ys
 
-module _ (code_of : List ℕ → Call → Code) (may : List ℕ → Call → List Action → Type 0) where
-  Run-append : (first mid last : State) (xs ys : List Moment) → Run code_of may first xs mid → Run code_of may mid ys last
-      → Run code_of may first (xs ++ ys) last
-  Run-append first mid last [] ys one two = subst (λ (s : State). Run code_of may s ys last) one two
+module _ (promised : Promised) where
+  Run-append : (first mid last : State) (xs ys : List Moment) → Run promised first xs mid → Run promised mid ys last
+      → Run promised first (xs ++ ys) last
+  Run-append first mid last [] ys one two = subst (λ (s : State). Run promised s ys last) one two
   Run-append first mid last (x ∷ xs) ys one two = (one.0, one.1, Run-append x.after mid last xs ys one.2 two)
 
   -- the text goes on where the run left off
-  deeds_text-append : (s last : State) (ds es : List Deed) (ms ns : List Moment) → Run code_of may s ms last → steps_of ms ≡ steps_in ds
+  deeds_text-append : (s last : State) (ds es : List Deed) (ms ns : List Moment) → Run promised s ms last → steps_of ms ≡ steps_in ds
       → deeds_text s (ds ++ es) (ms ++ ns) ≡ deeds_text s ds ms ++ deeds_text last es ns
   deeds_text-append s last [] es [] ns run same = ap (λ (t : State). deeds_text t es ns) (sym run)
   deeds_text-append s last [] es (m ∷ ms) ns run same = cc
@@ -59,11 +57,11 @@ module _ (code_of : List ℕ → Call → Code) (may : List ℕ → Call → Lis
 
   -- deeds -------------------------------------------------------------------------------------------------------------------
 
-  unmoved : (past : Past) (w : Net) → Stands code_of may w past → Stands code_of may w (later past [] past.now)
+  unmoved : (past : Past) (w : Net) → Stands promised w past → Stands promised w (later past [] past.now)
   unmoved past w stands =
-      subst (λ (h : List Moment). Stands code_of may w (record { first = past.first; history = h; now = past.now })) (sym (append-nil past.history)) stands
+      subst (λ (h : List Moment). Stands promised w (record { first = past.first; history = h; now = past.now })) (sym (append-nil past.history)) stands
 
-  pub Does-none : (past : Past) (w : Net) (text : List ℕ) → Stands code_of may w past → Does code_of may past [] w text text
+  pub Does-none : (past : Past) (w : Net) (text : List ℕ) → Stands promised w past → Does promised past [] w text text
   Does-none past w text stands = record {
     moments = [];
     last = past.now;
@@ -74,8 +72,8 @@ module _ (code_of : List ℕ → Call → Code) (may : List ℕ → Call → Lis
     stands = unmoved past w stands;
   }
 
-  pub Does-more : (past : Past) (ds es : List Deed) (w v : Net) (before mid after : List ℕ) → Does code_of may past ds w before mid
-      → ((p : Past) → Stands code_of may w p → Does code_of may p es v mid after) → Does code_of may past (ds ++ es) v before after
+  pub Does-more : (past : Past) (ds es : List Deed) (w v : Net) (before mid after : List ℕ) → Does promised past ds w before mid
+      → ((p : Past) → Stands promised w p → Does promised p es v mid after) → Does promised past (ds ++ es) v before after
   Does-more past ds es w v before mid after one next =
       let two = next (later past one.moments one.last) one.stands in
       record {
@@ -88,15 +86,15 @@ module _ (code_of : List ℕ → Call → Code) (may : List ℕ → Call → Lis
         added = two.added ∙ ap (λ (t : List ℕ). t ++ deeds_text one.last es two.moments) one.added
             ∙ append_assoc before (deeds_text past.now ds one.moments) (deeds_text one.last es two.moments)
             ∙ ap (λ (t : List ℕ). before ++ t) (sym (deeds_text-append past.now one.last ds es one.moments two.moments one.run one.steps));
-        stands = subst (λ (h : List Moment). Stands code_of may v (record { first = past.first; history = h; now = two.last }))
+        stands = subst (λ (h : List Moment). Stands promised v (record { first = past.first; history = h; now = two.last }))
             (append_assoc past.history one.moments two.moments) two.stands;
       }
 
   -- a step that was made, and whose lines were added
   step_does : (past : Past) (w : Net) (step : Step) (o : Outcome) (before after : List ℕ) (moments : List Moment) (last : State)
-      → steps_of moments ≡ step ∷ [] → outcomes_of moments ≡ o ∷ [] → Run code_of may past.now moments last
-      → Stands code_of may w (later past moments last) → IsMade o → after ≡ before ++ outcome_text w.packets o
-      → Does code_of may past (Makes step ∷ []) w before after
+      → steps_of moments ≡ step ∷ [] → outcomes_of moments ≡ o ∷ [] → Run promised past.now moments last
+      → Stands promised w (later past moments last) → IsMade o → after ≡ before ++ outcome_text w.packets o
+      → Does promised past (Makes step ∷ []) w before after
   step_does past w step o before after [] last steps outcomes run stands made added = cc
   step_does past w step o before after (m ∷ n ∷ rest) last steps outcomes run stands made added = cc
   step_does past w step o before after (m ∷ []) last steps outcomes run stands made added =
@@ -115,8 +113,8 @@ module _ (code_of : List ℕ → Call → Code) (may : List ℕ → Call → Lis
       }
 
   -- a bot that is shown
-  show_does : (past : Past) (w : Net) (bot : ℕ) (before after : List ℕ) → Stands code_of may w past → after ≡ before ++ net_text w bot
-      → Does code_of may past (Shows bot ∷ []) w before after
+  show_does : (past : Past) (w : Net) (bot : ℕ) (before after : List ℕ) → Stands promised w past → after ≡ before ++ net_text w bot
+      → Does promised past (Shows bot ∷ []) w before after
   show_does past w bot before after stands added =
       record {
         moments = [];
@@ -131,14 +129,14 @@ module _ (code_of : List ℕ → Call → Code) (may : List ℕ → Call → Lis
   -- the same of what calls answer -------------------------------------------------------------------------------------------
 
   pub show_put : {E : Type 0} (r : Result Unit E) (w : Net) (bot : ℕ) (before after : List ℕ) → OnOk r (after ≡ before ++ net_text w bot)
-      → OnOk r ((past : Past) → Stands code_of may w past → Does code_of may past (Shows bot ∷ []) w before after)
+      → OnOk r ((past : Past) → Stands promised w past → Does promised past (Shows bot ∷ []) w before after)
   show_put (Ok u) w bot before after added = λ past stands. show_does past w bot before after stands added
   show_put (Err e) w bot before after added = tt
 
   -- one outcome of one step, whose lines were put
   LeadsTo-one : (past : Past) (w : Net) (step : Step) (o : Outcome) (outcomes : List Outcome) (before after : List ℕ) → length outcomes ≡ 1
-      → o ≡ get_or outcomes 0 o → LeadsTo code_of may past (take (length outcomes) (step ∷ [])) outcomes w → IsMade o
-      → after ≡ before ++ outcome_text w.packets o → Does code_of may past (Makes step ∷ []) w before after
+      → o ≡ get_or outcomes 0 o → LeadsTo promised past (take (length outcomes) (step ∷ [])) outcomes w → IsMade o
+      → after ≡ before ++ outcome_text w.packets o → Does promised past (Makes step ∷ []) w before after
   LeadsTo-one past w step o [] before after one is led made added = absurd (omega (arith, one))
   LeadsTo-one past w step o (p ∷ q ∷ rest) before after one is led made added = absurd (omega (arith, one))
   LeadsTo-one past w step o (p ∷ []) before after one is led made added =
@@ -148,57 +146,57 @@ module _ (code_of : List ℕ → Call → Code) (may : List ℕ → Call → Lis
   pub outcome_put : {E : Type 0} (r : Result Unit E) (old new : Net) (step : Step) (steps : List Step) (o : Outcome) (outcomes : List Outcome)
       (before after : List ℕ)
       → steps ≡ step ∷ [] → length outcomes ≡ 1 → o ≡ get_or outcomes 0 o
-      → ((past : Past) → Stands code_of may old past → LeadsTo code_of may past (take (length outcomes) steps) outcomes new)
+      → ((past : Past) → Stands promised old past → LeadsTo promised past (take (length outcomes) steps) outcomes new)
       → OnOk r (IsMade o) → OnOk r (after ≡ before ++ outcome_text new.packets o)
-      → OnOk r ((past : Past) → Stands code_of may old past → Does code_of may past (Makes step ∷ []) new before after)
+      → OnOk r ((past : Past) → Stands promised old past → Does promised past (Makes step ∷ []) new before after)
   outcome_put (Ok u) old new step steps o outcomes before after only one is led made added = λ past stands.
       LeadsTo-one past new step o outcomes before after one is
-      (subst (λ (l : List Step). LeadsTo code_of may past (take (length outcomes) l) outcomes new) only (led past stands)) made added
+      (subst (λ (l : List Step). LeadsTo promised past (take (length outcomes) l) outcomes new) only (led past stands)) made added
   outcome_put (Err e) old new step steps o outcomes before after only one is led made added = tt
 
   -- one more step of a list, and one more command
   pub Does-step : (past : Past) (steps : List Step) (i : ℕ) (step : Step) (w v : Net) (before mid after : List ℕ) → i < length steps → step ≡ get_or steps i step
-      → Does code_of may past (map Makes (take i steps)) w before mid
-      → ((p : Past) → Stands code_of may w p → Does code_of may p (Makes step ∷ []) v mid after)
-      → Does code_of may past (map Makes (take (i + 1) steps)) v before after
+      → Does promised past (map Makes (take i steps)) w before mid
+      → ((p : Past) → Stands promised w p → Does promised p (Makes step ∷ []) v mid after)
+      → Does promised past (map Makes (take (i + 1) steps)) v before after
   Does-step past steps i step w v before mid after within is one next =
       let front : take (i + 1) steps ≡ take i steps ++ step ∷ [] =
       take_more steps i step within ∙ ap (λ (s : Step). take i steps ++ s ∷ []) (sym is) in
       let same : map Makes (take (i + 1) steps) ≡ map Makes (take i steps) ++ Makes step ∷ [] =
       ap (map Makes) front ∙ map-append Makes (take i steps) (step ∷ []) in
-      subst (λ (ds : List Deed). Does code_of may past ds v before after) (sym same)
+      subst (λ (ds : List Deed). Does promised past ds v before after) (sym same)
       (Does-more past (map Makes (take i steps)) (Makes step ∷ []) w v before mid after one next)
 
   pub Does-command : (past : Past) (commands : List Command) (i : ℕ) (command : Command) (w v : Net) (before mid after : List ℕ) → i < length commands
       → command ≡ get_or commands i command
-      → Does code_of may past (deeds_of (take i commands)) w before mid
-      → ((p : Past) → Stands code_of may w p → Does code_of may p (command_deeds command) v mid after)
-      → Does code_of may past (deeds_of (take (i + 1) commands)) v before after
+      → Does promised past (deeds_of (take i commands)) w before mid
+      → ((p : Past) → Stands promised w p → Does promised p (command_deeds command) v mid after)
+      → Does promised past (deeds_of (take (i + 1) commands)) v before after
   Does-command past commands i command w v before mid after within is one next =
       let front : take (i + 1) commands ≡ take i commands ++ command ∷ [] =
       take_more commands i command within ∙ ap (λ (c : Command). take i commands ++ c ∷ []) (sym is) in
       let same : deeds_of (take (i + 1) commands) ≡ deeds_of (take i commands) ++ command_deeds command =
       ap deeds_of front ∙ flat_map-append command_deeds (take i commands) (command ∷ [])
       ∙ ap (λ (ds : List Deed). deeds_of (take i commands) ++ ds) (append-nil (command_deeds command)) in
-      subst (λ (ds : List Deed). Does code_of may past ds v before after) (sym same)
+      subst (λ (ds : List Deed). Does promised past ds v before after) (sym same)
       (Does-more past (deeds_of (take i commands)) (command_deeds command) w v before mid after one next)
 
   -- and all of them
   pub Does-steps : (past : Past) (steps : List Step) (count : ℕ) (w : Net) (before after : List ℕ) → length steps ≤ count
-      → Does code_of may past (map Makes (take count steps)) w before after → Does code_of may past (map Makes steps) w before after
+      → Does promised past (map Makes (take count steps)) w before after → Does promised past (map Makes steps) w before after
   Does-steps past steps count w before after all does =
-      subst (λ (l : List Step). Does code_of may past (map Makes l) w before after) (take_all count steps all) does
+      subst (λ (l : List Step). Does promised past (map Makes l) w before after) (take_all count steps all) does
 
   pub Does-commands : (past : Past) (commands : List Command) (count : ℕ) (w : Net) (before after : List ℕ) → length commands ≤ count
-      → Does code_of may past (deeds_of (take count commands)) w before after → Does code_of may past (deeds_of commands) w before after
+      → Does promised past (deeds_of (take count commands)) w before after → Does promised past (deeds_of commands) w before after
   Does-commands past commands count w before after all does =
-      subst (λ (l : List Command). Does code_of may past (deeds_of l) w before after) (take_all count commands all) does
+      subst (λ (l : List Command). Does promised past (deeds_of l) w before after) (take_all count commands all) does
 
   -- the text of deeds from the first moment on
   pub Does-first : (s : State) (given commands : List Command) (w : Net) (before text : List ℕ) → before ≡ [] → given ≡ commands
-      → Does code_of may (beginning s) (deeds_of given) w before text → IsDoneFrom code_of may s (deeds_of commands) text
+      → Does promised (beginning s) (deeds_of given) w before text → IsDoneFrom promised s (deeds_of commands) text
   Does-first s given commands w before text none same does =
-      subst (λ (l : List Command). IsDoneFrom code_of may s (deeds_of l) text) same (record {
+      subst (λ (l : List Command). IsDoneFrom promised s (deeds_of l) text) same (record {
         moments = does.moments;
         last = does.last;
         run = does.run;

@@ -7,9 +7,7 @@ use Rattle.streams.specs.Transfers.{ReadsUpTo, WritesFront, WritesOut}
 use Rattle.streams.proofs.ReadLemmas.{ReadsUpTo-known}
 use Rattle.bytetext.specs.declared.failure.Failure.{Failure}
 use Rattle.bytetext.specs.declared.failure.Failure.TheVariants.{Refused, NoMemory as failed_no_memory}
-use Rattle.procstore.specs.declared.action.Action.{Action}
-use Rattle.procstore.specs.declared.call.Call.{Call}
-use Rattle.procstore.specs.declared.reply.Code.{Code}
+use Rattle.procstore.specs.Promises.{Promised}
 use Rattle.script.specs.declared.TheConstants.{MAX_SCRIPT}
 use Rattle.script.specs.declared.error.ScriptFault.{ScriptFault}
 use Rattle.script.specs.declared.reading.Script.{Script}
@@ -61,16 +59,16 @@ EndsEarly-of old new given bytes (Err e) same gives has =
 
 -- what was asked of a replay with these procs ---------------------------------------------------------------------------
 
-module _ (code_of : List ℕ → Call → Code) (may : List ℕ → Call → List Action → Type 0) (names : List (List ℕ)) where
+module _ (promised : Promised) (names : List (List ℕ)) where
   pub Plays-of : {E : Type 0} (old new : Source) (given bytes : List ℕ) (r : Result (Vec ℕ Global) E) → given ≡ bytes → GivesScript old bytes new
-      → IfOk r (λ text. IsTranscript code_of may names given text.items) → IfOk r (λ text. Plays code_of may names old text.items new)
+      → IfOk r (λ text. IsTranscript promised names given text.items) → IfOk r (λ text. Plays promised names old text.items new)
   Plays-of old new given bytes (Ok text) same gives is =
-      (bytes, gives, subst (λ (xs : List ℕ). IsTranscript code_of may names xs text.items) same is)
+      (bytes, gives, subst (λ (xs : List ℕ). IsTranscript promised names xs text.items) same is)
   Plays-of old new given bytes (Err e) same gives is = tt
 
   -- where nothing is written
   pub Ends-early : (e : ReplayError) (source left : Source) (sink taken : Sink) → EndsEarly e source left → taken ≡ sink
-      → Ends code_of may names source sink (Err e) left taken
+      → Ends promised names source sink (Err e) left taken
   Ends-early (script_fault fault) source left sink taken early same = (early, same)
   Ends-early Read source left sink taken early same = (early, same)
   Ends-early Write source left sink taken early same = absurd early
@@ -78,16 +76,16 @@ module _ (code_of : List ℕ → Call → Code) (may : List ℕ → Call → Lis
 
   -- where a text is
   pub Ends-written : (r : Result Unit ReplayError) (source between left : Source) (sink middle taken : Sink) (text written : List ℕ)
-      → Plays code_of may names source text between → written ≡ text → left ≡ between → middle ≡ sink → OnOk r (WritesOut middle written taken)
-      → IfErr r (λ e. (e ≡ Write) × WritesFront middle written taken) → Ends code_of may names source sink r left taken
+      → Plays promised names source text between → written ≡ text → left ≡ between → middle ≡ sink → OnOk r (WritesOut middle written taken)
+      → IfErr r (λ e. (e ≡ Write) × WritesFront middle written taken) → Ends promised names source sink r left taken
   Ends-written (Ok u) source between left sink middle taken text written plays is other same whole front = (
     text,
-    subst (λ (x : Source). Plays code_of may names source text x) (sym other) plays,
+    subst (λ (x : Source). Plays promised names source text x) (sym other) plays,
     subst (λ (x : Sink). WritesOut x text taken) same (subst (λ (xs : List ℕ). WritesOut middle xs taken) is whole),
   )
   Ends-written (Err Write) source between left sink middle taken text written plays is other same whole front = (
     text,
-    subst (λ (x : Source). Plays code_of may names source text x) (sym other) plays,
+    subst (λ (x : Source). Plays promised names source text x) (sym other) plays,
     subst (λ (x : Sink). WritesFront x text taken) same (subst (λ (xs : List ℕ). WritesFront middle xs taken) is front.1),
   )
   Ends-written (Err (script_fault fault)) source between left sink middle taken text written plays is other same whole front =
@@ -99,7 +97,7 @@ module _ (code_of : List ℕ → Call → Code) (may : List ℕ → Call → Lis
 
   -- a transcript of what was read has no fault, nor has what was known
   no_fault : (known : Option (List ℕ)) (bytes text input : List ℕ) (line : ℕ) → IfSome known (λ xs. bytes ≡ take (MAX_SCRIPT + 1) xs)
-      → IsTranscript code_of may names bytes text → known ≡ Some input → HasFault input line → ⊥
+      → IsTranscript promised names bytes text → known ≡ Some input → HasFault input line → ⊥
   no_fault None bytes text input line first is e fault = cc
   no_fault (Some xs) bytes text input line first is e fault =
       let all : xs ≡ input = cc in
@@ -117,7 +115,7 @@ module _ (code_of : List ℕ → Call → Code) (may : List ℕ → Call → Lis
 
   -- so a fault is told
   pub TellsLine-at : (source left : Source) (sink taken : Sink) (result : Result Unit ReplayError)
-      → Ends code_of may names source sink result left taken
+      → Ends promised names source sink result left taken
       → (input : List ℕ) (line : ℕ) → source.left ≡ Some input → HasFault input line → TellsLine line result
   TellsLine-at source left sink taken (Ok u) (text, (bytes, gives, is), writes) input line e fault =
       no_fault source.left bytes text input line gives.known is e fault

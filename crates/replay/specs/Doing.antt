@@ -1,8 +1,6 @@
 -- How a world and a text stand to deeds that were done.
 use Rattle.std.specs.Prelude.{◌≡◌, ℕ, List, ◌++◌}
-use Rattle.procstore.specs.declared.action.Action.{Action}
-use Rattle.procstore.specs.declared.call.Call.{Call}
-use Rattle.procstore.specs.declared.reply.Code.{Code}
+use Rattle.procstore.specs.Promises.{Promised}
 use Rattle.bottimers.specs.Zones.{TzText}
 use Rattle.botworld.specs.Net.{Net}
 use Rattle.botworld.specs.Network.{State, AllMade}
@@ -12,30 +10,30 @@ use Rattle.replay.specs.Starting.{IsFirst}
 
 -- From a past of the world, its next steps were just those of the deeds, none of them ended for want of memory, and what
 -- the deeds print was added to the text.
-pub record Does (code_of : List ℕ → Call → Code) (may : List ℕ → Call → List Action → Type 0)
+pub record Does (promised : Promised)
     (past : Past) (deeds : List Deed) (w : Net) (before after : List ℕ) : Type 0 where
   pub moments : List Moment
   pub last : State
-  pub run : Run code_of may past.now moments last
+  pub run : Run promised past.now moments last
   pub steps : steps_of moments ≡ steps_in deeds
   pub made : AllMade (outcomes_of moments)
   pub added : after ≡ before ++ deeds_text past.now deeds moments
-  pub stands : Stands code_of may w (later past moments last)
+  pub stands : Stands promised w (later past moments last)
 
 -- The text tells the deeds, from a first moment on: a run of the network of just their steps, of which none ended for
 -- want of memory.
-pub record IsDoneFrom (code_of : List ℕ → Call → Code) (may : List ℕ → Call → List Action → Type 0)
+pub record IsDoneFrom (promised : Promised)
     (first : State) (deeds : List Deed) (text : List ℕ) : Type 0 where
   pub moments : List Moment
   pub last : State
-  pub run : Run code_of may first moments last
+  pub run : Run promised first moments last
   pub steps : steps_of moments ≡ steps_in deeds
   pub made : AllMade (outcomes_of moments)
   pub tells : text ≡ deeds_text first deeds moments
 
 -- The same from a hub and its leaves in a zone, of which each is new.
-pub record IsDoneByNew (code_of : List ℕ → Call → Code) (may : List ℕ → Call → List Action → Type 0)
+pub record IsDoneByNew (promised : Promised)
     (leaves : ℕ) (zone : TzText) (names : List (List ℕ)) (deeds : List Deed) (text : List ℕ) : Type 0 where
   pub first : State
   pub begins : IsFirst leaves zone names first
-  pub done : IsDoneFrom code_of may first deeds text
+  pub done : IsDoneFrom promised first deeds text

@@ -2,9 +2,7 @@
 use Rattle.std.specs.Prelude.{◌≡◌, ℕ, ◌+◌, List, take, IfSome, Result, Ok, Err}
 use Rattle.streams.specs.State.{Source, Sink}
 use Rattle.streams.specs.Transfers.{FailsToGive, ReadsUpTo, WritesFront, WritesOut}
-use Rattle.procstore.specs.declared.action.Action.{Action}
-use Rattle.procstore.specs.declared.call.Call.{Call}
-use Rattle.procstore.specs.declared.reply.Code.{Code}
+use Rattle.procstore.specs.Promises.{Promised}
 use Rattle.script.specs.declared.TheConstants.{MAX_SCRIPT}
 use Rattle.script.specs.Reading.{HasFault}
 use Rattle.replay.specs.declared.error.ReplayError.{ReplayError}
@@ -33,9 +31,9 @@ IsTranscriptFault bytes Write = ⊥
 IsTranscriptFault bytes NoMemory = Unit {0}
 
 -- the stream gave the bytes of a script, and this is its transcript
-abbrev pub Plays : (List ℕ → Call → Code) → (List ℕ → Call → List Action → Type 0) → List (List ℕ)
+abbrev pub Plays : Promised → List (List ℕ)
     → Source → List ℕ → Source → Type 0
-Plays code_of may names old text new = (bytes : List ℕ) × GivesScript old bytes new × IsTranscript code_of may names bytes text
+Plays promised names old text new = (bytes : List ℕ) × GivesScript old bytes new × IsTranscript promised names bytes text
 
 -- what a fault before the first write means
 abbrev pub EndsEarly : ReplayError → Source → Source → Type 0
@@ -48,15 +46,15 @@ EndsEarly NoMemory old new = Unit {0}
 
 -- What an answer means for what the stream gave and took: the transcript of what was read is written whole and flushed; or
 -- nothing is written, and why; or a front of it is, and then the stream took no more.
-abbrev pub Ends : (List ℕ → Call → Code) → (List ℕ → Call → List Action → Type 0) → List (List ℕ)
+abbrev pub Ends : Promised → List (List ℕ)
     → Source → Sink → Result Unit ReplayError → Source → Sink → Type 0
-Ends code_of may names source sink (Ok _) left taken =
-    (text : List ℕ) × Plays code_of may names source text left × WritesOut sink text taken
-Ends code_of may names source sink (Err (script_fault fault)) left taken = EndsEarly (script_fault fault) source left × (taken ≡ sink)
-Ends code_of may names source sink (Err Read) left taken = EndsEarly Read source left × (taken ≡ sink)
-Ends code_of may names source sink (Err Write) left taken =
-    (text : List ℕ) × Plays code_of may names source text left × WritesFront sink text taken
-Ends code_of may names source sink (Err NoMemory) left taken = taken ≡ sink
+Ends promised names source sink (Ok _) left taken =
+    (text : List ℕ) × Plays promised names source text left × WritesOut sink text taken
+Ends promised names source sink (Err (script_fault fault)) left taken = EndsEarly (script_fault fault) source left × (taken ≡ sink)
+Ends promised names source sink (Err Read) left taken = EndsEarly Read source left × (taken ≡ sink)
+Ends promised names source sink (Err Write) left taken =
+    (text : List ℕ) × Plays promised names source text left × WritesFront sink text taken
+Ends promised names source sink (Err NoMemory) left taken = taken ≡ sink
 
 -- a script with a fault is answered with the line of the fault, unless reading fails or memory runs out before it is seen
 abbrev pub TellsLine : ℕ → Result Unit ReplayError → Type 0

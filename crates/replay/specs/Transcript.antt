@@ -2,9 +2,7 @@
 use Rattle.std.specs.Prelude.{◌≡◌, ℕ, List, Result, Ok, Err}
 use Rattle.bytetext.specs.declared.failure.Failure.{Failure}
 use Rattle.bytetext.specs.declared.failure.Failure.TheVariants.{Refused, NoMemory}
-use Rattle.procstore.specs.declared.action.Action.{Action}
-use Rattle.procstore.specs.declared.call.Call.{Call}
-use Rattle.procstore.specs.declared.reply.Code.{Code}
+use Rattle.procstore.specs.Promises.{Promised}
 use Rattle.script.specs.declared.reading.Script.{Script}
 use Rattle.script.specs.declared.error.ScriptFault.{ScriptFault}
 use Rattle.script.specs.Reading.{Spells, HasFault}
@@ -14,11 +12,11 @@ use Rattle.replay.specs.Starting.{zone_or_utc}
 
 -- This text is a transcript of the script that these bytes spell, with procs of these names. What the procs answer is
 -- bound by their promise alone, so a script may have more than one.
-pub record IsTranscript (code_of : List ℕ → Call → Code) (may : List ℕ → Call → List Action → Type 0)
+pub record IsTranscript (promised : Promised)
     (names : List (List ℕ)) (bytes text : List ℕ) : Type 0 where
   pub script : Script
   pub spells : Spells bytes script
-  pub tells : IsDoneByNew code_of may script.leaves (zone_or_utc script.zone) names (deeds_of script.commands) text
+  pub tells : IsDoneByNew promised script.leaves (zone_or_utc script.zone) names (deeds_of script.commands) text
 
 -- a fault is told only where the bytes have it
 abbrev pub IsRefusedRightly : {T : Type 0} → List ℕ → Result T (Failure ScriptFault) → Type 0

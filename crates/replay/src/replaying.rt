@@ -28,7 +28,7 @@ pub fn replay<P: Promise, B: Run, S: Stream>(
     stream: &mut S,
 ) -> Result<(), ReplayError>
     // What each answer means for what was read and written.
-    ensures ends { Ends P.code_of P.may store (S.source stream.old) (S.sink stream.old) result (S.source stream.new)
+    ensures ends { Ends P.promised store (S.source stream.old) (S.sink stream.old) result (S.source stream.new)
         (S.sink stream.new) }
     // A script with a fault is answered with its first faulty line.
     ensures faulty { (input : List ℕ) (line : ℕ) → (S.source stream.old).left ≡ Some input → HasFault input line
@@ -43,7 +43,7 @@ fn read_and_write<P: Promise, B: Run, S: Stream>(
     store: ProcStore<P, B>,
     stream: &mut S,
 ) -> Result<(), ReplayError>
-    ensures { Ends P.code_of P.may store (S.source stream.old) (S.sink stream.old) result (S.source stream.new)
+    ensures { Ends P.promised store (S.source stream.old) (S.sink stream.old) result (S.source stream.new)
         (S.sink stream.new) }
 {
     let text = match read_and_do(alloc, store, stream) {
@@ -59,7 +59,7 @@ fn read_and_do<P: Promise, B: Run, S: Stream>(
     store: ProcStore<P, B>,
     stream: &mut S,
 ) -> Result<Vec<u8>, ReplayError>
-    ensures ok { IfOk result (λ text. Plays P.code_of P.may store (S.source stream.old) text.items
+    ensures ok { IfOk result (λ text. Plays P.promised store (S.source stream.old) text.items
         (S.source stream.new)) }
     ensures err { IfErr result (λ e. EndsEarly e (S.source stream.old) (S.source stream.new)) }
     ensures other { S.sink stream.new ≡ S.sink stream.old }
@@ -77,7 +77,7 @@ fn transcript_in<P: Promise, B: Run>(
     store: ProcStore<P, B>,
     bytes: &[u8],
 ) -> Result<Vec<u8>, ReplayError>
-    ensures ok { IfOk result (λ text. IsTranscript P.code_of P.may store bytes.now text.items) }
+    ensures ok { IfOk result (λ text. IsTranscript P.promised store bytes.now text.items) }
     ensures err { IfErr result (λ e. IsTranscriptFault bytes.now e) }
 {
     match transcript(alloc, store, bytes) {

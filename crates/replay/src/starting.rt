@@ -33,7 +33,7 @@ pub fn new_world<P: Promise, B: Run>(
     zone: &Zone,
 ) -> Result<World<P, SteadyDisk, B>, NoMemory>
     requires { leaves ≤ MAX_LEAVES }
-    ensures { IfOk result (λ w. (first : State) × IsFirst leaves zone.now store first × Stands P.code_of P.may w (beginning first)) }
+    ensures { IfOk result (λ w. (first : State) × IsFirst leaves zone.now store first × Stands P.promised w (beginning first)) }
 {
     match World::new(alloc, new_bots(alloc, leaves, zone)?, store) {
         Ok(world) => Ok(world),

@@ -32,7 +32,7 @@ pub fn transcript<P: Promise, B: Run>(
     store: ProcStore<P, B>,
     script: &[u8],
 ) -> Result<Vec<u8>, ScriptError>
-    ensures whole { IfOk result (λ text. IsTranscript P.code_of P.may store script.now text.items) }
+    ensures whole { IfOk result (λ text. IsTranscript P.promised store script.now text.items) }
     ensures refused { IsRefusedRightly script.now result }
     // A script with a fault is answered with its first faulty line, unless memory runs out before that is seen.
     ensures faulty { (line : ℕ) → HasFault script.now line → TellsFault line result }
@@ -52,7 +52,7 @@ fn text_of<P: Promise, B: Run>(
     script: Script,
 ) -> Result<Vec<u8>, NoMemory>
     requires { script.leaves ≤ MAX_LEAVES }
-    ensures { IfOk result (λ text. IsDoneByNew P.code_of P.may script.leaves (zone_or_utc script.zone) store
+    ensures { IfOk result (λ text. IsDoneByNew P.promised script.leaves (zone_or_utc script.zone) store
         (deeds_of script.commands) text.items) }
 {
     let Script {
@@ -73,8 +73,8 @@ fn put_commands<P: Promise, D: Disk, B: Run>(
     world: &mut World<P, D, B>,
     commands: &[Command],
 ) -> Result<(), NoMemory>
-    ensures { OnOk result ((past : Past) → Stands P.code_of P.may world.old past
-        → Does P.code_of P.may past (deeds_of commands.now) world.new text.old.items text.new.items) }
+    ensures { OnOk result ((past : Past) → Stands P.promised world.old past
+        → Does P.promised past (deeds_of commands.now) world.new text.old.items text.new.items) }
 {
     for command in commands {
         put_command(alloc, text, world, command)?;
@@ -89,8 +89,8 @@ fn put_command<P: Promise, D: Disk, B: Run>(
     world: &mut World<P, D, B>,
     command: &Command,
 ) -> Result<(), NoMemory>
-    ensures { OnOk result ((past : Past) → Stands P.code_of P.may world.old past
-        → Does P.code_of P.may past (command_deeds command.now) world.new text.old.items text.new.items) }
+    ensures { OnOk result ((past : Past) → Stands P.promised world.old past
+        → Does P.promised past (command_deeds command.now) world.new text.old.items text.new.items) }
 {
     match command {
         Command::Steps(steps) => put_steps(alloc, text, world, steps.as_slice()),
@@ -105,8 +105,8 @@ fn put_show<P: Promise, D: Disk, B: Run>(
     world: &World<P, D, B>,
     bot: u16,
 ) -> Result<(), NoMemory>
-    ensures { OnOk result ((past : Past) → Stands P.code_of P.may world.now past
-        → Does P.code_of P.may past (Shows bot ∷ []) world.now text.old.items text.new.items) }
+    ensures { OnOk result ((past : Past) → Stands P.promised world.now past
+        → Does P.promised past (Shows bot ∷ []) world.now text.old.items text.new.items) }
 {
     put_shown(alloc, text, world, bot)
 }
@@ -118,8 +118,8 @@ fn put_steps<P: Promise, D: Disk, B: Run>(
     world: &mut World<P, D, B>,
     steps: &[Step],
 ) -> Result<(), NoMemory>
-    ensures { OnOk result ((past : Past) → Stands P.code_of P.may world.old past
-        → Does P.code_of P.may past (map Makes steps.now) world.new text.old.items text.new.items) }
+    ensures { OnOk result ((past : Past) → Stands P.promised world.old past
+        → Does P.promised past (map Makes steps.now) world.new text.old.items text.new.items) }
 {
     for step in steps {
         put_step(alloc, text, world, step)?;
@@ -134,8 +134,8 @@ fn put_step<P: Promise, D: Disk, B: Run>(
     world: &mut World<P, D, B>,
     step: &Step,
 ) -> Result<(), NoMemory>
-    ensures { OnOk result ((past : Past) → Stands P.code_of P.may world.old past
-        → Does P.code_of P.may past (Makes step.now ∷ []) world.new text.old.items text.new.items) }
+    ensures { OnOk result ((past : Past) → Stands P.promised world.old past
+        → Does P.promised past (Makes step.now ∷ []) world.new text.old.items text.new.items) }
 {
     let transcript = world.run(alloc, slice::from_ref(step));
     if transcript.cut {

@@ -70,7 +70,7 @@ pub fn take_turn<P: Promise, D: Disk, B: Run>(
     heard: Heard,
 ) -> Told
     requires good { AllByRecursion HasGoodRecords heard.packets.items }
-    ensures turn { Turns P.code_of P.may store.now bot.old lines.old heard result bot.new lines.new }
+    ensures turn { Turns P.promised store.now bot.old lines.old heard result bot.new lines.new }
     ensures good { AllGood result.reports }
 {
     let mut reports = Vec::new(alloc);
@@ -102,8 +102,8 @@ fn step_all<P: Promise, D: Disk, B: Run>(
 ) -> Result<(), NoMemory>
     requires none { reports.old.items ≡ [] }
     requires good { AllByRecursion IsTurnEvent events.items }
-    ensures ok { OnOk result (Steps P.code_of P.may store.now bot.old events.items reports.new.items bot.new) }
-    ensures err { OnErr result (StepsFirst P.code_of P.may store.now bot.old events.items reports.new.items bot.new) }
+    ensures ok { OnOk result (Steps P.promised store.now bot.old events.items reports.new.items bot.new) }
+    ensures err { OnErr result (StepsFirst P.promised store.now bot.old events.items reports.new.items bot.new) }
     ensures good { AllGood reports.new.items }
 {
     for event in events {
@@ -122,8 +122,8 @@ fn step_one<P: Promise, D: Disk, B: Run>(
     reports: &mut Vec<Report>,
 ) -> Result<(), NoMemory>
     requires good { IsTurnEvent event }
-    ensures ok { OnOk result (IsTold P.code_of P.may store.now bot.old event reports.old.items reports.new.items bot.new) }
-    ensures stops { OnErr result (Stops P.code_of P.may store.now bot.old event bot.new) }
+    ensures ok { OnOk result (IsTold P.promised store.now bot.old event reports.old.items reports.new.items bot.new) }
+    ensures stops { OnErr result (Stops P.promised store.now bot.old event bot.new) }
     ensures err { OnErr result (reports.new.items ≡ reports.old.items) }
 {
     reports.reserve(1)?;

@@ -46,10 +46,11 @@
 //! WHO is `nick!user@host`. A CHANGE is one word that holds a change as a script asks for it, and the changes make a
 //! userfile of the empty one, in order. The answer is the code of the first change that is refused, if one is.
 //!
-//! The steps of `timers` are `timer LAST INTERVAL COUNT PROC` and `utimer LAST INTERVAL COUNT PROC`, which make a timer
-//! and answer its id or the code, where LAST is the clock's last second or `-` for none; `due SECOND`, which answers id
-//! and proc of each call or `none`; `kill ID`, which answers `killed` or the code; and `list`, which answers `KIND LEFT
-//! PROC ID REPEATS` of each timer or `none`. Seconds don't fall, and `due` wants a later one.
+//! The steps of `timers` are `timer LAST INTERVAL COUNT PROC TEXT` and `utimer LAST INTERVAL COUNT PROC TEXT`, which make a
+//! timer and answer its id or the code, where LAST is the clock's last second or `-` for none; `due SECOND`, which answers
+//! `ID PROC TEXT` of each call or `none`; `kill ID` and `killnamed PROC TEXT`, which answer `killed` or the code; and
+//! `list`, which answers `KIND LEFT PROC ID REPEATS TEXT` of each timer or `none`. A TEXT may have spaces, and is left out
+//! where it is empty. Seconds don't fall, and `due` wants a later one.
 //!
 //! The steps of `queues` are `put QUEUE COUNT LINE`, which puts a line so often and answers `ok` or the code of the first
 //! refusal; `reserved QUEUE LINE`, which puts it into room that was made before, and answers the same; `take NOW` and

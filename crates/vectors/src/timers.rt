@@ -2,17 +2,18 @@
 ghost use Rattle.std.specs.Prelude.{IsTrue};
 ghost use Rattle.bottimers.specs.Held.{IsAbove, IsNotBelow};
 
-use bottimers::{ClockError, TimerKind, TimerStatus, Timers};
+use bottimers::{ClockError, ClockFault, TimerKind, TimerStatus, Timers};
 use bytetext::{Text, TryCopy, copies_of};
 use caselines::{BAD_NUMBER, BAD_WORDS, CaseError, Sink, cut, number};
 use std::alloc::Global;
 use std::marker::Model;
 
 /// `timers STEP..`: what each step answers, with ` ; ` between. A step is one word:
-/// `timer LAST INTERVAL COUNT PROC` and `utimer LAST INTERVAL COUNT PROC` make a timer and answer its id, or the code of
-/// the refusal, where LAST is the clock's last second or `-`; `kill ID` answers `killed` or the code; `list` answers
-/// `KIND LEFT PROC ID REPEATS` of each timer, or `none`; `due SECOND` answers id and proc of each call, or `none`. The
-/// timers are copied before each step.
+/// `timer LAST INTERVAL COUNT PROC TEXT` and `utimer LAST INTERVAL COUNT PROC TEXT` make a timer and answer its id, or the
+/// code of the refusal, where LAST is the clock's last second or `-`; `kill ID` and `killnamed PROC TEXT` answer `killed`
+/// or the code; `list` answers `KIND LEFT PROC ID REPEATS TEXT` of each timer, or `none`; `due SECOND` answers
+/// `ID PROC TEXT` of each call, or `none`. A TEXT may have spaces; where it is empty, it is left out with the space before
+/// it. The timers are copied before each step.
 pub fn timers(alloc: Global, words: &[Text], out: &mut Sink) -> Result<(), CaseError> {
     let mut watch = Watch {
         timers: Timers::new(alloc),
@@ -32,14 +33,16 @@ enum Step {
     Add(TimerKind),
     Due,
     Kill,
+    KillNamed,
     List,
 }
 
-const STEPS: [(&[u8], Step); 5] = [
+const STEPS: [(&[u8], Step); 6] = [
     (b"timer", Step::Add(TimerKind::Minutes)),
     (b"utimer", Step::Add(TimerKind::Seconds)),
     (b"due", Step::Due),
     (b"kill", Step::Kill),
+    (b"killnamed", Step::KillNamed),
     (b"list", Step::List),
 ];
 
@@ -61,7 +64,7 @@ impl Model for Watch {
 }
 
 impl Watch {
-    // LAST INTERVAL COUNT PROC
+    // LAST INTERVAL COUNT PROC TEXT
     fn add(
         &mut self,
         alloc: Global,
@@ -71,13 +74,15 @@ impl Watch {
     ) -> Result<(), CaseError> {
         let (last, rest) = cut(rest, b' ');
         let (interval, rest) = cut(rest, b' ');
-        let (count, proc) = cut(rest, b' ');
+        let (count, rest) = cut(rest, b' ');
+        let (proc, text) = cut(rest, b' ');
         let (last, interval, count) = (reading(last)?, number(interval)?, number(count)?);
         if !may_add(self.last, last) {
             return Err(BAD_NUMBER);
         }
         let proc = Text::from_slice(alloc, proc)?;
-        match self.timers.add(kind, interval, count, proc, last) {
+        let text = Text::from_slice(alloc, text)?;
+        match self.timers.add(kind, interval, count, proc, text, last) {
             Ok(id) => {
                 self.last = Some(last.unwrap_or(0));
                 out.number(id as u64);
@@ -94,21 +99,25 @@ impl Watch {
         }
         let calls = self.timers.due(alloc, second)?;
         self.last = Some(second);
-        for (i, (id, proc)) in calls.iter().enumerate() {
+        for (i, call) in calls.iter().enumerate() {
             out.between(b", ", i);
-            out.number(*id as u64);
+            out.number(call.id as u64);
             out.put(b" ");
-            out.put(proc.as_bytes());
+            out.put(call.proc.as_bytes());
+            text_shown(&call.text, out);
         }
         out.put_if(calls.is_empty(), b"none");
         Ok(())
     }
 
     fn kill(&mut self, id: u32, out: &mut Sink) {
-        match self.timers.kill(id) {
-            Ok(()) => out.put(b"killed"),
-            Err(fault) => out.put(fault.code().as_bytes()),
-        }
+        kill_shown(self.timers.kill(id), out);
+    }
+
+    // PROC TEXT
+    fn kill_named(&mut self, rest: &[u8], out: &mut Sink) {
+        let (proc, text) = cut(rest, b' ');
+        kill_shown(self.timers.kill_named(proc, text), out);
     }
 
     fn list(&self, alloc: Global, out: &mut Sink) -> Result<(), CaseError> {
@@ -131,6 +140,7 @@ fn make(alloc: Global, watch: &mut Watch, step: &[u8], out: &mut Sink) -> Result
         Step::Add(kind) => return watch.add(alloc, kind, rest, out),
         Step::Due => return watch.due(alloc, number(rest)?, out),
         Step::Kill => watch.kill(number(rest)?, out),
+        Step::KillNamed => watch.kill_named(rest, out),
         Step::List => return watch.list(alloc, out),
     }
     Ok(())
@@ -164,7 +174,23 @@ fn is_later(last: Option<u64>, second: u64) -> bool
     }
 }
 
-// KIND LEFT PROC ID REPEATS
+// What a kill answers.
+fn kill_shown(answer: Result<(), ClockFault>, out: &mut Sink) {
+    match answer {
+        Ok(()) => out.put(b"killed"),
+        Err(fault) => out.put(fault.code().as_bytes()),
+    }
+}
+
+// A space and the text of a timer, where it has one.
+fn text_shown(text: &Text, out: &mut Sink) {
+    if !text.is_empty() {
+        out.put(b" ");
+        out.put(text.as_bytes());
+    }
+}
+
+// KIND LEFT PROC ID REPEATS TEXT
 fn status_shown(status: &TimerStatus, out: &mut Sink) {
     match status.kind {
         TimerKind::Minutes => out.put(b"timer "),
@@ -177,4 +203,5 @@ fn status_shown(status: &TimerStatus, out: &mut Sink) {
     out.number(status.id as u64);
     out.put(b" ");
     out.number(status.repeats as u64);
+    text_shown(&status.text, out);
 }

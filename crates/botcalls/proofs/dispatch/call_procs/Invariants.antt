@@ -1,4 +1,5 @@
 use Rattle.std.proofs.Common.{◌≡◌, ◌++◌, List, length}
+use Rattle.procstore.specs.Promises.{code_at}
 use Rattle.botcalls.specs.Calls.{Telling}
 use Rattle.botcalls.specs.Made.{IsMade}
 use Rattle.botcalls.specs.Dispatching.{told_from, told_of}
@@ -9,10 +10,10 @@ use Rattle.botcalls.proofs.dispatch.call_procs.Given as goal
 abbrev pub invariant-loop-occasion : goal.invariant-loop-occasion
 invariant-loop-occasion g l =
     let scene = l.fn.scene in
-    let setting = setting_of g.P.Promise.code_of scene.store.now scene.userfile.now.users scene.binds.now.binds scene.exclusive in
-    (done : List Telling) × IsMade g.P.Promise.code_of g.P.Promise.may l.made done
+    let setting = setting_of (code_at g.P.Promise.promised scene.view.now.sight) scene.store.now scene.view.now.sight.records.users scene.binds.now.binds scene.exclusive in
+    (done : List Telling) × IsMade g.P.Promise.promised l.fn.scene.view.now l.made done
     × (done ++ told_from setting l.next l.rest ≡ told_of setting l.fn.occasions)
-    × (l.people ≡ scene.userfile.now.users)
+    × (l.people ≡ scene.view.now.sight.records.users)
 
 abbrev pub decreases-loop-occasion : goal.decreases-loop-occasion
 decreases-loop-occasion g l = length l.rest

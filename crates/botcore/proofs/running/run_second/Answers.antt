@@ -10,7 +10,7 @@ pub returns-clause-occasions : goal.returns-clause-occasions
 returns-clause-occasions c =
     let zone = c.args.config.now.zone in
     let calls = calls_at c.args.second c.args.timers.now in
-    let due = subst (AreOccasions (map (λ c. Due c.1) calls)) (sym c.in_ok-occasions.ensures.occasions) (due_occasions calls) in
+    let due = subst (AreOccasions (map (λ c. Due c.proc c.text) calls)) (sym c.in_ok-occasions.ensures.occasions) (due_occasions calls) in
     subst (AreOccasions (second_of zone c.args.second c.args.timers.now)) (sym c.in_ok-append.ensures.items)
-    (AreOccasions-append (map (λ c. Due c.1) calls) (minute_of zone c.args.second) c.in_ok-occasions.occasions.items c.in_ok-more.more.items
+    (AreOccasions-append (map (λ c. Due c.proc c.text) calls) (minute_of zone c.args.second) c.in_ok-occasions.occasions.items c.in_ok-more.more.items
     due c.in_ok-more.ensures)

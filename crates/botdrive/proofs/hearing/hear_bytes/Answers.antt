@@ -7,12 +7,12 @@ use Rattle.botdrive.proofs.hearing.hear_bytes.Goals as goal
 pub returns-in_err-ended-clause-err : goal.returns-in_err-ended-clause-err
 returns-in_err-ended-clause-err g c =
     OnErr-of c.from_residual.result
-    (HearsFirst-none g.P.Promise.code_of g.P.Promise.may c.args.store.now (course_of c.args.bot.now c.args.outbox.now)
+    (HearsFirst-none g.P.Promise.promised c.args.store.now (course_of c.args.bot.now c.args.outbox.now)
     c.args.lines.now c.args.bytes.now)
 
 pub returns-clause-err : goal.returns-clause-err
 returns-clause-err g c =
-    HearsFirst-if g.P.Promise.code_of g.P.Promise.may c.args.store.now (course_of c.args.bot.now c.args.outbox.now)
+    HearsFirst-if g.P.Promise.promised c.args.store.now (course_of c.args.bot.now c.args.outbox.now)
     (course_of c.step_lines.new.bot c.step_lines.new.outbox) c.args.lines.now c.args.bytes.now c.feed.new.self
     c.as_slice.result.now c.step_lines.result
     (record {

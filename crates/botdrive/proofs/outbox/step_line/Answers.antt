@@ -7,7 +7,7 @@ use Rattle.botdrive.proofs.outbox.step_line.Goals as goal
 
 pub returns-clause-ok : goal.returns-clause-ok
 returns-clause-ok g c =
-    Makes-if g.P.Promise.code_of g.P.Promise.may c.args.store.now (course_of c.args.bot.now c.args.outbox.now)
+    Makes-if g.P.Promise.promised c.args.store.now (course_of c.args.bot.now c.args.outbox.now)
     (course_of c.take_line-report.new.self c.put_report.new.self) _ c.take_line-report.result c.put_report.result _ _ _
     c.make_room.ensures.packets (ap (flat_map text_of) c.make_room.ensures.lines) c.make_room.ensures.outcomes c.take_line-report.ensures.takes
     c.put_report.ensures.made c.put_report.ensures.packets c.put_report.ensures.text c.put_report.ensures.outcomes

@@ -6,8 +6,8 @@ use Rattle.bottimers.proofs.EntryLists.{some_kept}
 use Rattle.bottimers.proofs.entries.push_due.Goals as goal
 
 -- memory is asked for only where some timer is due
-pub returns-in_err-copy-clause-needs_none : goal.returns-in_err-copy-clause-needs_none
-returns-in_err-copy-clause-needs_none c = λ none.
+pub returns-in_err-call-clause-needs_none : goal.returns-in_err-call-clause-needs_none
+returns-in_err-call-clause-needs_none c = λ none.
     let entries = c.args.entries.now in
     let at = c.loop-entry.entry-index in
     let passes : is_due_of c.args.kind c.args.to (get_or entries at c.entry-item.result).timer ≡ true = cc in

@@ -10,12 +10,12 @@ use Rattle.chanstate.proofs.newcomers.named_by.Goals as goal
 pub loop-word-preserved : goal.loop-word-preserved
 loop-word-preserved c =
     let one = c.in_ok-named_member.field-0 in
-    let before = filter_map named (map (λ x. x.now) c.loop-word.yielded) in
+    let before = filter_map (named c.args.support.now) (map (λ x. x.now) c.loop-word.yielded) in
     record {
       keyed = c.in_ok-push_some.ensures.keyed;
       named = c.in_ok-push_some.ensures.pushed ∙ ap (λ ms. ms ++ option_to_list one) c.loop-word.invariant.named
           ∙ ap (λ o. before ++ option_to_list o) c.in_ok-named_member.ensures
-          ∙ sym (named_more c.loop-word.yielded c.in-Some.word);
+          ∙ sym (named_more c.args.support.now c.loop-word.yielded c.in-Some.word);
     }
 
 pub returns-clause-named : goal.returns-clause-named
@@ -24,4 +24,4 @@ returns-clause-named c =
     (YieldsList-from_slice_split _ (λ b. eqb b 32) c.args.names.now c.split-word-items.ensures.rest c.split-word-items.ensures.done
     c.split-word-items.ensures.closure (λ x r q k. search (rules, tests)))) c.loop-word.yielded _ c.loop-word.yielded_by _ _ c.in-None.is
     c.next.ensures.steps in
-    c.loop-word.invariant.named ∙ ap (filter_map named) all.0
+    c.loop-word.invariant.named ∙ ap (filter_map (named c.args.support.now)) all.0

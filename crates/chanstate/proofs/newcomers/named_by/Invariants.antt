@@ -9,5 +9,5 @@ use Rattle.chanstate.proofs.newcomers.named_by.Given as goal
 abbrev pub invariant-loop-word : goal.invariant-loop-word
 invariant-loop-word l = record {
   keyed : AreUnder l.ones.items;
-  named : values_of l.ones.items ≡ filter_map named (map (λ x. x.now) l.yielded);
+  named : values_of l.ones.items ≡ filter_map (named l.support) (map (λ x. x.now) l.yielded);
 }

@@ -10,7 +10,7 @@ loop-byte-preserved c =
     let at = c.loop-byte in
     let less : at.byte-index < length c.args.letters.now = omega arith in
     let one = mode_on c.args.by.nick.now c.args.by.address.now c.args.channel.now in
-    let more = modes_more one at.on c.args.letters.now at.byte-index 0 at.rest.now at.events.items _ less c.in_ok-push_mode.ensures in
+    let more = modes_more c.args.support.now one at.on c.args.letters.now at.byte-index 0 at.rest.now at.events.items _ less c.in_ok-push_mode.ensures in
     rw (c.next_sign-on.ensures, c.next_arguments-rest.ensures) (more ∙ at.invariant)
 
 pub returns : goal.returns
@@ -18,5 +18,5 @@ returns c =
     let at = c.loop-byte in
     let one = mode_on c.args.by.nick.now c.args.by.address.now c.args.channel.now in
     sym (append-nil at.events.items)
-    ∙ sym (at_drop_all (λ bs. at.events.items ++ map one (singles at.on bs at.rest.now)) c.args.letters.now at.byte-index (omega arith))
+    ∙ sym (at_drop_all (λ bs. at.events.items ++ map one (singles c.args.support.now at.on bs at.rest.now)) c.args.letters.now at.byte-index (omega arith))
     ∙ at.invariant

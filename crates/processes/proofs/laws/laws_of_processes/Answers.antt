@@ -1,6 +1,6 @@
 use Rattle.protocol.specs.History.{start}
 use Rattle.processes.proofs.Running.{run_goes, first_stands, run_same_records, run_never_back, stands_once}
-use Rattle.processes.proofs.Calling.{run_same_calls}
+use Rattle.processes.proofs.Calling.{run_same_calls, run_same_calls_ignoring_channels}
 use Rattle.processes.proofs.Dying.{step_dies}
 use Rattle.processes.proofs.laws.laws_of_processes.Goals as goal
 
@@ -8,27 +8,32 @@ pub returns-clause-begins : goal.returns-clause-begins
 returns-clause-begins g c = first_stands
 
 pub returns-clause-goes : goal.returns-clause-goes
-returns-clause-goes g c = λ w h deeds st run. run_goes g.P.Promise.code_of g.P.Promise.may w h deeds st run
+returns-clause-goes g c = λ w h deeds st run. run_goes g.P.Promise.promised w h deeds st run
 
 pub returns-clause-same_records : goal.returns-clause-same_records
-returns-clause-same_records g c = λ count w first more is run. run_same_records g.P.Promise.code_of g.P.Promise.may
+returns-clause-same_records g c = λ count w first more is run. run_same_records g.P.Promise.promised
     count w first more is run
 
 pub returns-clause-never_back : goal.returns-clause-never_back
-returns-clause-never_back g c = λ count w first more is run. run_never_back g.P.Promise.code_of g.P.Promise.may count
+returns-clause-never_back g c = λ count w first more is run. run_never_back g.P.Promise.promised count
     w first more is run
 
 pub returns-clause-once : goal.returns-clause-once
 returns-clause-once g c =
     λ count w deeds is run.
-    let last = run_goes g.P.Promise.code_of g.P.Promise.may w (start count) deeds (first_stands count w is) run in
+    let last = run_goes g.P.Promise.promised w (start count) deeds (first_stands count w is) run in
     stands_once _ last.after last.stands
 
 pub returns-clause-same_calls : goal.returns-clause-same_calls
 returns-clause-same_calls g c =
-    λ count w deeds is run i j one other s t a b. run_same_calls g.P.Promise.code_of g.P.Promise.may count w deeds is
+    λ count w deeds is run i j one other s t a b. run_same_calls g.P.Promise.promised count w deeds is
     run i j one other s t a b
+
+pub returns-clause-same_calls_ignoring_channels : goal.returns-clause-same_calls_ignoring_channels
+returns-clause-same_calls_ignoring_channels g c =
+    λ ignores count w deeds is run i j one other s t a b. run_same_calls_ignoring_channels g.P.Promise.promised count w deeds is
+    run ignores i j one other s t a b
 
 pub returns-clause-died : goal.returns-clause-died
 returns-clause-died g c = λ names event was after report x y leaves takes crash.
-    step_dies g.P.Promise.code_of g.P.Promise.may names event was report after x y leaves takes crash
+    step_dies g.P.Promise.promised names event was report after x y leaves takes crash

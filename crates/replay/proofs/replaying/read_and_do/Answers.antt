@@ -7,7 +7,7 @@ returns-in-Err-clause-err g c =
 
 pub returns-clause-ok : goal.returns-clause-ok
 returns-clause-ok g c =
-    Plays-of g.P.Promise.code_of g.P.Promise.may c.args.store (g.S.Stream.source c.args.stream.now)
+    Plays-of g.P.Promise.promised c.args.store (g.S.Stream.source c.args.stream.now)
     (g.S.Stream.source c.script_bytes.new.stream) c.as_slice.result.now c.in-Ok.bytes.items c.transcript_in.result
     c.as_slice.ensures.value c.in-Ok.ensures.read c.transcript_in.ensures.ok
 

@@ -6,5 +6,5 @@ use Rattle.replay.proofs.transcripts.put_commands.Given as goal
 
 -- the commands so far are done
 abbrev pub invariant-loop-command : goal.invariant-loop-command
-invariant-loop-command g l = (past : Past) → Stands g.P.Promise.code_of g.P.Promise.may l.fn.world past
-    → Does g.P.Promise.code_of g.P.Promise.may past (deeds_of (take l.command-index l.commands)) l.world l.fn.text.items l.text.items
+invariant-loop-command g l = (past : Past) → Stands g.P.Promise.promised l.fn.world past
+    → Does g.P.Promise.promised past (deeds_of (take l.command-index l.commands)) l.world l.fn.text.items l.text.items

@@ -11,6 +11,6 @@ returns g c =
     record {
       first = world.0;
       begins = subst (λ (zone : TzText). IsFirst c.args.script.leaves zone c.args.store world.0) c.zone_or_utc.ensures world.1;
-      done = Does-first g.P.Promise.code_of g.P.Promise.may world.0 c.as_slice.result.now c.args.script.commands _ _ _ c.new-text.ensures.items
+      done = Does-first g.P.Promise.promised world.0 c.as_slice.result.now c.args.script.commands _ _ _ c.new-text.ensures.items
           c.as_slice.ensures (c.in_ok-put_commands.ensures (beginning world.0) world.2);
     }

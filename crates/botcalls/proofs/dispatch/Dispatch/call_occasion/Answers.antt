@@ -13,6 +13,6 @@ returns-in-Ok-clause-ok g c =
       c.next_of.ensures ∙ ap (λ kind. next_of kind (map entry_of c.calls_since.result.now)) c.kind.ensures
           ∙ ap (next_of (kind_for c.args.occasion.now))
           (ap (map entry_of) c.calls_since.ensures
-          ∙ calls_since-part g.P.Promise.code_of g.P.Promise.may c.args.self.now c.call_unless_taken.new.self before _
+          ∙ calls_since-part g.P.Promise.promised c.args.scene.now.view.now c.args.self.now c.call_unless_taken.new.self before _
           c.call_count-before.result made more c.call_count-before.ensures),
     )

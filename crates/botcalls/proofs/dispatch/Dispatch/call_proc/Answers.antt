@@ -11,9 +11,9 @@ returns-in-Ok-clause-ok g c =
     ∙ ap (λ ms. ms ++ record { bind = c.args.number; proc = c.in_ok-proc.proc; call = c.in_ok-call_copy.call_copy; reply = c.in-Ok.reply } ∷ [])
     (c.reserve.ensures.items ∙ ap (λ (m : Made). m.calls) c.self.view_is) in
     let unbound = ap (λ (m : Made). m.unbound) c.self.view_is in
-    Adds-called g.P.Promise.code_of g.P.Promise.may c.args.store.now c.args.call.now c.args.number c.args.name.now c.args.self.now _
+    Adds-called g.P.Promise.promised c.args.scene.now.view.now c.args.scene.now.store.now c.args.call.now c.args.number c.args.name.now c.args.self.now _
     c.in_ok-proc.proc c.in_ok-call_copy.call_copy c.in-Ok.reply calls unbound c.in_ok-proc.ensures c.in_ok-call_copy.ensures
-    (subst (λ (name : List ℕ). (holds c.args.store.now name ≡ true) × IsKept g.P.Promise.code_of g.P.Promise.may name c.args.call.now c.in-Ok.reply)
+    (subst (λ (name : List ℕ). (holds c.args.scene.now.store.now name ≡ true) × IsKept g.P.Promise.promised name c.args.call.now c.args.scene.now.view.now c.in-Ok.reply)
     c.as_bytes.ensures c.in-Ok.ensures)
 
 pub returns-in_ok-push-in-Err-Refused-NoSuchProc-clause-ok : goal.returns-in_ok-push-in-Err-Refused-NoSuchProc-clause-ok
@@ -22,8 +22,8 @@ returns-in_ok-push-in-Err-Refused-NoSuchProc-clause-ok g c =
     let unbound = c.in_ok-push-in-Err-Refused-NoSuchProc.ensures.items
     ∙ ap (λ us. us ++ record { bind = c.args.number; proc = c.in_ok-proc.proc } ∷ [])
     (ap (λ (m : Made). m.unbound) c.self.view_is) in
-    Adds-missing g.P.Promise.code_of g.P.Promise.may c.args.store.now c.args.call.now c.args.number c.args.name.now c.args.self.now _
+    Adds-missing g.P.Promise.promised c.args.scene.now.view.now c.args.scene.now.store.now c.args.call.now c.args.number c.args.name.now c.args.self.now _
     c.in_ok-proc.proc calls unbound c.in_ok-proc.ensures
-    (ap (holds c.args.store.now) (sym c.as_bytes.ensures)
-    ∙ absent g.P.Promise.code_of g.P.Promise.may g.P.Promise.may_lack c.args.store.now c.as_bytes.result.now c.args.call.now
+    (ap (holds c.args.scene.now.store.now) (sym c.as_bytes.ensures)
+    ∙ absent g.P.Promise.promised c.args.scene.now.view.now c.args.scene.now.store.now c.as_bytes.result.now c.args.call.now
     c.in-Err-Refused-NoSuchProc.field-0 c.in-Err-Refused-NoSuchProc.field-0-0 c.in-Err-Refused-NoSuchProc.field-0-is c.in-Err-Refused-NoSuchProc.ensures)

@@ -10,16 +10,16 @@ use Rattle.botcalls.proofs.dispatch.Dispatch.call_time.Goals as goal
 
 pub returns-clause-ok : goal.returns-clause-ok
 returns-clause-ok g c =
-    let setting = setting_in g.P.Promise.code_of c.args.scene.now in
+    let setting = setting_in g.P.Promise.promised c.args.scene.now in
     let same = told_seen-same setting (seen c.by_nobody-seen.result) (time_seen c.args.minute.now) c.in-Ok-time_call.call (time_call c.args.minute.now)
     (c.by_nobody-seen.ensures ∙ ap (λ (s : List ℕ). by_nobody Time s None) (c.as_bytes.ensures ∙ c.in-Ok.ensures)) (c.in-Ok-time_call.ensures) in
-    subst (λ (ts : List Telling). OnOk c.call_seen.result (Adds g.P.Promise.code_of g.P.Promise.may c.args.self.now ts c.call_seen.new.self))
+    subst (λ (ts : List Telling). OnOk c.call_seen.result (Adds g.P.Promise.promised c.args.scene.now.view.now c.args.self.now ts c.call_seen.new.self))
     same c.call_seen.ensures.ok
 
 pub returns-clause-err : goal.returns-clause-err
 returns-clause-err g c =
-    let setting = setting_in g.P.Promise.code_of c.args.scene.now in
+    let setting = setting_in g.P.Promise.promised c.args.scene.now in
     let same = told_seen-same setting (seen c.by_nobody-seen.result) (time_seen c.args.minute.now) c.in-Ok-time_call.call (time_call c.args.minute.now)
     (c.by_nobody-seen.ensures ∙ ap (λ (s : List ℕ). by_nobody Time s None) (c.as_bytes.ensures ∙ c.in-Ok.ensures)) (c.in-Ok-time_call.ensures) in
-    subst (λ (ts : List Telling). OnErr c.call_seen.result (AddsFront g.P.Promise.code_of g.P.Promise.may c.args.self.now ts c.call_seen.new.self))
+    subst (λ (ts : List Telling). OnErr c.call_seen.result (AddsFront g.P.Promise.promised c.args.scene.now.view.now c.args.self.now ts c.call_seen.new.self))
     same c.call_seen.ensures.err

@@ -6,6 +6,6 @@ use Rattle.botcore.proofs.bot.Bot.hear.Goals as goal
 
 pub returns-in-Err-clause-takes : goal.returns-in-Err-clause-takes
 returns-in-Err-clause-takes g c =
-    let told = message_told g.P.Promise.code_of c.args.store.now c.args.self.now c.args.message.now in
-    cut_short-takes g.P.Promise.code_of g.P.Promise.may told c.args.self.now c.args.self.now c.args.self.now None (finish_line c.args.self.now c.args.message.now) c.in-Err.made
+    let told = message_told g.P.Promise.promised c.args.store.now c.args.self.now c.args.message.now in
+    cut_short-takes g.P.Promise.promised told c.args.self.now c.args.self.now c.args.self.now None (finish_line c.args.self.now c.args.message.now) c.in-Err.made
     c.into_parts.result.0 c.cut_short.result c.in-Err.ensures.dispatched c.into_parts.ensures.calls refl c.cut_short.ensures

@@ -11,6 +11,6 @@ pub returns-in-Err-clause-takes : goal.returns-in-Err-clause-takes
 returns-in-Err-clause-takes g c =
     let old = c.args.self.now in
     let saying : Saying = record { from = c.args.from; text = c.args.text } in
-    let told = told_of (bot_setting g.P.Promise.code_of c.args.store.now old) (said_occasions saying) in
-    cut_short-takes g.P.Promise.code_of g.P.Promise.may told old old old (Some (text_note saying)) (finish_text old) c.in-Err.made
+    let told = told_of (bot_setting g.P.Promise.promised c.args.store.now old) (said_occasions saying) in
+    cut_short-takes g.P.Promise.promised told old old old (Some (text_note saying)) (finish_text old) c.in-Err.made
     c.into_parts.result.0 c.cut_short.result c.in-Err.ensures c.into_parts.ensures.calls refl c.cut_short.ensures

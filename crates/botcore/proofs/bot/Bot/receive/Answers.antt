@@ -24,10 +24,10 @@ returns-in-Ok-clause-takes g c =
     } in
     subst
     (λ (b : Bot).
-    TakesPacket (saying_of (took b.link c.args.packet.now Works).told) g.P.Promise.code_of g.P.Promise.may c.args.store.now
+    TakesPacket (saying_of (took b.link c.args.packet.now Works).told) g.P.Promise.promised c.args.store.now
     b c.args.packet.now
     c.take_answer.result c.take_answer.new.self) c.self.view_is
-    (answered g.P.Promise.code_of g.P.Promise.may c.args.store.now old c.receive.new.self
+    (answered g.P.Promise.promised c.args.store.now old c.receive.new.self
     c.take_answer.new.self c.args.packet.now c.in-Ok.answer c.take_answer.result c.in-Ok.ensures.row
     c.take_answer.ensures.text c.take_answer.ensures.report c.take_answer.ensures.same)
 
@@ -47,10 +47,10 @@ returns-in-Err-clause-takes g c =
     let new : Bot = record old { link = c.receive.new.self } in
     subst
     (λ (b : Bot).
-    TakesPacket (saying_of (took b.link c.args.packet.now Works).told) g.P.Promise.code_of g.P.Promise.may c.args.store.now
+    TakesPacket (saying_of (took b.link c.args.packet.now Works).told) g.P.Promise.promised c.args.store.now
     b c.args.packet.now
     c.of_answer.result new) c.self.view_is
-    (failed g.P.Promise.code_of g.P.Promise.may c.args.store.now old new c.receive.new.self c.args.packet.now c.in-Err.why c.of_answer.result
+    (failed g.P.Promise.promised c.args.store.now old new c.receive.new.self c.args.packet.now c.in-Err.why c.of_answer.result
     c.in-Err.ensures.row refl c.of_answer.ensures)
 
 pub returns-in-Ok-clause-good_records : goal.returns-in-Ok-clause-good_records
@@ -66,7 +66,7 @@ returns-in-Ok-clause-good_records g c =
       queues = c.self.inside.queues;
       welcomed = c.self.inside.welcomed;
     } in
-    packet_good g.P.Promise.code_of g.P.Promise.may c.args.store.now before c.in-Ok.answer c.take_answer.result c.take_answer.new.self
+    packet_good g.P.Promise.promised c.args.store.now before c.in-Ok.answer c.take_answer.result c.take_answer.new.self
     c.in-Ok.ensures.packets.1 c.take_answer.ensures.text c.take_answer.ensures.report
 
 pub returns-in-Err-clause-good_records : goal.returns-in-Err-clause-good_records

@@ -1,12 +1,16 @@
-use Rattle.std.proofs.Common.{◌≡◌, true, false, take, fold}
-use Rattle.botrun.specs.Askers.{askers_after}
+use Rattle.std.proofs.Common.{◌≡◌, length}
+use Rattle.turns.specs.Turns.{AllGood}
+use Rattle.botrun.specs.Askers.{turn_askers}
 use Rattle.botrun.proofs.others.Others.pass_all.Given as goal
 
--- at a leaf the reports so far tell who still waits
+-- the reports so far tell who waits before the rest
 abbrev pub invariant-loop-report : goal.invariant-loop-report
 invariant-loop-report g l = record {
+  good : AllGood l.rest;
   asker : l.self.asks.asker ≡ l.fn.self.asks.asker;
-  hub : l.is_leaf ≡ false → l.self.asks.askers.items ≡ l.fn.self.asks.askers.items;
-  leaf : l.is_leaf ≡ true → l.self.asks.askers.items
-      ≡ fold (askers_after l.fn.self.asks.asker) l.fn.self.asks.askers.items (take l.report-index l.reports);
+  asks : turn_askers l.is_leaf l.fn.pumped l.fn.self.asks.asker l.self.asks.askers.items l.rest
+      ≡ turn_askers l.is_leaf l.fn.pumped l.fn.self.asks.asker l.fn.self.asks.askers.items l.fn.reports;
 }
+
+abbrev pub decreases-loop-report : goal.decreases-loop-report
+decreases-loop-report g l = length l.rest

@@ -1,14 +1,12 @@
-use Rattle.std.proofs.Common.{◌≡◌, ◌∙◌, ◌++◌, ap, sym, subst, map, arith, List, ℕ, Some, unwrap_or, is_ok}
+use Rattle.std.proofs.Common.{◌≡◌, ◌∙◌, ◌++◌, ap, sym, subst, List, ℕ, is_ok}
 use Rattle.std.proofs.lemmas.Bool.{false≢true}
-use Rattle.std.proofs.lemmas.List.Elements.{All-same}
-use Rattle.bottimers.specs.declared.timer.Timer.{Timer}
 use Rattle.bottimers.specs.declared.timer.TimerKind.TheVariants.{Minutes, Seconds}
 use Rattle.bottimers.specs.declared.entry.Entry.{Entry}
 use Rattle.bottimers.specs.declared.timers.Timers.TheInside.{Inside}
-use Rattle.bottimers.specs.Held.{Held, IsAbove, calls_at, passed}
-use Rattle.bottimers.specs.Countdown.{IsRunning, due_calls, held, held_of}
+use Rattle.bottimers.specs.Held.{Held, IsAbove, calls_at}
+use Rattle.bottimers.specs.Countdown.{due_calls, held}
 use Rattle.bottimers.proofs.Laws.{is_due-law}
-use Rattle.bottimers.proofs.EntryLists.{running_above, running_to, running_kept, due_calls-is, nothing_in_both, timers_kept}
+use Rattle.bottimers.proofs.EntryLists.{running_above, due_calls-is, nothing_in_both}
 use Rattle.bottimers.proofs.timers.Timers.due.Goals as goal
 
 -- the calls of both kinds, seen from outside

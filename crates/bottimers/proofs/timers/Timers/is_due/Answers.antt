@@ -1,4 +1,4 @@
-use Rattle.std.proofs.Common.{◌≡◌, ◌∙◌, ap, sym, subst, List}
+use Rattle.std.proofs.Common.{◌∙◌, ap, sym, subst, List}
 use Rattle.std.specs.List.{list_any}
 use Rattle.bottimers.specs.declared.entry.Entry.{Entry}
 use Rattle.bottimers.specs.Occurrences.{is_due}

@@ -43,6 +43,7 @@ returns-clause-added c =
       interval = c.args.interval;
       count = c.args.count;
       proc = c.args.proc;
+      text = c.args.text;
     } in
     let made : c.new.result.timer ≡ record m { id = inside.spent + 1 } = c.new.ensures.timer in
     let same : c.new.result.timer ≡ m = made ∙ ap (λ k. let t : Timer = record m { id = k } in t) (sym id) in

@@ -13,4 +13,4 @@ found_is_true s sound n (Some sent) e = sent_is_true s sound n sent e
 pub returns-clause-true_packet : goal.returns-clause-true_packet
 returns-clause-true_packet g c past stands =
     let at = sym (c.lent.ensures ∙ ap (λ (w : Net). packet_at w.packets c.args.number) stands.net) in
-    found_is_true past.now (now_sound _ _ _ past stands) c.args.number _ at
+    found_is_true past.now (now_sound _ _ past stands) c.args.number _ at

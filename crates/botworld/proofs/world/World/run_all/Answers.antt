@@ -11,7 +11,7 @@ loop-step-init g c = record {
   count = ap length c.in-Ok.ensures.items;
   len = c.in-Ok.ensures.len;
   room = omega (arith, c.in-Ok.ensures.capacity);
-  leads = rw c.in-Ok.ensures.items (λ past stands. leads_nowhere _ _ _ past stands);
+  leads = rw c.in-Ok.ensures.items (λ past stands. leads_nowhere _ _ past stands);
 }
 
 pub unwrap-requires : goal.unwrap-requires
@@ -30,12 +30,12 @@ loop-step-preserved g c =
       count = ap length pushed ∙ length-append c.loop-step.outcomes.items (c.in-Ok-make.outcome ∷ []) ∙ ap (λ n. n + 1) c.loop-step.invariant.count;
       len = one_more ∙ ap (λ n. n + 1) c.loop-step.invariant.len;
       room = omega (arith, c.loop-step.invariant.room, c.push.ensures.capacity);
-      leads = rw (pushed, more) (λ past stands. leads_on _ _ past _ _ c.step-item.result c.in-Ok-make.outcome c.loop-step.self c.make.new.self
+      leads = rw (pushed, more) (λ past stands. leads_on _ past _ _ c.step-item.result c.in-Ok-make.outcome c.loop-step.self c.make.new.self
           (c.loop-step.invariant.leads past stands) c.in-Ok-make.ensures);
     }
 
 pub returns-in_default-clause-leads : goal.returns-in_default-clause-leads
-returns-in_default-clause-leads g c = rw c.empty.ensures (λ past stands. leads_nowhere _ _ _ past stands)
+returns-in_default-clause-leads g c = rw c.empty.ensures (λ past stands. leads_nowhere _ _ past stands)
 
 pub returns-in-Err-clause-cut_at : goal.returns-in-Err-clause-cut_at
 returns-in-Err-clause-cut_at g c = λ _.

@@ -8,6 +8,6 @@ invariant-loop-step g l = record {
   count : length l.outcomes.items ≡ l.step-index;
   len : vec_len l.outcomes ≡ l.step-index;
   room : length l.steps ≤ vec_capacity l.outcomes;
-  leads : (past : Past) → Stands g.P.Promise.code_of g.P.Promise.may l.fn.self past
-      → LeadsTo g.P.Promise.code_of g.P.Promise.may past (take l.step-index l.steps) l.outcomes.items l.self;
+  leads : (past : Past) → Stands g.P.Promise.promised l.fn.self past
+      → LeadsTo g.P.Promise.promised past (take l.step-index l.steps) l.outcomes.items l.self;
 }

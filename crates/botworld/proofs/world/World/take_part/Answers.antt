@@ -24,12 +24,12 @@ returns g c =
     c.post.ensures.told ∙ ap (λ (ps : List Sent). reported (report_of part.bot (length ps + 1) report)) kept in
     let sent : c.post.new.packets.items ≡ old.packets ++ posted part.bot report.packets =
     c.post.ensures.sent ∙ ap (λ (ps : List Sent). ps ++ posted part.bot report.packets) kept in
-    subst (λ (w : Net). NetStep g.P.Promise.code_of g.P.Promise.may w c.args.step.now c.post.result (record {
+    subst (λ (w : Net). NetStep g.P.Promise.promised w c.args.step.now c.post.result (record {
       bots = slice_set c.self.inside.bots.items part.bot c.step-report.new.self;
       packets = c.post.new.packets.items;
       store = c.self.inside.store;
     })) c.self.view_is
-    (part_comes g.P.Promise.code_of g.P.Promise.may old c.args.step.now part c.index_mut.result.now c.step-report.new.self report c.post.result
+    (part_comes g.P.Promise.promised old c.args.step.now part c.index_mut.result.now c.step-report.new.self report c.post.result
     c.post.new.packets.items is c.index_mut.ensures.value c.step-report.ensures.takes told sent)
 
 pub invariant_of-self-2 : goal.invariant_of-self-2

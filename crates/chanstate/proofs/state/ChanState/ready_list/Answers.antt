@@ -1,32 +1,32 @@
 use Rattle.std.proofs.Common.{◌∙◌, false, true, refl, ap, sym, rules}
 use Rattle.std.specs.Prelude.{is_some}
 use Rattle.std.specs.Map.{values_of}
-use Rattle.chanstate.specs.Items.{names_in}
+use Rattle.chanstate.specs.Items.{NamesTold, names_in}
 use Rattle.chanstate.specs.Members.{listed_each}
 use Rattle.chanstate.specs.Takes.{given, on_place}
-use Rattle.chanstate.proofs.KeptLemmas.{any_adds-listed}
-use Rattle.chanstate.proofs.StepLemmas.{steps-listed}
+use Rattle.chanstate.proofs.KeptLemmas.{any_adds-one}
+use Rattle.chanstate.proofs.StepLemmas.{each_step-listed}
 use Rattle.chanstate.proofs.TakeLemmas.{on_channel-at}
 use Rattle.chanstate.proofs.state.ChanState.ready_list.Goals as goal
 
 pub returns-in_default-clause-ready : goal.returns-in_default-clause-ready
 returns-in_default-clause-ready c =
-    (refl, any_adds-listed c.args.channel.now (names_in c.args.names.now) c.args.self.now ∙ sym c.place_lacking.ensures.lacking ∙ ap is_some c.in_default.is)
+    (refl, any_adds-one (NamesTold c.args.channel.now c.args.names.now) c.args.self.now ∙ sym c.place_lacking.ensures.lacking ∙ ap is_some c.in_default.is)
 
 pub returns-in_err-ones-clause-memory : goal.returns-in_err-ones-clause-memory
 returns-in_err-ones-clause-memory c =
-    let why = any_adds-listed c.args.channel.now (names_in c.args.names.now) c.args.self.now ∙ sym c.place_lacking.ensures.lacking ∙ ap is_some c.in-Some.is in
+    let why = any_adds-one (NamesTold c.args.channel.now c.args.names.now) c.args.self.now ∙ sym c.place_lacking.ensures.lacking ∙ ap is_some c.in-Some.is in
     search (rules, why)
 
 pub returns-in_err-take-clause-memory : goal.returns-in_err-take-clause-memory
 returns-in_err-take-clause-memory c =
-    let why = any_adds-listed c.args.channel.now (names_in c.args.names.now) c.args.self.now ∙ sym c.place_lacking.ensures.lacking ∙ ap is_some c.in-Some.is in
+    let why = any_adds-one (NamesTold c.args.channel.now c.args.names.now) c.args.self.now ∙ sym c.place_lacking.ensures.lacking ∙ ap is_some c.in-Some.is in
     search (rules, why)
 
 pub returns-clause-ready : goal.returns-clause-ready
 returns-clause-ready c =
     let s = c.args.self.now in
-    let names = names_in c.args.names.now in
+    let names = names_in c.args.self.now.support c.args.names.now in
     let taken = c.in_ok-take.ensures.taken in
     let none = c.new-takes.ensures.items in
     let at = c.in-Some.at in
@@ -36,5 +36,5 @@ returns-clause-ready c =
           (taken.done ∙ ap (λ ts. given true ts (on_place at (listed_each ones) s.channels)) none
           ∙ ap (λ ns. on_place at (listed_each ns) s.channels) c.in_ok-ones.ensures.named
           ∙ sym (on_channel-at c.args.channel.now at (listed_each names) s.channels c.in-Some.ensures.some))
-          ∙ sym (steps-listed c.args.channel.now names s),
+          ∙ sym (each_step-listed c.args.channel.now names s),
     )

@@ -1,9 +1,9 @@
 use Rattle.std.proofs.Common.{◌∙◌, ap, sym}
-use Rattle.chanstate.specs.Items.{Renamed, Titled, Addressed, channels_in, names_in}
+use Rattle.chanstate.specs.Items.{Renamed, Titled, NamesTold, Addressed, channels_in, names_in}
 use Rattle.chanstate.specs.Memory.{any_adds}
 use Rattle.chanstate.specs.Steps.{steps}
 use Rattle.chanstate.proofs.KeptLemmas.{adds-none, joins_none, same_address, same_nick, same_topic, shown_none}
-use Rattle.chanstate.proofs.StepLemmas.{steps-listed}
+use Rattle.chanstate.proofs.StepLemmas.{each_step-listed}
 use Rattle.chanstate.proofs.state.ChanState.take_in.Goals as goal
 
 pub returns-in-Join : goal.returns-in-Join
@@ -47,6 +47,7 @@ returns-in-Names c =
     let s = c.args.self.now in
     let is = c.in-Names.ensures in
     let channel = c.in-Names.channel.now in
-    let names = names_in c.in-Names.names.now in
-    ap (λ cs. record s { channels = cs }) (c.show.ensures ∙ shown_none channel names s (ap (λ items. any_adds items s) is ∙ c.requires))
-    ∙ sym (steps-listed channel names s) ∙ ap (λ items. steps items s) is
+    let names = c.in-Names.names.now in
+    ap (λ cs. record s { channels = cs })
+    (c.show.ensures ∙ shown_none channel names s (adds-none (NamesTold channel names) s (ap (λ items. any_adds items s) is ∙ c.requires)))
+    ∙ sym (each_step-listed channel (names_in s.support names) s) ∙ ap (λ items. steps items s) is

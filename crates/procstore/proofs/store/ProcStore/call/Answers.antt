@@ -10,9 +10,9 @@ returns-in-Some g c =
     let found = sym c.in-Some.ensures.value in
     let held = ap (λ names. holds names name) (sym c.self.view_is) ∙ holds-lookup name entries ∙ ap is_some found in
     let own = lookup-named name entries c.in-Some.proc.now c.self.invariant.0 found in
-    subst (λ answer. IsCalled g.P.Promise.code_of g.P.Promise.may g.P.Promise.may_lack c.args.self.now name c.args.call.now answer)
+    subst (λ answer. IsCalled g.P.Promise.promised c.args.self.now name c.args.call.now c.args.view.now answer)
     (sym c.as_called.ensures)
-    (IsCalled-found g.P.Promise.code_of g.P.Promise.may g.P.Promise.may_lack c.args.self.now c.in-Some.proc.now.name name c.args.call.now c.call.result
+    (IsCalled-found g.P.Promise.promised c.args.self.now c.in-Some.proc.now.name name c.args.call.now c.args.view.now c.call.result
     held own c.call.ensures)
 
 pub returns-in-None : goal.returns-in-None

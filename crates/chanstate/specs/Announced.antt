@@ -1,0 +1,108 @@
+-- What a server announces of its channels (RPL_ISUPPORT, numeric 005): PREFIX, the modes that mark a member and the signs
+-- that stand for them before a nick, and CHANMODES, the other modes by their type. What it has not announced is as in RFC
+-- 2812. Sets of ASCII bytes are tables; no other byte is in one.
+use Rattle.std.specs.Prelude.{ℕ, Bool, true, false, ◌||◌, ◌&&◌, ◌==◌, List, [], ◌∷◌, Option, None, Some, nat_lt, length, drop, take, replicate, codes}
+use Rattle.std.specs.Prelude.{slice_get, slice_set, unwrap_or, if◌then◌else◌}
+use Rattle.std.specs.List.{position_or_len}
+use Rattle.std.specs.Str.{bytes_eq}
+use Rattle.chanstate.specs.declared.letters.Letters.{Letters}
+use Rattle.chanstate.specs.declared.support.Support.{Support}
+
+-- ---- sets of bytes
+
+abbrev pub is_in : ℕ → Letters → Bool
+is_in b set = unwrap_or (slice_get set.table b) false
+
+abbrev pub with_letter : ℕ → Letters → Letters
+with_letter b set = if nat_lt b 128 then record { table = slice_set set.table b true } else set
+
+abbrev pub with_letters : List ℕ → Letters → Letters
+with_letters [] set = set
+with_letters (b ∷ bs) set = with_letters bs (with_letter b set)
+
+unfoldable pub no_letters : Letters
+no_letters = record { table = replicate 128 false }
+
+abbrev pub letters_of : List ℕ → Letters
+letters_of text = with_letters text no_letters
+
+-- ---- what is announced
+
+-- before a server has announced anything: o v h mark members; b e I k have an argument always, l when it is set
+unfoldable pub unannounced : Support
+unannounced = record {
+  ranks = letters_of (codes "ovh");
+  signs = letters_of (codes "@%+&~");
+  always = letters_of (codes "beIk");
+  when_set = letters_of (codes "l");
+}
+
+-- a text cut at the first of a byte, which goes; not cut where there is none
+abbrev pub front_len : ℕ → List ℕ → ℕ
+front_len byte text = position_or_len (λ b. b == byte) text
+
+abbrev pub cut : ℕ → List ℕ → Option (List ℕ × List ℕ)
+cut byte text =
+    if front_len byte text == length text then None
+    else Some (take (front_len byte text) text, drop 1 (drop (front_len byte text) text))
+
+-- PREFIX=(letters)signs: as many signs as letters. An empty value says that no mode marks a member; anything else
+-- announces nothing
+abbrev pub ranked : Option (List ℕ × List ℕ) → Support → Support
+ranked None s = s
+ranked (Some p) s =
+    if length p.0 == length p.1 then record s { ranks = letters_of p.0; signs = letters_of p.1 } else s
+
+abbrev pub opened : Option (List ℕ × List ℕ) → Support → Support
+opened None s = s
+opened (Some p) s = if length p.0 == 0 then ranked (cut 41 p.1) s else s
+
+abbrev pub with_prefix : List ℕ → Support → Support
+with_prefix value s =
+    if length value == 0 then record s { ranks = no_letters; signs = no_letters } else opened (cut 40 value) s
+
+-- CHANMODES=A,B,C,D: A and B have an argument always, C when they are set, and D never; without all four it announces
+-- nothing
+abbrev pub typed_three : List ℕ → List ℕ → Option (List ℕ × List ℕ) → Support → Support
+typed_three a b None s = s
+typed_three a b (Some p) s = record s { always = with_letters b (letters_of a); when_set = letters_of p.0 }
+
+abbrev pub typed_two : List ℕ → Option (List ℕ × List ℕ) → Support → Support
+typed_two a None s = s
+typed_two a (Some p) s = typed_three a p.0 (cut 44 p.1) s
+
+abbrev pub typed_one : Option (List ℕ × List ℕ) → Support → Support
+typed_one None s = s
+typed_one (Some p) s = typed_two p.0 (cut 44 p.1) s
+
+abbrev pub with_types : List ℕ → Support → Support
+with_types value s = typed_one (cut 44 value) s
+
+-- a token is KEY=value, or KEY alone, whose value is empty
+abbrev pub key_and_value : List ℕ → Option (List ℕ × List ℕ) → List ℕ × List ℕ
+key_and_value token None = (token, [])
+key_and_value token (Some p) = p
+
+-- one token; other keys, also one that is taken back (-KEY), announce nothing here
+abbrev pub announced_by : List ℕ × List ℕ → Support → Support
+announced_by p s =
+    if bytes_eq p.0 (codes "PREFIX") then with_prefix p.1 s
+    else (if bytes_eq p.0 (codes "CHANMODES") then with_types p.1 s else s)
+
+abbrev pub with_token : List ℕ → Support → Support
+with_token token s = announced_by (key_and_value token (cut 61 token)) s
+
+-- tokens in their order: of each key the last value holds
+abbrev pub announced : List (List ℕ) → Support → Support
+announced [] s = s
+announced (token ∷ more) s = announced more (with_token token s)
+
+-- ---- what it says
+
+-- whether a mode has an argument, as it is set or cleared
+abbrev pub takes_argument : Support → Bool → ℕ → Bool
+takes_argument s on b = is_in b s.ranks || (is_in b s.always || (on && is_in b s.when_set))
+
+-- whether a byte is a sign that stands before a nick in a list of names
+abbrev pub is_sign : Support → ℕ → Bool
+is_sign s b = is_in b s.signs

@@ -1,0 +1,151 @@
+// What a server announces (RPL_ISUPPORT, numeric 005).
+ghost use Rattle.std.specs.Prelude.{◌≡◌, ◌≤◌, length, MatchOption, None, Some};
+ghost use Rattle.chanstate.specs.Announced.{front_len, cut, key_and_value, with_prefix, with_types, with_token, announced, unannounced, takes_argument};
+ghost use Rattle.chanstate.specs.Announced.{is_sign, is_in};
+
+use crate::letters::Letters;
+use bytetext::Text;
+
+/// Which channel modes a server has, as far as one has to know it to read a MODE or a list of names. Takes no memory.
+#[derive(Clone, Copy, Debug)]
+pub struct Support {
+    // The modes that mark a member, and the signs that stand for them before a nick.
+    ranks: Letters,
+    signs: Letters,
+    // Of the other modes, those that always have an argument, and those that have one when they are set.
+    always: Letters,
+    when_set: Letters,
+}
+
+impl Support {
+    /// What holds before a server has announced anything: the modes of RFC 2812, half-operators, and their usual signs.
+    #[tactic(auto, unfolding(crate::specs::Announced::unannounced))]
+    pub fn unannounced() -> Support
+        ensures { result ≡ unannounced }
+    {
+        Support {
+            ranks: Letters::of(b"ovh"),
+            signs: Letters::of(b"@%+&~"),
+            always: Letters::of(b"beIk"),
+            when_set: Letters::of(b"l"),
+        }
+    }
+
+    /// Whether a mode has an argument, as it is set or cleared.
+    pub fn takes_argument(&self, on: bool, letter: u8) -> bool
+        ensures { result ≡ takes_argument self.now on letter }
+    {
+        self.ranks.holds(letter) || self.always.holds(letter) || (on && self.when_set.holds(letter))
+    }
+
+    /// Whether a mode marks a member.
+    pub fn is_rank(&self, letter: u8) -> bool
+        ensures { result ≡ is_in letter self.now.ranks }
+    {
+        self.ranks.holds(letter)
+    }
+
+    /// Whether a byte is a sign that stands before a nick.
+    pub fn is_sign(&self, byte: u8) -> bool
+        ensures { result ≡ is_sign self.now byte }
+    {
+        self.signs.holds(byte)
+    }
+
+    /// Takes the tokens of a line in.
+    pub fn announce(&mut self, tokens: &[Text])
+        ensures { self.new ≡ announced tokens.now self.old }
+    {
+        for token in tokens {
+            self.announce_one(token.as_bytes());
+        }
+    }
+
+    fn announce_one(&mut self, token: &[u8])
+        ensures { self.new ≡ with_token token.now self.old }
+    {
+        let (key, value) = key_and_value(token);
+        if key == b"PREFIX".as_slice() {
+            self.set_ranks(value);
+        } else if key == b"CHANMODES".as_slice() {
+            self.set_types(value);
+        }
+    }
+
+    // (letters)signs, or nothing where no mode marks a member.
+    fn set_ranks(&mut self, value: &[u8])
+        ensures { self.new ≡ with_prefix value.now self.old }
+    {
+        if value.is_empty() {
+            self.ranks = Letters::none();
+            self.signs = Letters::none();
+            return;
+        }
+        let Some((front, ranks)) = cut(value, b'(') else {
+            return;
+        };
+        if !front.is_empty() {
+            return;
+        }
+        let Some((letters, signs)) = cut(ranks, b')') else {
+            return;
+        };
+        if letters.len() == signs.len() {
+            self.ranks = Letters::of(letters);
+            self.signs = Letters::of(signs);
+        }
+    }
+
+    // A,B,C,D
+    fn set_types(&mut self, value: &[u8])
+        ensures { self.new ≡ with_types value.now self.old }
+    {
+        let Some((lists, rest)) = cut(value, b',') else {
+            return;
+        };
+        let Some((settings, rest)) = cut(rest, b',') else {
+            return;
+        };
+        let Some((when_set, _)) = cut(rest, b',') else {
+            return;
+        };
+        let mut always = Letters::of(lists);
+        always.add_all(settings);
+        self.always = always;
+        self.when_set = Letters::of(when_set);
+    }
+}
+
+// The key of a token, and its value, empty where it has none.
+fn key_and_value(token: &[u8]) -> (&[u8], &[u8])
+    ensures { (result.0.now, result.1.now) ≡ key_and_value token.now (cut 61 token.now) }
+{
+    match cut(token, b'=') {
+        Some(parts) => parts,
+        None => (token, b""),
+    }
+}
+
+// How many bytes stand before the first such byte.
+fn count_front(text: &[u8], byte: u8) -> usize
+    ensures value { result ≡ front_len byte text.now }
+    ensures within { result ≤ length text.now }
+{
+    let mut count = 0;
+    while count < text.len() && text[count] != byte {
+        count += 1;
+    }
+    count
+}
+
+// The text before and after the first such byte.
+fn cut(text: &[u8], byte: u8) -> Option<(&[u8], &[u8])>
+    ensures { MatchOption result (cut byte text.now ≡ None) (λ parts. cut byte text.now ≡ Some (parts.0.now, parts.1.now)) }
+{
+    let len = count_front(text, byte);
+    if len == text.len() {
+        return None;
+    }
+    let (front, back) = text.split_at(len);
+    Some((front, &back[1..]))
+}

@@ -1,0 +1,243 @@
+-- Who is not heeded, and what is asked for then.
+use Rattle.std.proofs.Common.{◌≡◌, ◌∙◌, ◌&&◌, ◌||◌, ◌∷◌, not, ℕ, List, [], Bool, true, false, refl, ap, codes, if◌then◌else◌, Option, Some, None}
+use Rattle.std.specs.List.{list_any}
+use Rattle.flagexpr.specs.Letters.{has_letter}
+use Rattle.userfile.specs.declared.change.Change.{Change}
+use Rattle.userfile.specs.declared.error.ChangeFault.{ChangeFault}
+use Rattle.userfile.specs.Apply.{refusal}
+use Rattle.userfile.specs.declared.flags.PersonFlags.{PersonFlags}
+use Rattle.procstore.specs.declared.action.Action.{Action}
+use Rattle.procstore.specs.declared.call.Call.{Call}
+use Rattle.procstore.specs.declared.reply.Reply.{Reply}
+use Rattle.procstore.specs.Promises.{IsKept}
+use Rattle.procstore.specs.Seen.{Seen}
+use Rattle.eggprocs.specs.declared.rights.TheConstants.{AUTO_OP, AUTO_VOICE, OP, VOICE, MASTER, OWNER}
+use Rattle.eggprocs.specs.declared.rights.Standing.{Standing}
+use Rattle.eggprocs.specs.declared.rights.Standing.TheVariants.{Elsewhere, Stranger, Master}
+use Rattle.eggprocs.specs.declared.which.Which.{Which}
+use Rattle.eggprocs.specs.declared.which.Which.TheVariants as which
+use Rattle.eggprocs.specs.Args.{told_of}
+use Rattle.eggprocs.specs.Bans.{asked_by_ban, asked_by_unban}
+use Rattle.eggprocs.specs.Channel.{asked_for_mode, asked_for_newcomer, change_for, asked_by_kick, asked_by_topic, asked_by_invite}
+use Rattle.eggprocs.specs.Laws.{Lacks, DoesNothing, AsksNoChange, is_ask, is_ask_for_owners}
+use Rattle.eggprocs.specs.People.{told, for_owners, is_for_owners, asked_unless, asked_by_master, asked_by_command, plus_user, minus_user, plus_host, minus_host, chattr, asked_by_whois}
+use Rattle.eggprocs.specs.Procs.{name_of, actions_by, actions_if, ours}
+use Rattle.eggprocs.specs.Rights.{has_flag, flags_by, is_bot_op, is_from_op, is_from_voice, is_join, is_pub, is_msg, global_by, is_owner, is_master, standing_if, standing_of}
+use Rattle.eggprocs.proofs.Names.{which_named-name_of}
+
+-- ---- tests
+
+and-false : (a b : Bool) → b ≡ false → (a && b) ≡ false
+and-false false b e = refl
+and-false true b e = e
+
+or-false : (a b : Bool) → a ≡ false → b ≡ false → (a || b) ≡ false
+or-false a b e f = ap (λ (x : Bool). x || b) e ∙ f
+
+same-either : (b : Bool) (actions : List Action) → (if b then actions else actions) ≡ actions
+same-either false actions = refl
+same-either true actions = refl
+
+-- ---- rights
+
+pub has_flag-lacks : (letter : ℕ) (call : Call) (seen : Seen) → Lacks letter call seen → has_flag letter (flags_by call seen) ≡ false
+has_flag-lacks letter call seen lacks =
+    or-false (has_letter (flags_by call seen).global letter) (has_letter (flags_by call seen).chan letter) lacks.0 lacks.1
+
+pub is_from_op-lacks : (call : Call) (seen : Seen) → Lacks OP call seen → is_from_op call seen ≡ false
+is_from_op-lacks call seen lacks =
+    and-false (is_pub call.kind) (is_bot_op call seen && has_flag OP (flags_by call seen))
+    (and-false (is_bot_op call seen) (has_flag OP (flags_by call seen)) (has_flag-lacks OP call seen lacks))
+
+pub is_from_op-bot : (call : Call) (seen : Seen) → is_bot_op call seen ≡ false → is_from_op call seen ≡ false
+is_from_op-bot call seen denied =
+    and-false (is_pub call.kind) (is_bot_op call seen && has_flag OP (flags_by call seen))
+    (ap (λ (x : Bool). x && has_flag OP (flags_by call seen)) denied)
+
+pub is_from_voice-lacks : (call : Call) (seen : Seen) → Lacks OP call seen → Lacks VOICE call seen → is_from_voice call seen ≡ false
+is_from_voice-lacks call seen op voice =
+    let either : Bool = has_flag OP (flags_by call seen) || has_flag VOICE (flags_by call seen) in
+    and-false (is_pub call.kind) (is_bot_op call seen && either)
+    (and-false (is_bot_op call seen) either
+    (or-false (has_flag OP (flags_by call seen)) (has_flag VOICE (flags_by call seen)) (has_flag-lacks OP call seen op) (has_flag-lacks VOICE call seen voice)))
+
+pub is_from_voice-bot : (call : Call) (seen : Seen) → is_bot_op call seen ≡ false → is_from_voice call seen ≡ false
+is_from_voice-bot call seen denied =
+    let either : Bool = has_flag OP (flags_by call seen) || has_flag VOICE (flags_by call seen) in
+    and-false (is_pub call.kind) (is_bot_op call seen && either) (ap (λ (x : Bool). x && either) denied)
+
+change_for-lacks : (flags : PersonFlags) → has_flag AUTO_OP flags ≡ false → has_flag AUTO_VOICE flags ≡ false → change_for flags ≡ None
+change_for-lacks flags op voice =
+    ap (λ (x : Bool). if x then Some (codes "+o") else (if has_flag AUTO_VOICE flags then Some (codes "+v") else None)) op
+    ∙ ap (λ (x : Bool). if x then Some (codes "+v") else None) voice
+
+pub is_master-lacks : (call : Call) (seen : Seen) → has_letter (global_by call seen) MASTER ≡ false → has_letter (global_by call seen) OWNER ≡ false
+    → is_master call seen ≡ false
+is_master-lacks call seen = or-false (has_letter (global_by call seen) MASTER) (has_letter (global_by call seen) OWNER)
+
+-- ---- answers
+
+-- a reply that keeps the promise of a proc's name asks for what that proc asks for
+actions-kept : (w : Which) (call : Call) (seen : Seen) (reply : Reply) → IsKept ours (name_of w) call seen reply
+    → reply.actions ≡ actions_by w call seen
+actions-kept w call seen reply kept = kept.actions ∙ ap (λ (named : Option Which). actions_if named call seen) (which_named-name_of w)
+
+pub does-nothing : (w : Which) (call : Call) (seen : Seen) → actions_by w call seen ≡ [] → DoesNothing (name_of w) call seen
+does-nothing w call seen none = λ reply kept. actions-kept w call seen reply kept ∙ none
+
+pub asks-no-change : (w : Which) (call : Call) (seen : Seen) → list_any is_ask (actions_by w call seen) ≡ false
+    → AsksNoChange (name_of w) call seen
+asks-no-change w call seen none = λ reply kept. ap (list_any is_ask) (actions-kept w call seen reply kept) ∙ none
+
+-- ---- what a command asks for that is not heeded
+
+pub op-refused : (call : Call) (seen : Seen) → is_from_op call seen ≡ false → actions_by which.Op call seen ≡ []
+unfolding actions_by
+op-refused call seen denied = ap (λ (may : Bool). asked_for_mode may (codes "+o") call) denied
+
+pub deop-refused : (call : Call) (seen : Seen) → is_from_op call seen ≡ false → actions_by which.Deop call seen ≡ []
+unfolding actions_by
+deop-refused call seen denied = ap (λ (may : Bool). asked_for_mode may (codes "-o") call) denied
+
+pub voice-refused : (call : Call) (seen : Seen) → is_from_voice call seen ≡ false → actions_by which.Voice call seen ≡ []
+unfolding actions_by
+voice-refused call seen denied = ap (λ (may : Bool). asked_for_mode may (codes "+v") call) denied
+
+pub devoice-refused : (call : Call) (seen : Seen) → is_from_voice call seen ≡ false → actions_by which.Devoice call seen ≡ []
+unfolding actions_by
+devoice-refused call seen denied = ap (λ (may : Bool). asked_for_mode may (codes "-v") call) denied
+
+pub kick-refused : (call : Call) (seen : Seen) → is_from_op call seen ≡ false → actions_by which.Kick call seen ≡ []
+unfolding actions_by
+kick-refused call seen denied = ap (λ (may : Bool). asked_by_kick may call) denied
+
+pub topic-refused : (call : Call) (seen : Seen) → is_from_op call seen ≡ false → actions_by which.Topic call seen ≡ []
+unfolding actions_by
+topic-refused call seen denied = ap (λ (may : Bool). asked_by_topic may call) denied
+
+pub invite-refused : (call : Call) (seen : Seen) → is_from_op call seen ≡ false → actions_by which.Invite call seen ≡ []
+unfolding actions_by
+invite-refused call seen denied = ap (λ (may : Bool). asked_by_invite may call) denied
+
+pub ban-refused : (call : Call) (seen : Seen) → is_from_op call seen ≡ false → actions_by which.Ban call seen ≡ []
+unfolding actions_by
+ban-refused call seen denied = ap (λ (may : Bool). asked_by_ban may call seen) denied
+
+pub unban-refused : (call : Call) (seen : Seen) → is_from_op call seen ≡ false → actions_by which.Unban call seen ≡ []
+unfolding actions_by
+unban-refused call seen denied = ap (λ (may : Bool). asked_by_unban may call) denied
+
+pub autoop-lacks : (call : Call) (seen : Seen) → Lacks AUTO_OP call seen → Lacks AUTO_VOICE call seen → actions_by which.AutoOp call seen ≡ []
+unfolding actions_by
+autoop-lacks call seen op voice =
+    let may : Bool = is_join call.kind && is_bot_op call seen in
+    ap (λ (change : Option (List ℕ)). if may then asked_for_newcomer call change else [])
+    (change_for-lacks (flags_by call seen) (has_flag-lacks AUTO_OP call seen op) (has_flag-lacks AUTO_VOICE call seen voice))
+    ∙ same-either may []
+
+pub autoop-bot : (call : Call) (seen : Seen) → is_bot_op call seen ≡ false → actions_by which.AutoOp call seen ≡ []
+unfolding actions_by
+autoop-bot call seen denied =
+    ap (λ (may : Bool). if may then asked_for_newcomer call (change_for (flags_by call seen)) else [])
+    (and-false (is_join call.kind) (is_bot_op call seen) denied)
+
+-- ---- commands of masters
+
+-- what is said by who is no master brings no change
+no-ask : (told : Bool) (call : Call) (seen : Seen) (usage : List ℕ) (wish : Option Change)
+    → list_any is_ask (asked_by_command (standing_if told false) call seen usage wish) ≡ false
+no-ask false call seen usage wish = refl
+no-ask true call seen usage wish = refl
+
+stranger-asks : (call : Call) (seen : Seen) (usage : List ℕ) (wish : Option Change) → is_master call seen ≡ false
+    → list_any is_ask (asked_by_command (standing_of call seen) call seen usage wish) ≡ false
+stranger-asks call seen usage wish denied =
+    ap (λ (master : Bool). list_any is_ask (asked_by_command (standing_if (is_msg call.kind) master) call seen usage wish)) denied
+    ∙ no-ask (is_msg call.kind) call seen usage wish
+
+pub plus_user-asks : (call : Call) (seen : Seen) → is_master call seen ≡ false → list_any is_ask (actions_by which.PlusUser call seen) ≡ false
+unfolding actions_by
+plus_user-asks call seen = stranger-asks call seen (codes "use +user HANDLE") (plus_user (told_of call))
+
+pub minus_user-asks : (call : Call) (seen : Seen) → is_master call seen ≡ false → list_any is_ask (actions_by which.MinusUser call seen) ≡ false
+unfolding actions_by
+minus_user-asks call seen = stranger-asks call seen (codes "use -user HANDLE") (minus_user (told_of call))
+
+pub plus_host-asks : (call : Call) (seen : Seen) → is_master call seen ≡ false → list_any is_ask (actions_by which.PlusHost call seen) ≡ false
+unfolding actions_by
+plus_host-asks call seen = stranger-asks call seen (codes "use +host HANDLE MASK") (plus_host (told_of call))
+
+pub minus_host-asks : (call : Call) (seen : Seen) → is_master call seen ≡ false → list_any is_ask (actions_by which.MinusHost call seen) ≡ false
+unfolding actions_by
+minus_host-asks call seen = stranger-asks call seen (codes "use -host HANDLE MASK") (minus_host (told_of call))
+
+pub chattr-asks : (call : Call) (seen : Seen) → is_master call seen ≡ false → list_any is_ask (actions_by which.Chattr call seen) ≡ false
+unfolding actions_by
+chattr-asks call seen = stranger-asks call seen (codes "use chattr HANDLE FLAGS") (chattr (told_of call))
+
+-- `whois` asks for no change for anyone
+whois-no-ask : (told master : Bool) (call : Call) (seen : Seen) → list_any is_ask (asked_by_whois (standing_if told master) call seen) ≡ false
+whois-no-ask false master call seen = refl
+whois-no-ask true false call seen = refl
+whois-no-ask true true call seen = refl
+
+pub whois-asks : (call : Call) (seen : Seen) → list_any is_ask (actions_by which.Whois call seen) ≡ false
+unfolding actions_by
+whois-asks call seen = whois-no-ask (is_msg call.kind) (is_master call seen) call seen
+
+-- ---- what is for owners alone
+
+-- who is no owner has no change asked for that is for owners
+spared : (change : Change) (call : Call) (seen : Seen) (mine theirs : Bool) → is_owner call seen ≡ mine → mine ≡ false → is_for_owners change seen ≡ theirs
+    → list_any (is_ask_for_owners seen)
+    (if theirs && not mine then told call for_owners ∷ [] else asked_unless (refusal seen.sight.records change) call change) ≡ false
+spared change call seen mine true own none is = ap (λ (m : Bool). list_any (is_ask_for_owners seen)
+    (if true && not m then told call for_owners ∷ [] else asked_unless (refusal seen.sight.records change) call change)) none
+spared change call seen mine false own none is = by (refusal seen.sight.records change)
+  where
+    by : (fault : Option ChangeFault) → list_any (is_ask_for_owners seen) (asked_unless fault call change) ≡ false
+    by None = ap (λ (b : Bool). b || false) is
+    by (Some fault) = refl
+
+spared-wish : (wish : Option Change) (call : Call) (seen : Seen) (usage : List ℕ) → is_owner call seen ≡ false
+    → list_any (is_ask_for_owners seen) (asked_by_master call seen usage wish) ≡ false
+spared-wish None call seen usage none = refl
+spared-wish (Some change) call seen usage none = spared change call seen (is_owner call seen) (is_for_owners change seen) refl none refl
+
+spared-command : (standing : Standing) (call : Call) (seen : Seen) (usage : List ℕ) (wish : Option Change) → is_owner call seen ≡ false
+    → list_any (is_ask_for_owners seen) (asked_by_command standing call seen usage wish) ≡ false
+spared-command Elsewhere call seen usage wish none = refl
+spared-command Stranger call seen usage wish none = refl
+spared-command Master call seen usage wish none = spared-wish wish call seen usage none
+
+pub spares-owners : (w : Which) (usage : List ℕ) (wish : Call → Option Change) (call : Call) (seen : Seen)
+    → actions_by w call seen ≡ asked_by_command (standing_of call seen) call seen usage (wish call) → is_owner call seen ≡ false
+    → (reply : Reply) → IsKept ours (name_of w) call seen reply → list_any (is_ask_for_owners seen) reply.actions ≡ false
+spares-owners w usage wish call seen is none = λ reply kept.
+    ap (list_any (is_ask_for_owners seen)) (actions-kept w call seen reply kept ∙ is)
+    ∙ spared-command (standing_of call seen) call seen usage (wish call) none
+
+pub plus_user-is : (call : Call) (seen : Seen)
+    → actions_by which.PlusUser call seen ≡ asked_by_command (standing_of call seen) call seen (codes "use +user HANDLE") (plus_user (told_of call))
+unfolding actions_by
+plus_user-is call seen = refl
+
+pub minus_user-is : (call : Call) (seen : Seen)
+    → actions_by which.MinusUser call seen ≡ asked_by_command (standing_of call seen) call seen (codes "use -user HANDLE") (minus_user (told_of call))
+unfolding actions_by
+minus_user-is call seen = refl
+
+pub plus_host-is : (call : Call) (seen : Seen)
+    → actions_by which.PlusHost call seen ≡ asked_by_command (standing_of call seen) call seen (codes "use +host HANDLE MASK") (plus_host (told_of call))
+unfolding actions_by
+plus_host-is call seen = refl
+
+pub minus_host-is : (call : Call) (seen : Seen)
+    → actions_by which.MinusHost call seen ≡ asked_by_command (standing_of call seen) call seen (codes "use -host HANDLE MASK") (minus_host (told_of call))
+unfolding actions_by
+minus_host-is call seen = refl
+
+pub chattr-is : (call : Call) (seen : Seen)
+    → actions_by which.Chattr call seen ≡ asked_by_command (standing_of call seen) call seen (codes "use chattr HANDLE FLAGS") (chattr (told_of call))
+unfolding actions_by
+chattr-is call seen = refl

@@ -1,0 +1,41 @@
+-- Each proc is found by its name, so that its body keeps the promise of that name.
+use Rattle.std.proofs.Common.{◌≡◌, ◌∙◌, refl, ap, sym, Ok, Err, Option, Some}
+use Rattle.procstore.specs.declared.reply.Reply.{Reply}
+use Rattle.procstore.specs.Promises.{KeepsPromise}
+use Rattle.eggprocs.specs.declared.which.Which.{Which}
+use Rattle.eggprocs.specs.declared.which.Which.TheVariants.{Quiet, Stop, AddUser, Tick, Tell, Echo, Op, Deop, Voice, Devoice, AutoOp, Kick, Topic, Invite, Ban, Unban, Lift}
+use Rattle.eggprocs.specs.declared.which.Which.TheVariants.{PlusUser, MinusUser, PlusHost, MinusHost, Chattr, Whois}
+use Rattle.eggprocs.specs.Procs.{name_of, which_named, code_if, actions_if, answers_by, ours}
+
+pub which_named-name_of : (which : Which) → which_named (name_of which) ≡ Some which
+unfolding which_named
+which_named-name_of Quiet = refl
+which_named-name_of Stop = refl
+which_named-name_of AddUser = refl
+which_named-name_of Tick = refl
+which_named-name_of Tell = refl
+which_named-name_of Echo = refl
+which_named-name_of Op = refl
+which_named-name_of Deop = refl
+which_named-name_of Voice = refl
+which_named-name_of Devoice = refl
+which_named-name_of AutoOp = refl
+which_named-name_of Kick = refl
+which_named-name_of Topic = refl
+which_named-name_of Invite = refl
+which_named-name_of Ban = refl
+which_named-name_of Unban = refl
+which_named-name_of Lift = refl
+which_named-name_of PlusUser = refl
+which_named-name_of MinusUser = refl
+which_named-name_of PlusHost = refl
+which_named-name_of MinusHost = refl
+which_named-name_of Chattr = refl
+which_named-name_of Whois = refl
+
+pub keeps : (which : Which) → KeepsPromise ours (name_of which) (answers_by which)
+keeps which call seen (Ok reply) is = record {
+  code = ap (λ (r : Reply). r.code) is ∙ sym (ap code_if (which_named-name_of which));
+  actions = ap (λ (r : Reply). r.actions) is ∙ sym (ap (λ (named : Option Which). actions_if named call seen) (which_named-name_of which));
+}
+keeps which call seen (Err lack) is = tt

@@ -1,0 +1,26 @@
+use Rattle.eggprocs.specs.declared.which.Which.TheVariants as which
+use Rattle.std.specs.Prelude.{codes}
+use Rattle.eggprocs.specs.Args.{told_of}
+use Rattle.eggprocs.specs.People.{plus_user, minus_user, plus_host, minus_host, chattr}
+use Rattle.eggprocs.proofs.LawLemmas.{spares-owners, plus_user-is, minus_user-is, plus_host-is, minus_host-is, chattr-is}
+use Rattle.eggprocs.proofs.laws.changes_of_owners_want_an_owner.Goals as goal
+
+pub returns-clause-plus_user : goal.returns-clause-plus_user
+returns-clause-plus_user c = λ call seen none.
+    spares-owners which.PlusUser (codes "use +user HANDLE") (λ call. plus_user (told_of call)) call seen (plus_user-is call seen) none
+
+pub returns-clause-minus_user : goal.returns-clause-minus_user
+returns-clause-minus_user c = λ call seen none.
+    spares-owners which.MinusUser (codes "use -user HANDLE") (λ call. minus_user (told_of call)) call seen (minus_user-is call seen) none
+
+pub returns-clause-plus_host : goal.returns-clause-plus_host
+returns-clause-plus_host c = λ call seen none.
+    spares-owners which.PlusHost (codes "use +host HANDLE MASK") (λ call. plus_host (told_of call)) call seen (plus_host-is call seen) none
+
+pub returns-clause-minus_host : goal.returns-clause-minus_host
+returns-clause-minus_host c = λ call seen none.
+    spares-owners which.MinusHost (codes "use -host HANDLE MASK") (λ call. minus_host (told_of call)) call seen (minus_host-is call seen) none
+
+pub returns-clause-chattr : goal.returns-clause-chattr
+returns-clause-chattr c = λ call seen none.
+    spares-owners which.Chattr (codes "use chattr HANDLE FLAGS") (λ call. chattr (told_of call)) call seen (chattr-is call seen) none

@@ -1,0 +1,27 @@
+use Rattle.eggprocs.specs.declared.which.Which.TheVariants as which
+use Rattle.eggprocs.proofs.LawLemmas.{asks-no-change, is_master-lacks, plus_user-asks, minus_user-asks, plus_host-asks, minus_host-asks, chattr-asks, whois-asks}
+use Rattle.eggprocs.proofs.laws.changes_want_a_master.Goals as goal
+
+pub returns-clause-plus_user : goal.returns-clause-plus_user
+returns-clause-plus_user c = λ call seen master owner.
+    asks-no-change which.PlusUser call seen (plus_user-asks call seen (is_master-lacks call seen master owner))
+
+pub returns-clause-minus_user : goal.returns-clause-minus_user
+returns-clause-minus_user c = λ call seen master owner.
+    asks-no-change which.MinusUser call seen (minus_user-asks call seen (is_master-lacks call seen master owner))
+
+pub returns-clause-plus_host : goal.returns-clause-plus_host
+returns-clause-plus_host c = λ call seen master owner.
+    asks-no-change which.PlusHost call seen (plus_host-asks call seen (is_master-lacks call seen master owner))
+
+pub returns-clause-minus_host : goal.returns-clause-minus_host
+returns-clause-minus_host c = λ call seen master owner.
+    asks-no-change which.MinusHost call seen (minus_host-asks call seen (is_master-lacks call seen master owner))
+
+pub returns-clause-chattr : goal.returns-clause-chattr
+returns-clause-chattr c = λ call seen master owner.
+    asks-no-change which.Chattr call seen (chattr-asks call seen (is_master-lacks call seen master owner))
+
+pub returns-clause-whois : goal.returns-clause-whois
+returns-clause-whois c = λ call seen master owner.
+    asks-no-change which.Whois call seen (whois-asks call seen)

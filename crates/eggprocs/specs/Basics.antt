@@ -1,0 +1,73 @@
+-- What the procs ask for that look at nothing but their call.
+use Rattle.std.specs.Prelude.{ℕ, List, [], ◌∷◌, Bool, true, false, if◌then◌else◌, codes, Option, Some, None}
+use Rattle.userfile.specs.declared.change.Change.TheVariants.{AddUser}
+use Rattle.outqueue.specs.declared.queue.Queue.TheVariants.{Help}
+use Rattle.procstore.specs.declared.action.Action.{Action}
+use Rattle.procstore.specs.declared.action.Action.TheVariants.{Ask, Utimer, SendBot, Put}
+use Rattle.procstore.specs.declared.call.Call.{Call}
+use Rattle.procstore.specs.declared.kind.Kind.{Kind}
+use Rattle.procstore.specs.declared.kind.Kind.TheVariants.{Raw, Msg, Msgm, Notc, Pub, Pubm, Join, Part, Sign, Kick, Nick, Mode, Topc}
+use Rattle.procstore.specs.declared.kind.Kind.TheVariants.{Bot, Time, Cron, Timer}
+use Rattle.eggprocs.specs.Args.{arg_at, last_of}
+use Rattle.eggprocs.specs.Lines.{privmsg}
+
+-- kinds whose last argument is what stands behind a first word
+abbrev pub is_command : Kind → Bool
+is_command Msg = true
+is_command Pub = true
+is_command Raw = false
+is_command Msgm = false
+is_command Notc = false
+is_command Pubm = false
+is_command Join = false
+is_command Part = false
+is_command Sign = false
+is_command Kick = false
+is_command Nick = false
+is_command Mode = false
+is_command Topc = false
+is_command Bot = false
+is_command Time = false
+is_command Cron = false
+is_command Timer = false
+
+-- what `adduser` asks for: a user whose handle is the text
+abbrev pub asked_by_adduser : Call → List Action
+asked_by_adduser call = if is_command call.kind then Ask (AddUser (last_of call.args)) ∷ [] else []
+
+-- what `tick` asks for, whatever it is called for: a call of `quiet` ten seconds on, once, with an empty text
+abbrev pub asked_by_tick : List Action
+asked_by_tick = Utimer (record { interval = 10; count = 1; proc = codes "quiet"; text = [] }) ∷ []
+
+-- what `tell` asks for: that the hub is told the text
+abbrev pub asked_by_tell : Call → List Action
+asked_by_tell call = if is_command call.kind then SendBot (record { to = 0; text = last_of call.args }) ∷ [] else []
+
+-- where what is said is said again: on its channel, or to the nick that said it privately
+abbrev pub place_of : Kind → Option ℕ
+place_of Pub = Some 3
+place_of Pubm = Some 3
+place_of Msg = Some 0
+place_of Msgm = Some 0
+place_of Raw = None
+place_of Notc = None
+place_of Join = None
+place_of Part = None
+place_of Sign = None
+place_of Kick = None
+place_of Nick = None
+place_of Mode = None
+place_of Topc = None
+place_of Bot = None
+place_of Time = None
+place_of Cron = None
+place_of Timer = None
+
+-- what `echo` asks for: that the text is said again
+abbrev pub asked_by_echo_at : Call → Option ℕ → List Action
+asked_by_echo_at call None = []
+asked_by_echo_at call (Some place) =
+    Put (record { queue = Help; line = privmsg (arg_at call.args place) (last_of call.args) }) ∷ []
+
+abbrev pub asked_by_echo : Call → List Action
+asked_by_echo call = asked_by_echo_at call (place_of call.kind)

@@ -1,0 +1,72 @@
+-- Who gets nothing done.
+use Rattle.std.specs.Prelude.{◌≡◌, ℕ, Bool, true, false, List, []}
+use Rattle.std.specs.List.{list_any}
+use Rattle.flagexpr.specs.Letters.{has_letter}
+use Rattle.procstore.specs.declared.action.Action.{Action}
+use Rattle.procstore.specs.declared.action.Action.TheVariants.{Ask, Timer, Utimer, KillTimer, SendBot, Put}
+use Rattle.procstore.specs.declared.call.Call.{Call}
+use Rattle.procstore.specs.declared.reply.Reply.{Reply}
+use Rattle.procstore.specs.Promises.{IsKept}
+use Rattle.procstore.specs.Seen.{Seen}
+use Rattle.eggprocs.specs.declared.rights.TheConstants.{MASTER, OWNER}
+use Rattle.eggprocs.specs.People.{is_for_owners}
+use Rattle.eggprocs.specs.Procs.{ours}
+use Rattle.eggprocs.specs.Rights.{flags_by, global_by, is_bot_op}
+
+-- who calls has a flag neither everywhere nor on the call's channel
+abbrev pub Lacks : ℕ → Call → Seen → Type 0
+Lacks letter call seen =
+    (has_letter (flags_by call seen).global letter ≡ false) × (has_letter (flags_by call seen).chan letter ≡ false)
+
+-- whatever the proc of this name answers, it asks for nothing
+abbrev pub DoesNothing : List ℕ → Call → Seen → Type 0
+DoesNothing name call seen = (reply : Reply) → IsKept ours name call seen reply → reply.actions ≡ []
+
+-- a proc does nothing for who lacks this flag
+abbrev pub IsOnlyFor : ℕ → List ℕ → Type 0
+IsOnlyFor letter name = (call : Call) (seen : Seen) → Lacks letter call seen → DoesNothing name call seen
+
+-- a proc does nothing for who lacks both these flags
+abbrev pub IsOnlyForEither : ℕ → ℕ → List ℕ → Type 0
+IsOnlyForEither one other name =
+    (call : Call) (seen : Seen) → Lacks one call seen → Lacks other call seen → DoesNothing name call seen
+
+-- a proc does nothing where the bot is no operator of the call's channel
+abbrev pub IsOnlyByOps : List ℕ → Type 0
+IsOnlyByOps name = (call : Call) (seen : Seen) → is_bot_op call seen ≡ false → DoesNothing name call seen
+
+-- an action that asks for a change of the userfile
+abbrev pub is_ask : Action → Bool
+is_ask (Ask change) = true
+is_ask (Timer wish) = false
+is_ask (Utimer wish) = false
+is_ask (KillTimer name) = false
+is_ask (SendBot wish) = false
+is_ask (Put wish) = false
+
+-- whatever the proc of this name answers, it asks for no change
+abbrev pub AsksNoChange : List ℕ → Call → Seen → Type 0
+AsksNoChange name call seen =
+    (reply : Reply) → IsKept ours name call seen reply → list_any is_ask reply.actions ≡ false
+
+-- an action that asks for a change that makes an owner, or is of one
+abbrev pub is_ask_for_owners : Seen → Action → Bool
+is_ask_for_owners seen (Ask change) = is_for_owners change seen
+is_ask_for_owners seen (Timer wish) = false
+is_ask_for_owners seen (Utimer wish) = false
+is_ask_for_owners seen (KillTimer name) = false
+is_ask_for_owners seen (SendBot wish) = false
+is_ask_for_owners seen (Put wish) = false
+
+-- a proc asks for no such change for who does not have n everywhere
+abbrev pub SparesOwners : List ℕ → Type 0
+SparesOwners name =
+    (call : Call) (seen : Seen) → has_letter (global_by call seen) OWNER ≡ false
+    → (reply : Reply) → IsKept ours name call seen reply → list_any (is_ask_for_owners seen) reply.actions ≡ false
+
+-- a proc asks for no change for who has neither m nor n everywhere
+abbrev pub IsOnlyForMasters : List ℕ → Type 0
+IsOnlyForMasters name =
+    (call : Call) (seen : Seen)
+    → has_letter (global_by call seen) MASTER ≡ false → has_letter (global_by call seen) OWNER ≡ false
+    → AsksNoChange name call seen

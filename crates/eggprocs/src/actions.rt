@@ -1,0 +1,69 @@
+// What each proc asks for.
+ghost use Rattle.std.specs.Prelude.{◌≡◌, IfOk};
+ghost use Rattle.eggprocs.specs.Procs.{actions_by};
+
+use crate::args::told_of;
+use crate::bans::{asked_by_ban, asked_by_lift, asked_by_unban};
+use crate::basics::{asked_by_adduser, asked_by_echo, asked_by_tell, asked_by_tick};
+use crate::channel::{
+    asked_by_autoop, asked_by_invite, asked_by_kick, asked_by_topic, asked_for_mode,
+};
+use crate::people::{
+    asked_by_command, asked_by_whois, chattr, minus_host, minus_user, plus_host, plus_user,
+};
+use crate::rights::{is_from_op, is_from_voice};
+use crate::which::Which;
+use bytetext::NoMemory;
+use procstore::{Actions, Call, View};
+use std::alloc::Global;
+
+// What a proc asks for, by its call and what it sees.
+#[tactic(auto, unfolding(crate::specs::Procs::actions_by))]
+pub(crate) fn actions_by(
+    alloc: Global,
+    which: Which,
+    call: &Call,
+    view: &View<'_>,
+) -> Result<Actions, NoMemory>
+    ensures { IfOk result (λ actions. actions ≡ actions_by which call.now view.now) }
+{
+    match which {
+        Which::Quiet | Which::Stop => Ok(Actions::empty(alloc)),
+        Which::AddUser => asked_by_adduser(alloc, call),
+        Which::Tick => asked_by_tick(alloc),
+        Which::Tell => asked_by_tell(alloc, call),
+        Which::Echo => asked_by_echo(alloc, call),
+        Which::Op => asked_for_mode(alloc, is_from_op(call, view), b"+o", call),
+        Which::Deop => asked_for_mode(alloc, is_from_op(call, view), b"-o", call),
+        Which::Voice => asked_for_mode(alloc, is_from_voice(call, view), b"+v", call),
+        Which::Devoice => asked_for_mode(alloc, is_from_voice(call, view), b"-v", call),
+        Which::AutoOp => asked_by_autoop(alloc, call, view),
+        Which::Kick => asked_by_kick(alloc, is_from_op(call, view), call),
+        Which::Topic => asked_by_topic(alloc, is_from_op(call, view), call),
+        Which::Invite => asked_by_invite(alloc, is_from_op(call, view), call),
+        Which::Ban => asked_by_ban(alloc, is_from_op(call, view), call, view),
+        Which::Unban => asked_by_unban(alloc, is_from_op(call, view), call),
+        Which::Lift => asked_by_lift(alloc, call, view),
+        Which::PlusUser => {
+            let wish = plus_user(alloc, told_of(call))?;
+            asked_by_command(alloc, call, view, b"use +user HANDLE", wish)
+        }
+        Which::MinusUser => {
+            let wish = minus_user(alloc, told_of(call))?;
+            asked_by_command(alloc, call, view, b"use -user HANDLE", wish)
+        }
+        Which::PlusHost => {
+            let wish = plus_host(alloc, told_of(call))?;
+            asked_by_command(alloc, call, view, b"use +host HANDLE MASK", wish)
+        }
+        Which::MinusHost => {
+            let wish = minus_host(alloc, told_of(call))?;
+            asked_by_command(alloc, call, view, b"use -host HANDLE MASK", wish)
+        }
+        Which::Chattr => {
+            let wish = chattr(alloc, told_of(call))?;
+            asked_by_command(alloc, call, view, b"use chattr HANDLE FLAGS", wish)
+        }
+        Which::Whois => asked_by_whois(alloc, call, view),
+    }
+}

@@ -1,0 +1,122 @@
+// The arguments of a call, and the words of a text.
+ghost use Rattle.std.specs.Prelude.{◌≡◌, ◌≤◌, length};
+ghost use Rattle.chanstate.specs.Speech.{word_len, spaces_len, first_word, after_word};
+ghost use Rattle.eggprocs.specs.Args.{arg_at, last_of, nick_of, handle_of, channel_of, said_of, timer_text, told_of, has_word, or_else};
+
+use bytetext::Text;
+use procstore::Call;
+
+// The argument at a place, and the empty text where there is none.
+pub(crate) fn arg_at(args: &[Text], place: usize) -> &[u8]
+    ensures { result.now ≡ arg_at args.now place }
+{
+    match args.get(place) {
+        Some(arg) => arg.as_bytes(),
+        None => b"",
+    }
+}
+
+// The last argument.
+pub(crate) fn last_of(args: &[Text]) -> &[u8]
+    ensures { result.now ≡ last_of args.now }
+{
+    match args.last() {
+        Some(last) => last.as_bytes(),
+        None => b"",
+    }
+}
+
+// Who says or does something.
+pub(crate) fn nick_of(call: &Call) -> &[u8]
+    ensures { result.now ≡ nick_of call.now }
+{
+    arg_at(call.args.as_slice(), 0)
+}
+
+// The handle of who says or does something.
+pub(crate) fn handle_of(call: &Call) -> &[u8]
+    ensures { result.now ≡ handle_of call.now }
+{
+    arg_at(call.args.as_slice(), 2)
+}
+
+// The channel of what is said or done there.
+pub(crate) fn channel_of(call: &Call) -> &[u8]
+    ensures { result.now ≡ channel_of call.now }
+{
+    arg_at(call.args.as_slice(), 3)
+}
+
+// What is said on a channel after the command's word.
+pub(crate) fn said_of(call: &Call) -> &[u8]
+    ensures { result.now ≡ said_of call.now }
+{
+    arg_at(call.args.as_slice(), 4)
+}
+
+// A timer's text.
+pub(crate) fn timer_text(call: &Call) -> &[u8]
+    ensures { result.now ≡ timer_text call.now }
+{
+    arg_at(call.args.as_slice(), 0)
+}
+
+// What is said to the bot after the command's word.
+pub(crate) fn told_of(call: &Call) -> &[u8]
+    ensures { result.now ≡ told_of call.now }
+{
+    arg_at(call.args.as_slice(), 3)
+}
+
+// A text, or another one where it is empty.
+pub(crate) fn or_else<'a>(text: &'a [u8], other: &'a [u8]) -> &'a [u8]
+    ensures { result.now ≡ or_else text.now other.now }
+{
+    if text.is_empty() { other } else { text }
+}
+
+// How long the first word is.
+fn count_word(text: &[u8]) -> usize
+    ensures value { result ≡ word_len text.now }
+    ensures within { result ≤ length text.now }
+{
+    let mut count = 0;
+    while count < text.len() && text[count] != b' ' {
+        count += 1;
+    }
+    count
+}
+
+// How many spaces stand in front.
+fn count_spaces(text: &[u8]) -> usize
+    ensures value { result ≡ spaces_len text.now }
+    ensures within { result ≤ length text.now }
+{
+    let mut count = 0;
+    while count < text.len() && text[count] == b' ' {
+        count += 1;
+    }
+    count
+}
+
+// The first word: empty where the text begins with a space.
+pub(crate) fn first_word(text: &[u8]) -> &[u8]
+    ensures { result.now ≡ first_word text.now }
+{
+    &text[..count_word(text)]
+}
+
+// What follows the first word and the spaces after it.
+pub(crate) fn after_word(text: &[u8]) -> &[u8]
+    ensures { result.now ≡ after_word text.now }
+{
+    let rest = &text[count_word(text)..];
+    &rest[count_spaces(rest)..]
+}
+
+// Whether a text begins with a word: it isn't empty, and begins with no space.
+pub(crate) fn has_word(text: &[u8]) -> bool
+    ensures { result ≡ has_word text.now }
+{
+    !first_word(text).is_empty()
+}

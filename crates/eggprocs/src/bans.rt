@@ -1,0 +1,182 @@
+// The procs that ban.
+ghost use Rattle.std.specs.Prelude.{◌≡◌, ◌∷◌, [], IfOk};
+ghost use Rattle.eggprocs.specs.Bans.{mask_of, minutes_in, short, comment_after, end_of, ban_in, lift_wish, lift_after, lift_of, mode_of};
+ghost use Rattle.eggprocs.specs.Bans.{asked_by_ban, asked_by_unban, asked_by_lift};
+
+use crate::args::{after_word, channel_of, first_word, handle_of, has_word, said_of, timer_text};
+use crate::lines::mode;
+use crate::pairs::{and_then, two};
+use crate::rights::{is_op_of, is_timer};
+use bytetext::{MOMENTS_END, NoMemory, Text};
+use outqueue::Queue;
+use procstore::{Action, Actions, Call, PutWish, TimerWish, View};
+use scriptwords::number;
+use std::alloc::Global;
+use userfile::{Change, MAX_COMMENT, expires_at, is_hostmask};
+
+/// The most minutes that a utimer counts as seconds.
+pub const UTIMER_MINUTES: u32 = 16_666;
+
+// The mask that a command's text begins with.
+fn mask_of(call: &Call) -> &[u8]
+    ensures { result.now ≡ mask_of call.now }
+{
+    first_word(said_of(call))
+}
+
+// A number of minutes, if a text begins with one.
+fn minutes_in(text: &[u8]) -> Option<u32>
+    ensures { result ≡ minutes_in text.now }
+{
+    let minutes = number(first_word(text))?;
+    if minutes < 4_294_967_296 {
+        Some(minutes as u32)
+    } else {
+        None
+    }
+}
+
+// The comment that follows the minutes, if there are any.
+fn comment_after(minutes: Option<u32>, text: &[u8]) -> &[u8]
+    ensures { result.now ≡ comment_after minutes text.now }
+{
+    match minutes {
+        Some(_) => short(after_word(text)),
+        None => short(text),
+    }
+}
+
+// A text as far as a ban takes it for a comment.
+fn short(text: &[u8]) -> &[u8]
+    ensures { result.now ≡ short text.now }
+{
+    &text[..text.len().min(MAX_COMMENT)]
+}
+
+// When a ban ends.
+fn end_of(second: Option<u64>, minutes: Option<u32>) -> u64
+    ensures { result ≡ end_of second minutes }
+{
+    let Some(second) = second else { return 0 };
+    let Some(minutes) = minutes else { return 0 };
+    if second < MOMENTS_END {
+        expires_at(second, minutes)
+    } else {
+        0
+    }
+}
+
+// The ban that a command means, of which this follows the mask.
+fn ban_in(alloc: Global, call: &Call, second: Option<u64>, rest: &[u8]) -> Result<Change, NoMemory>
+    ensures { IfOk result (λ change. change ≡ ban_in call.now second rest.now) }
+{
+    let channel = Text::from_slice(alloc, channel_of(call))?;
+    let mask = Text::from_slice(alloc, mask_of(call))?;
+    let creator = Text::from_slice(alloc, handle_of(call))?;
+    let minutes = minutes_in(rest);
+    let expires = end_of(second, minutes);
+    let comment = Text::from_slice(alloc, comment_after(minutes, rest))?;
+    Ok(Change::AddBan {
+        channel,
+        mask,
+        creator,
+        expires,
+        comment,
+    })
+}
+
+// A call of `lift` so much later, with the channel and the mask.
+fn lift_wish(alloc: Global, call: &Call, interval: u32) -> Result<TimerWish, NoMemory>
+    ensures { IfOk result (λ wish. wish ≡ lift_wish call.now interval) }
+{
+    let proc = Text::from_slice(alloc, b"lift")?;
+    let mut text = Vec::from_slice(alloc, channel_of(call))?;
+    text.extend_from_slice(b" ")?;
+    text.extend_from_slice(mask_of(call))?;
+    let text = Text::new(text);
+    Ok(TimerWish {
+        interval,
+        count: 1,
+        proc,
+        text,
+    })
+}
+
+fn lift_after(alloc: Global, call: &Call, minutes: u32) -> Result<Action, NoMemory>
+    ensures { IfOk result (λ action. action ≡ lift_after call.now minutes) }
+{
+    if minutes <= UTIMER_MINUTES {
+        Ok(Action::Utimer(lift_wish(alloc, call, minutes * 60)?))
+    } else {
+        Ok(Action::Timer(lift_wish(alloc, call, minutes)?))
+    }
+}
+
+// When the ban is to end on the channel, if it ends.
+fn lift_of(alloc: Global, call: &Call, minutes: Option<u32>) -> Result<Option<Action>, NoMemory>
+    ensures { IfOk result (λ lift. lift ≡ lift_of call.now minutes) }
+{
+    match minutes {
+        Some(minutes) if minutes > 0 => Ok(Some(lift_after(alloc, call, minutes)?)),
+        Some(_) | None => Ok(None),
+    }
+}
+
+// A mode of the mask on the channel.
+fn mode_of(alloc: Global, sign: &[u8], call: &Call) -> Result<Action, NoMemory>
+    ensures { IfOk result (λ action. action ≡ mode_of sign.now call.now) }
+{
+    let line = mode(alloc, channel_of(call), sign, mask_of(call))?;
+    let queue = Queue::Mode;
+    Ok(Action::Put(PutWish { queue, line }))
+}
+
+// What `ban` asks for: the ban in the userfile, and on the channel, and there its end.
+pub(crate) fn asked_by_ban(
+    alloc: Global,
+    may: bool,
+    call: &Call,
+    view: &View<'_>,
+) -> Result<Actions, NoMemory>
+    ensures { IfOk result (λ actions. actions ≡ asked_by_ban may call.now view.now) }
+{
+    if !(may && is_hostmask(mask_of(call))) {
+        return Ok(Actions::empty(alloc));
+    }
+    let rest = after_word(said_of(call));
+    let ban = ban_in(alloc, call, view.second(), rest)?;
+    let sets = mode_of(alloc, b"+b", call)?;
+    let lift = lift_of(alloc, call, minutes_in(rest))?;
+    and_then(alloc, Action::Ask(ban), sets, lift)
+}
+
+// What `unban` asks for: that the ban goes from both.
+pub(crate) fn asked_by_unban(alloc: Global, may: bool, call: &Call) -> Result<Actions, NoMemory>
+    ensures { IfOk result (λ actions. actions ≡ asked_by_unban may call.now) }
+{
+    if !(may && is_hostmask(mask_of(call))) {
+        return Ok(Actions::empty(alloc));
+    }
+    let channel = Text::from_slice(alloc, channel_of(call))?;
+    let mask = Text::from_slice(alloc, mask_of(call))?;
+    let clears = mode_of(alloc, b"-b", call)?;
+    two(alloc, Action::Ask(Change::DelBan { channel, mask }), clears)
+}
+
+// What `lift` asks for, with a timer's text of a channel and a mask: that the ban goes from the channel.
+pub(crate) fn asked_by_lift(
+    alloc: Global,
+    call: &Call,
+    view: &View<'_>,
+) -> Result<Actions, NoMemory>
+    ensures { IfOk result (λ actions. actions ≡ asked_by_lift call.now view.now) }
+{
+    let channel = first_word(timer_text(call));
+    let rest = after_word(timer_text(call));
+    if !(is_timer(call.kind) && is_op_of(channel, view) && has_word(rest)) {
+        return Ok(Actions::empty(alloc));
+    }
+    let line = mode(alloc, channel, b"-b", first_word(rest))?;
+    let queue = Queue::Mode;
+    Actions::one(alloc, Action::Put(PutWish { queue, line }))
+}

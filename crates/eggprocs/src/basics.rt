@@ -1,0 +1,91 @@
+// The procs that look at nothing but their call.
+ghost use Rattle.std.specs.Prelude.{◌≡◌, IfOk};
+ghost use Rattle.eggprocs.specs.Basics.{asked_by_adduser, asked_by_echo, asked_by_tick, asked_by_tell, is_command, place_of};
+
+use crate::args::{arg_at, last_of};
+use crate::lines::privmsg;
+use bytetext::{NoMemory, Text};
+use outqueue::Queue;
+use procstore::{Action, Actions, BotWish, Call, Kind, PutWish, TimerWish};
+use std::alloc::Global;
+use userfile::Change;
+
+// What `adduser` asks for: a user whose handle is the text after the command.
+pub(crate) fn asked_by_adduser(alloc: Global, call: &Call) -> Result<Actions, NoMemory>
+    ensures { IfOk result (λ actions. actions ≡ asked_by_adduser call.now) }
+{
+    if !is_command(call.kind) {
+        return Ok(Actions::empty(alloc));
+    }
+    let handle = Text::from_slice(alloc, last_of(call.args.as_slice()))?;
+    Actions::one(alloc, Action::Ask(Change::AddUser { handle }))
+}
+
+// What `tick` asks for: a call of `quiet` ten seconds on, once.
+pub(crate) fn asked_by_tick(alloc: Global) -> Result<Actions, NoMemory>
+    ensures { IfOk result (λ actions. actions ≡ asked_by_tick) }
+{
+    let proc = Text::from_slice(alloc, b"quiet")?;
+    let text = Text::empty(alloc);
+    let wish = TimerWish {
+        interval: 10,
+        count: 1,
+        proc,
+        text,
+    };
+    Actions::one(alloc, Action::Utimer(wish))
+}
+
+// What `tell` asks for: that the hub is told the text after the command.
+pub(crate) fn asked_by_tell(alloc: Global, call: &Call) -> Result<Actions, NoMemory>
+    ensures { IfOk result (λ actions. actions ≡ asked_by_tell call.now) }
+{
+    if !is_command(call.kind) {
+        return Ok(Actions::empty(alloc));
+    }
+    let text = Text::from_slice(alloc, last_of(call.args.as_slice()))?;
+    Actions::one(alloc, Action::SendBot(BotWish { to: 0, text }))
+}
+
+// What `echo` asks for: that what was said is said again where it was said.
+pub(crate) fn asked_by_echo(alloc: Global, call: &Call) -> Result<Actions, NoMemory>
+    ensures { IfOk result (λ actions. actions ≡ asked_by_echo call.now) }
+{
+    let Some(place) = place_of(call.kind) else {
+        return Ok(Actions::empty(alloc));
+    };
+    let args = call.args.as_slice();
+    let line = privmsg(alloc, arg_at(args, place), last_of(args))?;
+    let queue = Queue::Help;
+    Actions::one(alloc, Action::Put(PutWish { queue, line }))
+}
+
+// Where what is said is said again: the argument that is the channel, or the nick that said it privately.
+fn place_of(kind: Kind) -> Option<usize>
+    ensures { result ≡ place_of kind }
+{
+    match kind {
+        Kind::Pub | Kind::Pubm => Some(3),
+        Kind::Msg | Kind::Msgm => Some(0),
+        Kind::Raw
+        | Kind::Notc
+        | Kind::Join
+        | Kind::Part
+        | Kind::Sign
+        | Kind::Kick
+        | Kind::Nick
+        | Kind::Mode
+        | Kind::Topc
+        | Kind::Bot
+        | Kind::Time
+        | Kind::Cron
+        | Kind::Timer => None,
+    }
+}
+
+// Whether a kind's last argument is what stands behind a first word.
+fn is_command(kind: Kind) -> bool
+    ensures { result ≡ is_command kind }
+{
+    matches!(kind, Kind::Msg | Kind::Pub)
+}

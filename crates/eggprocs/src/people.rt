@@ -1,0 +1,272 @@
+// The procs by which masters change the userfile.
+ghost use Rattle.std.specs.Prelude.{◌≡◌, ◌++◌, ◌∷◌, [], IfOk};
+ghost use Rattle.std.specs.Option.{option_copied};
+ghost use Rattle.eggprocs.specs.People.{handle_in, makes_owner, is_for_owners};
+ghost use Rattle.eggprocs.specs.People.{told, asked_by_command, asked_by_master, asked_unless, plus_user, minus_user, plus_host, minus_host, chattr, listed, described, asked_by_whois};
+ghost use Rattle.eggprocs.specs.Args.{told_of};
+ghost use Rattle.eggprocs.specs.Rights.{standing_of};
+ghost use Rattle.chanstate.specs.Speech.{first_word};
+ghost use Rattle.userfile.specs.Held.{user_of};
+
+use crate::args::{after_word, first_word, has_word, nick_of, told_of};
+use crate::lines::notice;
+use crate::pairs::two;
+use crate::rights::{OWNER, Standing, is_owner, standing_of};
+use bytetext::{NoMemory, Text};
+use flagexpr::Flags;
+use outqueue::Queue;
+use procstore::{Action, Actions, Call, PutWish, View};
+use std::alloc::Global;
+use userfile::{Change, ChangeFault, Hostmask, User};
+
+// What a stranger is told.
+const FOR_MASTERS: &[u8] = b"only masters and owners may do that";
+
+// What a master is told who is no owner.
+const FOR_OWNERS: &[u8] = b"only owners may do that";
+
+// Who calls is told something.
+fn told(alloc: Global, call: &Call, words: &[u8]) -> Result<Action, NoMemory>
+    ensures { IfOk result (λ action. action ≡ told call.now words.now) }
+{
+    let line = notice(alloc, nick_of(call), words)?;
+    let queue = Queue::Help;
+    Ok(Action::Put(PutWish { queue, line }))
+}
+
+// Who calls is told something, and that is all.
+fn only_told(alloc: Global, call: &Call, words: &[u8]) -> Result<Actions, NoMemory>
+    ensures { IfOk result (λ actions. actions ≡ told call.now words.now ∷ []) }
+{
+    let action = told(alloc, call, words)?;
+    Actions::one(alloc, action)
+}
+
+// What a command to the bot asks for.
+pub(crate) fn asked_by_command(
+    alloc: Global,
+    call: &Call,
+    view: &View<'_>,
+    usage: &[u8],
+    wish: Option<Change>,
+) -> Result<Actions, NoMemory>
+    ensures { IfOk result (λ actions.
+        actions ≡ asked_by_command (standing_of call.now view.now) call.now view.now usage.now wish) }
+{
+    match standing_of(call, view) {
+        Standing::Elsewhere => Ok(Actions::empty(alloc)),
+        Standing::Stranger => only_told(alloc, call, FOR_MASTERS),
+        Standing::Master => asked_by_master(alloc, call, view, usage, wish),
+    }
+}
+
+// What a master's command asks for: its change, unless that is for owners, or to be told how it is used.
+fn asked_by_master(
+    alloc: Global,
+    call: &Call,
+    view: &View<'_>,
+    usage: &[u8],
+    wish: Option<Change>,
+) -> Result<Actions, NoMemory>
+    ensures { IfOk result (λ actions. actions ≡ asked_by_master call.now view.now usage.now wish) }
+{
+    match wish {
+        Some(change) => {
+            if is_for_owners(&change, view) && !is_owner(call, view) {
+                return only_told(alloc, call, FOR_OWNERS);
+            }
+            let fault = view.userfile().refusal_of(&change);
+            asked_unless(alloc, fault, call, change)
+        }
+        None => only_told(alloc, call, usage),
+    }
+}
+
+// Whether a change makes an owner, or is of one.
+fn is_for_owners(change: &Change, view: &View<'_>) -> bool
+    ensures { result ≡ is_for_owners change.now view.now }
+{
+    makes_owner(change)
+        || view
+            .userfile()
+            .flags_of(handle_in(change), b"")
+            .global
+            .has(OWNER)
+}
+
+fn makes_owner(change: &Change) -> bool
+    ensures { result ≡ makes_owner change.now }
+{
+    match change {
+        Change::SetGlobal { handle: _, flags } => flags.has(OWNER),
+        Change::AddUser { .. }
+        | Change::DelUser { .. }
+        | Change::AddHost { .. }
+        | Change::DelHost { .. }
+        | Change::SetChan { .. }
+        | Change::SetBot { .. }
+        | Change::AddBan { .. }
+        | Change::DelBan { .. } => false,
+    }
+}
+
+// The user that a change is of.
+fn handle_in(change: &Change) -> &[u8]
+    ensures { result.now ≡ handle_in change.now }
+{
+    match change {
+        Change::AddUser { handle }
+        | Change::DelUser { handle }
+        | Change::AddHost { handle, mask: _ }
+        | Change::DelHost { handle, mask: _ }
+        | Change::SetGlobal { handle, flags: _ }
+        | Change::SetChan {
+            handle,
+            channel: _,
+            flags: _,
+        }
+        | Change::SetBot { handle, flags: _ } => handle.as_bytes(),
+        Change::AddBan { .. } | Change::DelBan { .. } => b"",
+    }
+}
+
+// A change is asked for, or it is told why the userfile does not take it.
+fn asked_unless(
+    alloc: Global,
+    fault: Option<ChangeFault>,
+    call: &Call,
+    change: Change,
+) -> Result<Actions, NoMemory>
+    ensures { IfOk result (λ actions. actions ≡ asked_unless fault call.now change) }
+{
+    match fault {
+        Some(fault) => {
+            let mut words = Vec::from_slice(alloc, b"that is refused: ")?;
+            words.extend_from_slice(fault.code().as_bytes())?;
+            only_told(alloc, call, words.as_slice())
+        }
+        None => {
+            let answer = told(alloc, call, b"this waits for the next pump")?;
+            two(alloc, Action::Ask(change), answer)
+        }
+    }
+}
+
+// The change that `+user` means: HANDLE.
+pub(crate) fn plus_user(alloc: Global, text: &[u8]) -> Result<Option<Change>, NoMemory>
+    ensures { IfOk result (λ wish. wish ≡ plus_user text.now) }
+{
+    if !has_word(text) {
+        return Ok(None);
+    }
+    let handle = Text::from_slice(alloc, first_word(text))?;
+    Ok(Some(Change::AddUser { handle }))
+}
+
+// The change that `-user` means: HANDLE.
+pub(crate) fn minus_user(alloc: Global, text: &[u8]) -> Result<Option<Change>, NoMemory>
+    ensures { IfOk result (λ wish. wish ≡ minus_user text.now) }
+{
+    if !has_word(text) {
+        return Ok(None);
+    }
+    let handle = Text::from_slice(alloc, first_word(text))?;
+    Ok(Some(Change::DelUser { handle }))
+}
+
+// The change that `+host` means: HANDLE MASK.
+pub(crate) fn plus_host(alloc: Global, text: &[u8]) -> Result<Option<Change>, NoMemory>
+    ensures { IfOk result (λ wish. wish ≡ plus_host text.now) }
+{
+    let rest = after_word(text);
+    if !(has_word(text) && has_word(rest)) {
+        return Ok(None);
+    }
+    let handle = Text::from_slice(alloc, first_word(text))?;
+    let mask = Text::from_slice(alloc, first_word(rest))?;
+    Ok(Some(Change::AddHost { handle, mask }))
+}
+
+// The change that `-host` means: HANDLE MASK.
+pub(crate) fn minus_host(alloc: Global, text: &[u8]) -> Result<Option<Change>, NoMemory>
+    ensures { IfOk result (λ wish. wish ≡ minus_host text.now) }
+{
+    let rest = after_word(text);
+    if !(has_word(text) && has_word(rest)) {
+        return Ok(None);
+    }
+    let handle = Text::from_slice(alloc, first_word(text))?;
+    let mask = Text::from_slice(alloc, first_word(rest))?;
+    Ok(Some(Change::DelHost { handle, mask }))
+}
+
+// The change that `chattr` means: HANDLE FLAGS.
+pub(crate) fn chattr(alloc: Global, text: &[u8]) -> Result<Option<Change>, NoMemory>
+    ensures { IfOk result (λ wish. wish ≡ chattr text.now) }
+{
+    let rest = after_word(text);
+    if !(has_word(text) && has_word(rest)) {
+        return Ok(None);
+    }
+    let Ok(flags) = Flags::parse(first_word(rest)) else {
+        return Ok(None);
+    };
+    let handle = Text::from_slice(alloc, first_word(text))?;
+    Ok(Some(Change::SetGlobal { handle, flags }))
+}
+
+// What `whois` asks for: that a master is told who somebody is.
+pub(crate) fn asked_by_whois(
+    alloc: Global,
+    call: &Call,
+    view: &View<'_>,
+) -> Result<Actions, NoMemory>
+    ensures { IfOk result (λ actions.
+        actions ≡ asked_by_whois (standing_of call.now view.now) call.now view.now) }
+{
+    match standing_of(call, view) {
+        Standing::Elsewhere => Ok(Actions::empty(alloc)),
+        Standing::Stranger => only_told(alloc, call, FOR_MASTERS),
+        Standing::Master => {
+            let words = whois(alloc, call, view)?;
+            only_told(alloc, call, words.as_bytes())
+        }
+    }
+}
+
+// What is said of the user that `whois` names.
+fn whois(alloc: Global, call: &Call, view: &View<'_>) -> Result<Text, NoMemory>
+    ensures { IfOk result (λ words.
+        words ≡ described (user_of (first_word (told_of call.now)) view.now.sight.records.users)) }
+{
+    described(alloc, view.userfile().user(first_word(told_of(call))))
+}
+
+// What is said of a user.
+fn described(alloc: Global, user: Option<&User>) -> Result<Text, NoMemory>
+    ensures { IfOk result (λ words. words ≡ described (option_copied user.entry)) }
+{
+    let Some(user) = user else {
+        return Text::from_slice(alloc, b"there is no such user");
+    };
+    let flags = user.global.text(alloc)?;
+    let masks = listed(alloc, user.masks.as_slice())?;
+    let mut words = Vec::from_slice(alloc, user.handle.as_bytes())?;
+    words.extend_from_slice(b" has the flags ")?;
+    words.extend_from_slice(flags.as_bytes())?;
+    words.extend_from_slice(b" and the hostmasks")?;
+    words.extend_from_slice(masks.as_bytes())?;
+    Ok(Text::new(words))
+}
+
+// The hostmasks, each after a space.
+fn listed(alloc: Global, masks: &[Hostmask]) -> Result<Text, NoMemory>
+    ensures { IfOk result (λ text. text ≡ listed masks.now) }
+{
+    let mut text = Vec::new(alloc);
+    for mask in masks {
+        text.extend_from_slice(b" ")?;
+        text.extend_from_slice(mask.as_bytes())?;
+    }
+    Ok(Text::new(text))
+}

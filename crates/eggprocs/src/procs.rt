@@ -1,0 +1,36 @@
+// The procs in a store.
+ghost use Rattle.std.specs.Prelude.{◌≡◌, ◌++◌, ◌∷◌, [], map, IfOk, OnOk};
+ghost use Rattle.eggprocs.specs.Procs.{name_of, every};
+
+use crate::body::EggProc;
+use crate::promise::Ours;
+use crate::which::{EVERY, Which};
+use bytetext::{NoMemory, Text};
+use procstore::{Proc, ProcStore};
+use std::alloc::Global;
+
+/// A store of all the procs, in the order of [`EVERY`](crate::EVERY).
+///
+/// # Errors
+/// `NoMemory` where room is refused.
+pub fn store(alloc: Global) -> Result<ProcStore<Ours, EggProc>, NoMemory>
+    ensures { IfOk result (λ store. store ≡ map name_of every) }
+{
+    let mut store = ProcStore::new(alloc);
+    for which in &EVERY {
+        add(alloc, &mut store, *which)?;
+    }
+    Ok(store)
+}
+
+// Adds a proc. There are few, and their names differ, so that only memory can be lacking.
+fn add(alloc: Global, store: &mut ProcStore<Ours, EggProc>, which: Which) -> Result<(), NoMemory>
+    ensures { OnOk result (store.new ≡ store.old ++ name_of which ∷ []) }
+{
+    let name = Text::from_slice(alloc, which.name())?;
+    let proc = Proc::new(name, EggProc::new(alloc, which));
+    match store.add(alloc, proc) {
+        Ok(()) => Ok(()),
+        Err(_) => Err(NoMemory),
+    }
+}

@@ -1,0 +1,150 @@
+// Who may have something done.
+ghost use Rattle.std.specs.Prelude.{◌≡◌, ℕ};
+ghost use Rattle.eggprocs.specs.Rights.{is_pub, is_join, is_msg, is_timer, flags_by, has_flag, is_op_of, is_bot_op, is_from_op, is_from_voice, global_by, is_owner, is_master, standing_if, standing_of};
+
+use crate::args::{channel_of, handle_of};
+use flagexpr::Flags;
+use procstore::{Call, Kind, View};
+use userfile::PersonFlags;
+
+/// The flag of who gets op on joining a channel.
+pub const AUTO_OP: u8 = b'a';
+
+/// The flag of who gets voice on joining a channel.
+pub const AUTO_VOICE: u8 = b'g';
+
+/// The flag of a channel's operators.
+pub const OP: u8 = b'o';
+
+/// The flag of who may have voice.
+pub const VOICE: u8 = b'v';
+
+/// The flag of masters.
+pub const MASTER: u8 = b'm';
+
+/// The flag of owners.
+pub const OWNER: u8 = b'n';
+
+/// Who says something to the bot.
+#[derive(Clone, Copy, Debug)]
+pub enum Standing {
+    /// Nobody: the call is for something else.
+    Elsewhere,
+    /// Somebody without the flags `m` and `n`.
+    Stranger,
+    /// Somebody with one of the flags `m` and `n`, everywhere.
+    Master,
+}
+
+// Whether a call is for the first word of what is said on a channel.
+fn is_pub(kind: Kind) -> bool
+    ensures { result ≡ is_pub kind }
+{
+    matches!(kind, Kind::Pub)
+}
+
+// Whether a call is for a join.
+pub(crate) fn is_join(kind: Kind) -> bool
+    ensures { result ≡ is_join kind }
+{
+    matches!(kind, Kind::Join)
+}
+
+// Whether a call is for the first word of what is said to the bot.
+fn is_msg(kind: Kind) -> bool
+    ensures { result ≡ is_msg kind }
+{
+    matches!(kind, Kind::Msg)
+}
+
+// Whether a call is for a timer that is due.
+pub(crate) fn is_timer(kind: Kind) -> bool
+    ensures { result ≡ is_timer kind }
+{
+    matches!(kind, Kind::Timer)
+}
+
+// The flags of who calls, with those on the call's channel.
+pub(crate) fn flags_by(call: &Call, view: &View<'_>) -> PersonFlags
+    ensures { result ≡ flags_by call.now view.now }
+{
+    view.userfile().flags_of(handle_of(call), channel_of(call))
+}
+
+// Whether a person has a flag, everywhere or on the channel.
+pub(crate) fn has_flag(letter: u8, flags: &PersonFlags) -> bool
+    ensures { result ≡ has_flag letter flags.now }
+{
+    flags.global.has(letter) || flags.chan.has(letter)
+}
+
+// Whether the bot itself is an operator of the call's channel.
+pub(crate) fn is_bot_op(call: &Call, view: &View<'_>) -> bool
+    ensures { result ≡ is_bot_op call.now view.now }
+{
+    is_op_of(channel_of(call), view)
+}
+
+// Whether the bot itself is an operator of a channel.
+pub(crate) fn is_op_of(channel: &[u8], view: &View<'_>) -> bool
+    ensures { result ≡ is_op_of channel.now view.now }
+{
+    let channels = view.channels();
+    channels.is_op(channel, channels.own_nick())
+}
+
+// Whether a call is a word, on a channel on which the bot is an operator, of who has the flag o.
+pub(crate) fn is_from_op(call: &Call, view: &View<'_>) -> bool
+    ensures { result ≡ is_from_op call.now view.now }
+{
+    is_pub(call.kind) && is_bot_op(call, view) && has_flag(OP, &flags_by(call, view))
+}
+
+// Whether a call is a word, on a channel on which the bot is an operator, of who has one of the flags o and v.
+pub(crate) fn is_from_voice(call: &Call, view: &View<'_>) -> bool
+    ensures { result ≡ is_from_voice call.now view.now }
+{
+    let flags = flags_by(call, view);
+    is_pub(call.kind) && is_bot_op(call, view) && (has_flag(OP, &flags) || has_flag(VOICE, &flags))
+}
+
+// The flags that who calls has everywhere.
+fn global_by(call: &Call, view: &View<'_>) -> Flags
+    ensures { result ≡ global_by call.now view.now }
+{
+    view.userfile().flags_of(handle_of(call), b"").global
+}
+
+// Whether who calls has the flag n everywhere.
+pub(crate) fn is_owner(call: &Call, view: &View<'_>) -> bool
+    ensures { result ≡ is_owner call.now view.now }
+{
+    global_by(call, view).has(OWNER)
+}
+
+// Whether who calls has one of the flags m and n everywhere.
+fn is_master(call: &Call, view: &View<'_>) -> bool
+    ensures { result ≡ is_master call.now view.now }
+{
+    let global = global_by(call, view);
+    global.has(MASTER) || global.has(OWNER)
+}
+
+// Who says something to the bot.
+pub(crate) fn standing_of(call: &Call, view: &View<'_>) -> Standing
+    ensures { result ≡ standing_of call.now view.now }
+{
+    standing_if(is_msg(call.kind), is_master(call, view))
+}
+
+fn standing_if(told: bool, master: bool) -> Standing
+    ensures { result ≡ standing_if told master }
+{
+    if !told {
+        Standing::Elsewhere
+    } else if master {
+        Standing::Master
+    } else {
+        Standing::Stranger
+    }
+}

@@ -1,0 +1,151 @@
+// Which proc is meant.
+ghost use Rattle.std.specs.Prelude.{◌≡◌};
+ghost use Rattle.eggprocs.specs.Procs.{name_of, every, code_by};
+
+use procstore::Code;
+
+/// How many procs there are.
+pub const PROC_COUNT: usize = 23;
+
+/// Every proc, in the order in which [`store`](crate::store) adds them.
+pub const EVERY: [Which; PROC_COUNT] = [
+    Which::Quiet,
+    Which::Stop,
+    Which::AddUser,
+    Which::Tick,
+    Which::Tell,
+    Which::Echo,
+    Which::Op,
+    Which::Deop,
+    Which::Voice,
+    Which::Devoice,
+    Which::AutoOp,
+    Which::Kick,
+    Which::Topic,
+    Which::Invite,
+    Which::Ban,
+    Which::Unban,
+    Which::Lift,
+    Which::PlusUser,
+    Which::MinusUser,
+    Which::PlusHost,
+    Which::MinusHost,
+    Which::Chattr,
+    Which::Whois,
+];
+
+/// A proc of the programs. The crate's first page says what each is for.
+#[derive(Clone, Copy, Debug)]
+pub enum Which {
+    /// `quiet`: asks for nothing.
+    Quiet,
+    /// `stop`: asks for nothing, and answers 1.
+    Stop,
+    /// `adduser`: asks for a user.
+    AddUser,
+    /// `tick`: asks for a call of `quiet`.
+    Tick,
+    /// `tell`: tells the hub a text.
+    Tell,
+    /// `echo`: says a text again.
+    Echo,
+    /// `op`: makes somebody an operator of a channel.
+    Op,
+    /// `deop`: the reverse of `op`.
+    Deop,
+    /// `voice`: gives somebody voice on a channel.
+    Voice,
+    /// `devoice`: the reverse of `voice`.
+    Devoice,
+    /// `autoop`: gives op or voice to who joins.
+    AutoOp,
+    /// `kick`: kicks somebody from a channel.
+    Kick,
+    /// `topic`: sets a channel's topic.
+    Topic,
+    /// `invite`: invites somebody to a channel.
+    Invite,
+    /// `ban`: bans a mask from a channel.
+    Ban,
+    /// `unban`: the reverse of `ban`.
+    Unban,
+    /// `lift`: ends a ban on its channel, for the timer that `ban` asks for.
+    Lift,
+    /// `+user`: asks for a user.
+    PlusUser,
+    /// `-user`: asks that a user goes.
+    MinusUser,
+    /// `+host`: asks for a hostmask of a user.
+    PlusHost,
+    /// `-host`: asks that a hostmask goes.
+    MinusHost,
+    /// `chattr`: asks for other flags of a user.
+    Chattr,
+    /// `whois`: says who a user is.
+    Whois,
+}
+
+impl Which {
+    /// The name under which a store has the proc.
+    pub fn name(self) -> &'static [u8]
+        ensures { result.now ≡ name_of self }
+    {
+        match self {
+            Which::Quiet => b"quiet",
+            Which::Stop => b"stop",
+            Which::AddUser => b"adduser",
+            Which::Tick => b"tick",
+            Which::Tell => b"tell",
+            Which::Echo => b"echo",
+            Which::Op => b"op",
+            Which::Deop => b"deop",
+            Which::Voice => b"voice",
+            Which::Devoice => b"devoice",
+            Which::AutoOp => b"autoop",
+            Which::Kick => b"kick",
+            Which::Topic => b"topic",
+            Which::Invite => b"invite",
+            Which::Ban => b"ban",
+            Which::Unban => b"unban",
+            Which::Lift => b"lift",
+            Which::PlusUser => b"+user",
+            Which::MinusUser => b"-user",
+            Which::PlusHost => b"+host",
+            Which::MinusHost => b"-host",
+            Which::Chattr => b"chattr",
+            Which::Whois => b"whois",
+        }
+    }
+
+    // The code of the proc's answers.
+    #[tactic(auto, unfolding(crate::specs::Procs::code_by))]
+    pub(crate) fn code(self) -> Code
+        ensures { result ≡ code_by self }
+    {
+        match self {
+            Which::Stop => Code::One,
+            Which::Quiet
+            | Which::AddUser
+            | Which::Tick
+            | Which::Tell
+            | Which::Echo
+            | Which::Op
+            | Which::Deop
+            | Which::Voice
+            | Which::Devoice
+            | Which::AutoOp
+            | Which::Kick
+            | Which::Topic
+            | Which::Invite
+            | Which::Ban
+            | Which::Unban
+            | Which::Lift
+            | Which::PlusUser
+            | Which::MinusUser
+            | Which::PlusHost
+            | Which::MinusHost
+            | Which::Chattr
+            | Which::Whois => Code::Zero,
+        }
+    }
+}
