@@ -1,5 +1,5 @@
 -- What a crash at any moment of a step leaves is what a process may leave that dies then.
-use Rattle.std.proofs.Common.{◌≡◌, ◌⊎◌, inl, inr, ⊎_elim, ℕ, Bool, true, false, List, [], ◌∷◌, Option, None, Some, Result, Ok, Err, refl, ap, sym, subst, ◌∙◌}
+use Rattle.std.proofs.Common.{◌≡◌, ◌⊎◌, inl, inr, ℕ, Bool, true, false, List, [], ◌∷◌, Option, None, Some, Result, Ok, Err, refl, ap, sym, subst, ◌∙◌}
 use Rattle.bytetext.specs.declared.failure.Failure.{Failure}
 use Rattle.bytetext.specs.declared.failure.Failure.TheVariants.{Refused as refused_by, NoMemory as no_memory}
 use Rattle.userfile.specs.declared.change.Change.{Change}
@@ -15,18 +15,15 @@ use Rattle.procstore.specs.declared.action.Action.{Action}
 use Rattle.procstore.specs.Promises.{Promised}
 use Rattle.procstore.specs.declared.action.Action.TheVariants.{Ask as ask_wished, Timer as timer_wished, Utimer, KillTimer, SendBot, Put}
 use Rattle.procstore.specs.declared.action.TimerName.{TimerName}
-use Rattle.procstore.specs.declared.call.Call.{Call}
-use Rattle.procstore.specs.declared.reply.Code.{Code}
 use Rattle.bindtable.specs.declared.bind.Bind.{Bind as HeldBind}
 use Rattle.bindtable.specs.declared.fault.BindFault.{BindFault}
 use Rattle.bindtable.specs.Tables.{Asked, refusal}
 use Rattle.botjournal.specs.Ledger.{Device}
-use Rattle.protocol.specs.Bots.{How, Works, Fails, Row}
-use Rattle.protocol.specs.Network.Event.{Pump as pumps, Compact as compacts}
+use Rattle.protocol.specs.Bots.{Works, Fails}
 use Rattle.linknet.specs.Ends.{End as LinkEnd}
 use Rattle.linkcalls.specs.declared.answer.Answer.{Answer}
 use Rattle.linkcalls.specs.declared.error.LinkFault.{LinkFault}
-use Rattle.botlink.specs.Links.{BotEnd, did, took, asked, AreOf, MayLeave, LeavesOwn, Asks}
+use Rattle.botlink.specs.Links.{BotEnd, took, asked, MayLeave, LeavesOwn, Asks}
 use Rattle.botcalls.specs.declared.made_call.MadeCall.{MadeCall}
 use Rattle.botcalls.specs.Calls.{Telling as Told}
 use Rattle.botcore.specs.declared.event.Event.{Event}

@@ -2,10 +2,7 @@
 use Rattle.std.proofs.Common.{◌≡◌, inl, inr, ℕ, List, [], ◌++◌, length, slice_get, slice_set, Some, refl, ap, sym}
 use Rattle.std.proofs.Common.{subst, ◌∙◌, arith}
 use Rattle.std.proofs.lemmas.List.{append-nil}
-use Rattle.procstore.specs.declared.action.Action.{Action}
 use Rattle.procstore.specs.Promises.{Promised}
-use Rattle.procstore.specs.declared.call.Call.{Call}
-use Rattle.procstore.specs.declared.reply.Code.{Code}
 use Rattle.botjournal.specs.Contents.{meaning}
 use Rattle.protocol.specs.Packets.{Sent as LinkSent, from_wire}
 use Rattle.protocol.specs.Bots.{How, Works, Fails, Counts, Row}

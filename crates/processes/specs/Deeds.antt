@@ -1,11 +1,8 @@
 -- What bots do in processes of their own, and where a list of their deeds leads.
-use Rattle.std.specs.Prelude.{◌≡◌, ℕ, suc, ◌+◌, List, [], ◌∷◌, ◌++◌, length, slice_get, slice_set, Option, None, Some}
+use Rattle.std.specs.Prelude.{◌≡◌, ℕ, ◌+◌, List, [], ◌∷◌, ◌++◌, length, slice_get, slice_set, Option, None, Some}
 use Rattle.userfile.specs.Records.{Records}
 use Rattle.sharewire.specs.declared.packet.Packet.{Packet}
-use Rattle.procstore.specs.declared.action.Action.{Action}
 use Rattle.procstore.specs.Promises.{Promised}
-use Rattle.procstore.specs.declared.call.Call.{Call}
-use Rattle.procstore.specs.declared.reply.Code.{Code}
 use Rattle.storage.specs.State.{moment, left_since}
 use Rattle.botjournal.specs.Contents.{Contents, meaning}
 use Rattle.protocol.specs.Bots.{Fails}
