@@ -1,5 +1,5 @@
 -- The form of an answer: lines, and then a line with a full stop alone.
-use Rattle.std.specs.Prelude.{ℕ, ◌-◌, Bool, List, [], ◌∷◌, ◌||◌, length, take, drop, nat_le, nat_lt, Option, None, Some, if◌then◌else◌, codes, ◌&&◌}
+use Rattle.std.specs.Prelude.{ℕ, ◌-◌, Bool, List, [], ◌∷◌, ◌||◌, length, take, drop, nat_le, Option, None, Some, if◌then◌else◌, codes, ◌&&◌}
 use Rattle.std.specs.Str.{bytes_eq}
 
 -- a line feed, and the last line

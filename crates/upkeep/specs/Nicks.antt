@@ -1,5 +1,5 @@
 -- Other nicks, where a server does not take the bot's own.
-use Rattle.std.specs.Prelude.{ℕ, suc, ◌+◌, ◌-◌, ◌^◌, ◌||◌, min, nat_lt, nat_le, List, ◌++◌, length, take, replicate, Option, None, Some, if◌then◌else◌}
+use Rattle.std.specs.Prelude.{ℕ, ◌+◌, ◌-◌, ◌^◌, ◌||◌, min, nat_lt, nat_le, List, ◌++◌, length, take, replicate, Option, None, Some, if◌then◌else◌}
 use Rattle.upkeep.specs.declared.nicks.TheConstants.{SHORT_NICK}
 
 -- a nick of nine bytes at most, whose last so many are underscores
