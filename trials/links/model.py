@@ -7,6 +7,7 @@ repository. `scripts.py` beside it writes the steps.
 import sys
 
 LAST = 4294967295
+LAYOUT = 2    # what is written; layout 1 is read, and put anew where a link is opened
 
 
 # ---- text
@@ -40,9 +41,9 @@ class Refused(Exception):
 def shape(change):
     """The number of the first fault of a change's shape, or 0."""
     kind = change[0]
-    handle = change[3] if kind == 8 else None if kind == 9 else change[1]
-    mask = change[2] if kind in (3, 4, 8, 9) else None
-    channel = change[1] if kind in (8, 9) else None
+    handle = change[3] if kind == 8 else None if kind in (9, 11) else change[1]
+    mask = change[2] if kind in (3, 4, 8, 9, 11) else None
+    channel = change[2] if kind == 6 else change[1] if kind in (8, 9, 11) else None
     if handle is not None and not good_handle(handle):
         return 1
     if mask is not None and not good_mask(mask):
@@ -51,12 +52,15 @@ def shape(change):
         return 7
     if kind == 8 and (len(change[5]) > 100 or any(b in b"\0\r\n" for b in change[5])):
         return 10
+    if kind == 10 and (len(change[2]) > 80 or any(b in b"\0\r\n" for b in change[2])):
+        return 10
     return 0
 
 
 class User:
-    def __init__(self, handle, masks=(), glob=0, chans=(), bot=0):
+    def __init__(self, handle, masks=(), glob=0, chans=(), bot=0, info=b""):
         self.handle, self.masks, self.glob, self.chans, self.bot = handle, tuple(masks), glob, tuple(chans), bot
+        self.info = info
 
 
 def user_at(users, handle):
@@ -80,6 +84,15 @@ def ban_at(bans, channel, mask):
     return None
 
 
+def with_channel(chans, channel, flags):
+    """The flags of one channel set: at its place, or last; without flags the channel is gone."""
+    place = mask_at([name for name, _ in chans], channel)
+    held = ((channel if place is None else chans[place][0], flags),) if flags else ()
+    if place is None:
+        return chans + held
+    return chans[:place] + held + chans[place + 1:]
+
+
 def apply(records, change):
     """The records after a change; or Refused."""
     fault = shape(change)
@@ -98,18 +111,32 @@ def apply(records, change):
             raise Refused(8)
         if len(bans) >= 200:
             raise Refused(11)
-        return users, bans + (change[1:6],)
-    if kind == 9:
+        return users, bans + (change[1:6] + (False,),)
+    if kind in (9, 11):
         place = ban_at(bans, change[1], change[2])
         if place is None:
             raise Refused(9)
-        return users, bans[:place] + bans[place + 1:]
+        held = () if kind == 9 else (bans[place][:5] + (change[3],),)
+        return users, bans[:place] + held + bans[place + 1:]
     place = user_at(users, change[1])
     if place is None:
         raise Refused(3)
     if kind == 2:
         return users[:place] + users[place + 1:], bans
     user = users[place]
+    if kind in (5, 6, 7):
+        glob, chans, bot = user.glob, user.chans, user.bot
+        if kind == 5:
+            glob = change[2]
+        elif kind == 6:
+            chans = with_channel(chans, change[2], change[3])
+        else:
+            bot = change[2]
+        new = User(user.handle, user.masks, glob, chans, bot, user.info)
+        return users[:place] + (new,) + users[place + 1:], bans
+    if kind == 10:
+        new = User(user.handle, user.masks, user.glob, user.chans, user.bot, change[2])
+        return users[:place] + (new,) + users[place + 1:], bans
     held = mask_at(user.masks, change[2])
     if kind == 3:
         if held is not None:
@@ -121,7 +148,7 @@ def apply(records, change):
         if held is None:
             raise Refused(6)
         masks = user.masks[:held] + user.masks[held + 1:]
-    new = User(user.handle, masks, user.glob, user.chans, user.bot)
+    new = User(user.handle, masks, user.glob, user.chans, user.bot, user.info)
     return users[:place] + (new,) + users[place + 1:], bans
 
 
@@ -162,21 +189,29 @@ def change_bytes(change):
     kind = change[0]
     if kind in (1, 2):
         return num(kind, 1) + text_bytes(change[1])
-    if kind in (3, 4, 9):
+    if kind in (3, 4, 9, 10):
         return num(kind, 1) + text_bytes(change[1]) + text_bytes(change[2])
+    if kind in (5, 7):
+        return num(kind, 1) + text_bytes(change[1]) + num(change[2], 8)
+    if kind == 6:
+        return num(kind, 1) + text_bytes(change[1]) + text_bytes(change[2]) + num(change[3], 8)
+    if kind == 11:
+        return num(kind, 1) + text_bytes(change[1]) + text_bytes(change[2]) + num(change[3], 1)
     channel, mask, creator, expires, comment = change[1:]
     return num(8, 1) + text_bytes(channel) + text_bytes(mask) + text_bytes(creator) + num(expires, 8) + text_bytes(comment)
 
 
-def user_bytes(user):
+def user_bytes(user, layout=LAYOUT):
     masks = b"".join(text_bytes(mask) for mask in user.masks)
     chans = b"".join(text_bytes(name) + num(flags, 8) for name, flags in user.chans)
-    return (b"\1" + text_bytes(user.handle) + num(len(user.masks), 1) + masks + num(user.glob, 8)
-            + num(len(user.chans), 1) + chans + num(user.bot, 8))
+    tag, info = (b"\1", b"") if layout == 1 else (b"\3", text_bytes(user.info))
+    return (tag + text_bytes(user.handle) + num(len(user.masks), 1) + masks + num(user.glob, 8)
+            + num(len(user.chans), 1) + chans + num(user.bot, 8) + info)
 
 
-def ban_bytes(ban):
-    return b"\2" + change_bytes((8,) + ban)[1:]
+def ban_bytes(ban, layout=LAYOUT):
+    tag, mark = (b"\2", b"") if layout == 1 else (b"\4", num(ban[5], 1))
+    return tag + change_bytes((8,) + ban[:5])[1:] + mark
 
 
 class Bad(Exception):
@@ -184,8 +219,8 @@ class Bad(Exception):
 
 
 class Reader:
-    def __init__(self, data):
-        self.data, self.at = data, 0
+    def __init__(self, data, layout=LAYOUT):
+        self.data, self.at, self.layout = data, 0, layout
 
     def take(self, count):
         if self.at + count > len(self.data):
@@ -209,28 +244,48 @@ class Reader:
             change = (kind, self.text())
         elif kind in (3, 4, 9):
             change = (kind, self.text(), self.text())
+        elif kind in (5, 7):
+            change = (kind, self.text(), self.num(8))
+        elif kind == 6:
+            change = (kind, self.text(), self.text(), self.num(8))
         elif kind == 8:
             change = (kind, self.text(), self.text(), self.text(), self.num(8), self.text())
+        elif kind == 10 and self.layout != 1:
+            change = (kind, self.text(), self.text())
+        elif kind == 11 and self.layout != 1:
+            change = (kind, self.text(), self.text(), self.mark())
         else:
             raise Bad
         if shape(change):
             raise Bad
         return change
 
+    def mark(self):
+        mark = self.num(1)
+        if mark > 1:
+            raise Bad
+        return bool(mark)
+
     def record(self):
         kind = self.num(1)
-        if kind == 2:
+        if kind == (2 if self.layout == 1 else 4):
             ban = (self.text(), self.text(), self.text(), self.num(8), self.text())
             if shape((8,) + ban):
                 raise Bad
-            return ban
-        if kind != 1:
+            return ban + (self.layout != 1 and self.mark(),)
+        if kind != (1 if self.layout == 1 else 3):
             raise Bad
         handle = self.text()
         masks = tuple(self.text() for _ in range(self.num(1)))
         glob = self.num(8)
         chans = tuple((self.text(), self.num(8)) for _ in range(self.num(1)))
-        return User(handle, masks, glob, chans, self.num(8))
+        return User(handle, masks, glob, chans, self.num(8), b"" if self.layout == 1 else self.info())
+
+    def info(self):
+        info = self.text()
+        if len(info) > 80 or any(b in b"\0\r\n" for b in info):
+            raise Bad
+        return info
 
 
 def items_of(records):
@@ -241,17 +296,17 @@ def records_from(items):
     return tuple(i for i in items if isinstance(i, User)), tuple(i for i in items if not isinstance(i, User))
 
 
-def item_bytes(item):
-    return user_bytes(item) if isinstance(item, User) else ban_bytes(item)
+def item_bytes(item, layout=LAYOUT):
+    return user_bytes(item, layout) if isinstance(item, User) else ban_bytes(item, layout)
 
 
 class Base:
     def __init__(self, bot, version, records, replies, last, out):
         self.bot, self.version, self.records, self.replies, self.last, self.out = bot, version, records, replies, last, out
 
-    def spell(self):
+    def spell(self, layout=LAYOUT):
         items = items_of(self.records)
-        out = num(self.bot, 2) + num(self.version, 4) + num(len(items), 2) + b"".join(map(item_bytes, items))
+        out = num(self.bot, 2) + num(self.version, 4) + num(len(items), 2) + b"".join(item_bytes(i, layout) for i in items)
         out += num(len(self.replies), 2)
         for leaf, (request, answer) in sorted(self.replies.items()):
             kind, value = answer
@@ -260,8 +315,8 @@ class Base:
         return out + (b"\0" if self.out is None else b"\1" + change_bytes(self.out))
 
 
-def read_base(data):
-    r = Reader(data)
+def read_base(data, layout):
+    r = Reader(data, layout)
     bot, version = r.num(2), r.num(4)
     records = records_from([r.record() for _ in range(r.num(2))])
     replies = {}
@@ -285,8 +340,8 @@ def spell_entry(entry):
     return b"\5" + num(entry[1], 4)
 
 
-def read_entry(data):
-    r = Reader(data)
+def read_entry(data, layout):
+    r = Reader(data, layout)
     kind = r.num(1)
     if kind == 1:
         entry = (kind, r.num(2), r.num(4), r.change())
@@ -308,7 +363,11 @@ def read_frame(data):
     if length != len(data) - 2:
         raise Bad
     if kind == 1:
-        packet = ("Hello", r.num(2), r.num(4))
+        packet = ("Hello", 1, r.num(2), r.num(4))
+    elif kind == 8:
+        packet = ("Hello", r.num(1), r.num(2), r.num(4))
+        if packet[1] < 2:
+            raise Bad
     elif kind == 2:
         packet = ("Change", r.num(4), r.num(2), r.num(4), r.change())
     elif kind == 3:
@@ -391,23 +450,26 @@ class Code(Exception):
 
 
 def read_disk(data):
-    """Generation, base, entries and the place of the last gate; None where the first gate is closed."""
+    """Generation, base, entries, the place of the last gate and the layout; None where the first gate is closed."""
     if data[:1] != b"\1":
         return None
     r = Reader(data)
     r.take(1)
     try:
-        if r.take(4) != b"EGGJ" or r.num(1) != 1:
+        if r.take(4) != b"EGGJ":
+            raise Bad
+        layout = r.num(1)
+        if layout not in (1, LAYOUT):
             raise Bad
         generation = r.num(4)
-        base = read_base(r.take(r.num(4)))
+        base = read_base(r.take(r.num(4)), layout)
         entries = []
         while data[r.at:r.at + 1] == b"\1":
             r.take(1)
-            entries.append(read_entry(r.take(r.num(4))))
+            entries.append(read_entry(r.take(r.num(4)), layout))
     except Bad:
         raise Code("J2")
-    return generation, base, entries, r.at
+    return generation, base, entries, r.at, layout
 
 
 class Journal:
@@ -419,7 +481,7 @@ class Journal:
         second.write(0, b"\0")
         second.sync()
         body = base.spell()
-        first.write(0, b"\0EGGJ\1" + num(1, 4) + num(len(body), 4) + body + b"\0")
+        first.write(0, b"\0EGGJ" + num(LAYOUT, 1) + num(1, 4) + num(len(body), 4) + body + b"\0")
         first.sync()
         first.write(0, b"\1")
         first.sync()
@@ -439,7 +501,7 @@ class Journal:
         if found[0] and found[1] and found[0][0] == found[1][0]:
             raise Code("J2")
         self.active = 0 if found[1] is None or (found[0] and found[0][0] > found[1][0]) else 1
-        self.generation, base, entries, self.gate = found[self.active]
+        self.generation, base, entries, self.gate, self.layout = found[self.active]
         return base, entries
 
     def append(self, entry):
@@ -459,13 +521,14 @@ class Journal:
             if disk.seen[:1] == b"\1":
                 disk.write(0, b"\0")
                 disk.sync()
-            disk.write(1, b"EGGJ\1" + num(self.generation + 1, 4) + num(len(body), 4) + body + b"\0")
+            disk.write(1, b"EGGJ" + num(LAYOUT, 1) + num(self.generation + 1, 4) + num(len(body), 4) + body + b"\0")
             disk.sync()
             disk.write(0, b"\1")
             disk.sync()
         except Fault:
             raise Code("S5")
         self.active, self.generation, self.gate = 1 - self.active, self.generation + 1, 14 + len(body)
+        self.layout = LAYOUT
 
 
 # ---- bots
@@ -486,6 +549,18 @@ class Bot:
         self.__dict__.update(state)
         self.waiting, self.down = [], False
         self.parts = None
+        if self.journal.layout != LAYOUT:
+            self.put_anew()
+
+    def put_anew(self):
+        """The state alone, by the present layout, before anything is answered."""
+        if self.journal.generation == LAST:
+            raise Code("J4")
+        try:
+            self.journal.rebase(self.base())
+        except Code:
+            raise Code("J1")
+        self.compacted()
 
     def up(self):
         if self.down:
@@ -604,7 +679,9 @@ class Hub(Bot):
         self.replies[leaf] = (request, ("Refused", fault))
         return "Refused U%d" % fault, [(leaf, ("Refused", leaf, request, fault))]
 
-    def take_hello(self, leaf, version):
+    def take_hello(self, layout, leaf, version):
+        if layout != LAYOUT:
+            raise Code("S8")
         if not 1 <= leaf <= self.leaves or version > self.version:
             return self.stray()
         if version >= self.floor:
@@ -657,7 +734,7 @@ class Leaf(Bot):
 
     def pump(self):
         self.up()
-        hello = (0, ("Hello", self.number, self.version))
+        hello = (0, ("Hello", LAYOUT, self.number, self.version))
         if self.out is None:
             if not self.waiting:
                 return "Idle", [hello]
@@ -743,16 +820,20 @@ def record_lines(records):
         for name, flags in user.chans:
             words += [text_of(name), flags_text(flags)]
         lines.append(" ".join(words))
-    for channel, mask, creator, expires, comment in records[1]:
+        if user.info:
+            lines.append(" ".join([" info", text_of(user.handle), text_of(user.info)]))
+    for channel, mask, creator, expires, comment, sticky in records[1]:
         words = [" ban", text_of(channel) or "*", text_of(mask), text_of(creator), str(expires)]
         lines.append(" ".join(words + ([text_of(comment)] if comment else [])))
+        if sticky:
+            lines.append(" ".join([" sticky", text_of(channel) or "*", text_of(mask)]))
     return lines
 
 
 def detail(packet):
     kind = packet[0]
     if kind == "Hello":
-        words = [packet[2]]
+        words = [packet[3]]
     elif kind == "Change":
         words = [packet[1]]
     elif kind == "Part":
@@ -780,9 +861,14 @@ def change_from(words):
         return 3, first, second
     if kind == b"delhost":
         return 4, first, second
+    if kind == b"info":
+        return 10, first, second
     channel = b"" if first == b"*" else first
     if kind == b"delban":
         return 9, channel, second
+    if kind == b"sticky":
+        mask, on = second.split(b" ")
+        return 11, channel, mask, on == b"1"
     assert kind == b"addban"
     mask, creator, expires = second.split(b" ")
     return 8, channel, mask, creator, int(expires), b""
@@ -882,9 +968,16 @@ class Net:
             disks, before = self.disks(b)
             disks[int(rest) - 1].reads = 1
             self.open(b, disks, before)
-        elif word == "hold":
-            spell = [b"" if w == "-" else bytes.fromhex(w) for w in rest.decode().split(" ")]
-            self.open(b, [Disk(spell[0]), Disk(spell[1])], 0)
+        elif word in ("hold", "stop"):
+            words = rest.decode().split(" ")
+            disks = [Disk(b"" if w == "-" else bytes.fromhex(w)) for w in words[:2]]
+            if word == "stop":
+                disk, call, tear = words[2:]
+                disks[int(disk) - 1].plan(int(call), tear if tear in ("old", "new") else int(tear))
+            self.open(b, disks, 0)
+        elif word == "again":
+            disks, before = self.disks(b)
+            self.open(b, disks, before)
         else:
             raise ValueError(word)
 

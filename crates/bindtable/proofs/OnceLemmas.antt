@@ -2,12 +2,9 @@
 use Rattle.std.proofs.Common.{◌≡◌, ℕ, zero, suc, ◌<◌, Bool, true, false, not, cond, ◌||◌, List, [], ◌∷◌, length, map, filter, find, get_or}
 use Rattle.std.proofs.lemmas.Bool.{or_parts}
 use Rattle.std.proofs.Common.{set, Option, Some, None, refl, sym, ap, ◌∙◌, arith}
-use Rattle.std.proofs.Common.{◌≤◌, ltb}
-use Rattle.std.specs.List.{list_any, remove, position, position_or_len}
-use Rattle.std.proofs.lemmas.Bool.Decides.{nat_tests}
+use Rattle.std.specs.List.{list_any, remove, position}
+use Rattle.bottimers.proofs.Places.{list_any-None}
 use Rattle.bindtable.specs.Wishes.{IsAt}
-use Rattle.std.proofs.lemmas.List.Folds.{list_any_none}
-use Rattle.std.proofs.lemmas.List.Sums.{fails_before_first}
 use Rattle.std.proofs.lemmas.List.Quantifiers.{position-Some}
 
 -- no two elements pass
@@ -83,17 +80,6 @@ find-none t (x ∷ xs) none =
     let parts = or_parts (t x) (list_any t xs) none in
     ap (λ b. cond b (Some x) (find t xs)) parts.0 ∙ find-none t xs parts.1
 
-cond_none : {X : Type 0} (b : Bool) (x : X) → cond b (Some x) None ≡ None → b ≡ false
-cond_none true x e = absurd cc
-cond_none false x e = refl
-
--- where no place is given, none passes
-pub none-position : {X : Type 0} (t : X → Bool) (xs : List X) → position t xs ≡ None → list_any t xs ≡ false
-none-position t xs none =
-    let past : ltb (position_or_len t xs) (length xs) ≡ false = cond_none _ _ none in
-    let long : length xs ≤ position_or_len t xs = grind (arith, nat_tests) in
-    list_any_none t xs (λ k d less. fails_before_first t xs k d (omega arith))
-
 -- what passes neither of two tests together is not found among those that pass both
 pub list_any-kept : {X Y : Type 0} (f : Y → Bool) (g : X → Y) (p q : X → Bool) → ((x : X) → p x ≡ true → q x ≡ true → f (g x) ≡ false) → (xs : List X)
     → list_any f (map g (filter p (filter q xs))) ≡ false
@@ -117,4 +103,4 @@ IsAt-position {X} t xs ys r i d same found is =
 
 -- what it has not found
 pub none-found : {X : Type 0} (t : X → Bool) (xs ys : List X) (r : Option ℕ) → ys ≡ xs → r ≡ position t ys → r ≡ None → list_any t xs ≡ false
-none-found t xs ys r same found is = none-position t xs (ap (position t) (sym same) ∙ (sym found ∙ is))
+none-found t xs ys r same found is = list_any-None t xs (ap (position t) (sym same) ∙ (sym found ∙ is))

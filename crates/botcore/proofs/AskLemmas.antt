@@ -9,7 +9,7 @@ use Rattle.bytetext.specs.declared.failure.Failure.{Failure}
 use Rattle.bytetext.specs.declared.failure.Failure.TheVariants.{Refused, NoMemory}
 use Rattle.protocol.specs.Notes.{Note as Meaning, LinkFault as Meant}
 use Rattle.protocol.specs.Notes.Note.{Queued}
-use Rattle.protocol.specs.Notes.LinkFault.{Down, BadChange, AsksFull, Diverged, NumbersSpent, JournalFault, BadBotText, DiskFault}
+use Rattle.protocol.specs.Notes.LinkFault.{Down, BadChange, AsksFull, OtherLayout, Diverged, NumbersSpent, JournalFault, BadBotText, DiskFault}
 use Rattle.protocol.specs.Bots.{Works, noted, refused}
 use Rattle.protocol.specs.HubRules.{Hub, ask_taken}
 use Rattle.protocol.specs.LeafRules.{Leaf}
@@ -113,6 +113,7 @@ pub fault_is : (fault : LinkFault) (said : Result Meaning Meant) → IsFault fau
 fault_is fault.Down said is = (Down, is, refl)
 fault_is (fault.BadChange of_change) said is = (BadChange of_change, is, refl)
 fault_is fault.AsksFull said is = (AsksFull, is, refl)
+fault_is fault.OtherLayout said is = (OtherLayout, is, refl)
 fault_is fault.Diverged said is = (Diverged, is, refl)
 fault_is fault.NumbersSpent said is = (NumbersSpent, is, refl)
 fault_is fault.JournalFault said is = (JournalFault, is, refl)

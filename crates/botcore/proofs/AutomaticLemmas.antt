@@ -48,11 +48,11 @@ or_cases true b is first second = first refl
 or_cases false b is first second = second is
 
 -- two lists that are nothing together
-nothing_left : {B : Type 0} (xs ys : List B) → xs ++ ys ≡ [] → xs ≡ []
+pub nothing_left : {B : Type 0} (xs ys : List B) → xs ++ ys ≡ [] → xs ≡ []
 nothing_left [] ys none = refl
 nothing_left (x ∷ xs) ys none = cc
 
-nothing_right : {B : Type 0} (xs ys : List B) → xs ++ ys ≡ [] → ys ≡ []
+pub nothing_right : {B : Type 0} (xs ys : List B) → xs ++ ys ≡ [] → ys ≡ []
 nothing_right [] ys none = none
 nothing_right (x ∷ xs) ys none = cc
 

@@ -63,7 +63,7 @@ good_reported most answer report out reported = subst (λ (r : Report). AreGood 
 
 -- ---- actions
 
-AreGood-append : (xs ys : List Outgoing) → AreGood xs → AreGood ys → AreGood (xs ++ ys)
+pub AreGood-append : (xs ys : List Outgoing) → AreGood xs → AreGood ys → AreGood (xs ++ ys)
 AreGood-append [] ys good more = more
 AreGood-append (x ∷ xs) ys good more = (good.0, AreGood-append xs ys good.1 more)
 

@@ -5,9 +5,11 @@ pub mod Calendar
 pub mod CallingLemmas
 pub mod GoodLemmas
 pub mod JoiningLemmas
+pub mod MomentLemmas
 pub mod PacketLemmas
 pub mod PutLemmas
 pub mod ReachLemmas
 pub mod RunningLemmas
 pub mod SilentLemmas
+pub mod StickyLemmas
 pub mod StillLemmas

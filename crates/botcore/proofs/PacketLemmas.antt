@@ -24,7 +24,7 @@ use Rattle.botcore.proofs.AskLemmas.{fault_is}
 use Rattle.botcore.proofs.SilentLemmas.{end_text}
 
 -- the same end of the link, but for what happened to its disks
-link_is : (old link : BotEnd) → link.number ≡ old.number → link.leaves ≡ old.leaves → link.end ≡ old.end
+pub link_is : (old link : BotEnd) → link.number ≡ old.number → link.leaves ≡ old.leaves → link.end ≡ old.end
     → link ≡ record old { device = link.device }
 link_is old link number leaves end =
     ap (λ (n : ℕ). record link { number = n }) number

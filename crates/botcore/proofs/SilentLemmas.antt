@@ -6,6 +6,7 @@ use Rattle.userfile.specs.Together.{records_fault}
 use Rattle.userfile.specs.declared.change.Change.{Change as UserChange}
 use Rattle.userfile.specs.declared.error.ChangeFault.{ChangeFault}
 use Rattle.usercodec.specs.declared.records.Record.{Record}
+use Rattle.botjournal.specs.declared.TheConstants.{LAYOUT}
 use Rattle.botjournal.specs.declared.reply.Answer.{Answer}
 use Rattle.botjournal.specs.declared.reply.Answer.TheVariants.{Taken, Refused as refused_request}
 use Rattle.botjournal.specs.declared.reply.Reply.{Reply}
@@ -13,10 +14,10 @@ use Rattle.protocol.specs.Numbers.{last_number, item_at, Place, Below, Same, Nex
 use Rattle.protocol.specs.Packets.{Packet, Outgoing, AcceptedChange, change_packet, to_each}
 use Rattle.protocol.specs.Packets.Packet.{Hello, Change, Request, Accepted as accepted_packet, Refused as refused_packet, BotText, Part}
 use Rattle.protocol.specs.Notes.Note.{Accepted, Installed, Old, Stray, Text}
-use Rattle.protocol.specs.Notes.LinkFault.{NumbersSpent, Down}
+use Rattle.protocol.specs.Notes.LinkFault.{OtherLayout, NumbersSpent, Down}
 use Rattle.protocol.specs.Bots.{How, Works, Row, noted, refused, journals}
 use Rattle.protocol.specs.Snapshots.{PartSet, records_from, joined, set_for, with_part, is_behind}
-use Rattle.protocol.specs.HubRules.{Hub, Accept, hub_folded, version_of, last_request, is_no_leaf, accepts, replied, next_request, repeats, request_placed, request_of, hello_served, text_passed, hub_received, hub_received_up}
+use Rattle.protocol.specs.HubRules.{Hub, Accept, hub_folded, version_of, last_request, is_no_leaf, accepts, replied, next_request, repeats, request_placed, request_of, hello_served, hello_met, text_passed, hub_received, hub_received_up}
 use Rattle.protocol.specs.LeafRules.{Leaf, Install, leaf_folded, change_placed, next_applied, reply_taken, reply_received, installed, set_taken, part_taken, leaf_received, leaf_received_up}
 use Rattle.linknet.specs.Ends.{End, AtHub, AtLeaf, end_received}
 use Rattle.botcore.specs.Happenings.{Saying, saying_of}
@@ -79,17 +80,22 @@ module _ (leaves : ℕ) (old : Hub) where
   hello_silent leaf version true = refl
   hello_silent leaf version false = refl
 
+  met_silent : (leaf version : ℕ) → IsSilent (hello_met leaves Works old leaf version)
+  met_silent leaf version =
+      silent_if (is_no_leaf leaves leaf || nat_lt (version_of old.kept) version) (noted Stray old)
+      (hello_served leaves Works old leaf version (nat_lt version old.kept.floor)) refl
+      (hello_silent leaf version (nat_lt version old.kept.floor))
+
   passed_stays : (from to : ℕ) (text : List ℕ) → (text_passed leaves Works old from to text).after ≡ old
   passed_stays from zero text = refl
   passed_stays from (suc to) text = refl
 
   hub_text : (packet : Packet) (saying : Saying) → saying_of (hub_received leaves Works old packet).told ≡ Some saying
       → IsOfText (λ how. hub_received leaves how old packet) old
-  hub_text (Hello leaf version) saying is =
-      absurd (brings_none old.down old (hub_received_up leaves Works old (Hello leaf version)) saying
-      (silent_if (is_no_leaf leaves leaf || nat_lt (version_of old.kept) version) (noted Stray old)
-      (hello_served leaves Works old leaf version (nat_lt version old.kept.floor)) refl
-      (hello_silent leaf version (nat_lt version old.kept.floor))) is)
+  hub_text (Hello layout leaf version) saying is =
+      absurd (brings_none old.down old (hub_received_up leaves Works old (Hello layout leaf version)) saying
+      (silent_if (layout == LAYOUT) (hello_met leaves Works old leaf version) (refused OtherLayout old)
+      (met_silent leaf version) refl) is)
   hub_text (Request leaf request change) saying is =
       absurd (brings_none old.down old (hub_received_up leaves Works old (Request leaf request change)) saying
       (silent_if (request == 0) (noted Stray old) (request_of leaves Works old leaf request change (item_at old.kept.replies leaf)) refl
@@ -166,7 +172,7 @@ module _ (leaves number : ℕ) (old : Leaf) where
         (stays_if (nat_lt leaves from || not (to == number)) (noted Stray old) (noted (Text from text) old) old refl refl),
     λ how. refl,
   )
-  leaf_text (Hello leaf version) saying is = absurd (brings_none old.down old (noted Stray old) saying refl is)
+  leaf_text (Hello layout leaf version) saying is = absurd (brings_none old.down old (noted Stray old) saying refl is)
   leaf_text (Request leaf request change) saying is = absurd (brings_none old.down old (noted Stray old) saying refl is)
 
 -- ---- any bot

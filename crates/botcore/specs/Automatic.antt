@@ -1,11 +1,13 @@
 -- The lines that a bot puts by itself: as soon as it has connected, and where a message of the server wants an answer.
 --
--- What a message makes it put is told by the state before the message, and the state after it tells the same: the JOIN
--- of another person changes neither which channels the bot is on, nor how it spells them, nor where it is op, nor its
--- nick; and the lines of other messages read nothing of the channels.
+-- The rule tells them by the channels after the message. Here they are told by the channels before it, from which those
+-- of a MODE are told by the channels after it. The others read nothing that their message changes: the JOIN of another
+-- person changes neither which channels the bot is on, nor how it spells them, nor where it is op, nor its nick; and the
+-- lines of other messages read nothing of the channels.
 use Rattle.std.specs.Prelude.{ℕ, ◌==◌, nat_lt, Bool, true, false, not, ◌&&◌, List, [], ◌∷◌, length, map, slice_get}
-use Rattle.std.specs.Prelude.{if◌then◌else◌, codes, Option, Some, None, unwrap_or}
+use Rattle.std.specs.Prelude.{if◌then◌else◌, codes, drop, Option, Some, None, unwrap_or}
 use Rattle.std.specs.List.{concat, filter_map, flat_map}
+use Rattle.std.specs.Option.{option_to_list}
 use Rattle.std.specs.Str.{bytes_eq}
 use Rattle.rfccase.specs.Casemapping.{is_same}
 use Rattle.ircline.specs.declared.message.Message.{Message}
@@ -14,11 +16,12 @@ use Rattle.ircline.specs.Sources.{Source, Nobody, Server as a_server, Person, so
 use Rattle.outqueue.specs.declared.queue.Queue.{Queue}
 use Rattle.outqueue.specs.declared.queue.Queue.TheVariants.{Mode, Server}
 use Rattle.userfile.specs.declared.ban.Ban.{Ban}
-use Rattle.userfile.specs.Persons.{ban_for}
+use Rattle.userfile.specs.Persons.{ban_for, sticky_ban}
 use Rattle.chanstate.specs.declared.state.ChanState.{ChanState}
 use Rattle.chanstate.specs.Comings.{hostmask, spelled}
-use Rattle.chanstate.specs.Given.{address_of}
-use Rattle.chanstate.specs.Items.{channels_in}
+use Rattle.chanstate.specs.Given.{address_of, text_at}
+use Rattle.chanstate.specs.Items.{Single, channels_in, singles}
+use Rattle.chanstate.specs.Steps.{after}
 use Rattle.chanstate.specs.Views.{member_in, is_op}
 use Rattle.procstore.specs.declared.action.PutWish.{PutWish}
 use Rattle.botcore.specs.declared.config.Config.{Config}
@@ -90,11 +93,15 @@ watched (Person nick user host) params s = if is_same nick s.nick then [] else g
 abbrev pub reason_of : Ban → List ℕ
 reason_of ban = if length ban.comment == 0 then codes "banned" else ban.comment
 
+-- a ban is set on a channel, with its mask as the userfile spells it
+abbrev pub ban_wish : List ℕ → Ban → PutWish
+ban_wish channel ban = wish Mode (codes "MODE " ∷ channel ∷ codes " +b " ∷ ban.mask ∷ [])
+
 -- a ban that keeps the person off the channel is set there, and the person is kicked
 abbrev pub ban_wishes : List ℕ → List ℕ → Option Ban → List PutWish
 ban_wishes nick channel None = []
 ban_wishes nick channel (Some ban) =
-    wish Mode (codes "MODE " ∷ channel ∷ codes " +b " ∷ ban.mask ∷ []) ∷
+    ban_wish channel ban ∷
     wish Mode (codes "KICK " ∷ channel ∷ codes " " ∷ nick ∷ codes " :" ∷ reason_of ban ∷ []) ∷
     []
 
@@ -107,6 +114,37 @@ barred bans now Nobody channel = []
 barred bans now (a_server name) channel = []
 barred bans now (Person nick user host) channel = kept_off bans now nick (hostmask nick (address_of user host)) channel
 
+-- ---- a ban is taken off a channel
+
+-- whether the bot itself sets modes; a server, or a message without a source, is somebody else
+abbrev pub is_own : Source → ChanState → Bool
+is_own Nobody s = false
+is_own (a_server name) s = false
+is_own (Person nick user host) s = is_same nick s.nick
+
+-- whether a single mode takes a ban off: -b
+abbrev pub is_unban : Single → Bool
+is_unban one = not one.on && (one.letter == 98)
+
+abbrev pub set_if : List ℕ → Option Ban → List PutWish
+set_if channel None = []
+set_if channel (Some ban) = ban_wish channel ban ∷ []
+
+-- what a single mode on a channel makes it put: the first sticky ban of a mask that is taken off is set again
+abbrev pub set_again : List Ban → ℕ → List ℕ → Single → List PutWish
+set_again bans now channel one = if is_unban one then set_if channel (sticky_ban bans channel one.argument now) else []
+
+-- the single modes of a MODE
+abbrev pub modes_in : List (List ℕ) → ChanState → List Single
+modes_in params s = singles s.support true (text_at params 1) (drop 2 params)
+
+-- the lines of a MODE that another sets, in the order of its modes, by the channels after it
+abbrev pub mode_wishes : List Ban → ℕ → Source → List (List ℕ) → ChanState → List PutWish
+mode_wishes bans now who params s =
+    if is_own who s then []
+    else flat_map (λ channel. flat_map (set_again bans now channel) (modes_in params s))
+    (option_to_list (guarded_as s (text_at params 0)))
+
 -- ---- any message
 
 -- which message makes it put lines, by the command
@@ -117,9 +155,10 @@ abbrev pub cue_of : List ℕ → Cue
 cue_of command =
     if is_command (codes "PING") command then cue.Ping
     else (if is_command (codes "JOIN") command then cue.Join
+    else (if is_command (codes "MODE") command then cue.Mode
     else (if is_command (codes "001") command then cue.RplWelcome
     else (if is_command (codes "433") command then cue.ErrNicknameInUse
-    else cue.Other)))
+    else cue.Other))))
 
 -- the server has welcomed the bot
 abbrev pub is_welcome : Message → Bool
@@ -129,6 +168,7 @@ is_welcome message = is_command (codes "001") message.command && not (length mes
 abbrev pub watched_by : Cue → Message → ChanState → List (List ℕ)
 watched_by cue.Ping message s = []
 watched_by cue.Join message s = watched (source_of message.prefix) message.params s
+watched_by cue.Mode message s = []
 watched_by cue.RplWelcome message s = []
 watched_by cue.ErrNicknameInUse message s = []
 watched_by cue.Other message s = []
@@ -136,7 +176,7 @@ watched_by cue.Other message s = []
 abbrev pub watched_in : Message → ChanState → List (List ℕ)
 watched_in message s = watched_by (cue_of message.command) message s
 
--- the lines of a message, for a bot of this configuration in these channels, with these bans, at the last second of its
+-- the lines of a message, for a bot of this configuration in these channels before it, with these bans, at the last second of its
 -- clock (0 before the first reading), and welcomed or not
 abbrev pub lines_by : Cue → Config → ChanState → List Ban → Option ℕ → Bool → Message → List PutWish
 lines_by cue.Ping config s bans last welcomed message =
@@ -144,6 +184,8 @@ lines_by cue.Ping config s bans last welcomed message =
 lines_by cue.Join config s bans last welcomed message =
     flat_map (barred bans (unwrap_or last 0) (source_of message.prefix))
     (watched (source_of message.prefix) message.params s)
+lines_by cue.Mode config s bans last welcomed message =
+    mode_wishes bans (unwrap_or last 0) (source_of message.prefix) message.params (after message s)
 lines_by cue.RplWelcome config s bans last welcomed message =
     if_there (slice_get message.params 0) (λ nick. map join_wish config.channels)
 lines_by cue.ErrNicknameInUse config s bans last welcomed message = other_nick welcomed message.params

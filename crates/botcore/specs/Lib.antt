@@ -7,6 +7,7 @@ pub mod Happenings
 pub mod Lines
 pub mod Links
 pub mod Making
+pub mod Operators
 pub mod Presence
 pub mod Progress
 pub mod Putting

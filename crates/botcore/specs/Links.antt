@@ -7,7 +7,7 @@ use Rattle.sharewire.specs.declared.packet.Packet.TheVariants as wire
 use Rattle.protocol.specs.Packets.{Packet, Outgoing as Sent}
 use Rattle.protocol.specs.Packets.Packet.{Hello, Change, Request, Accepted, Refused, BotText, Part}
 use Rattle.protocol.specs.Notes.{Note as Meaning, LinkFault as Fault}
-use Rattle.protocol.specs.Notes.LinkFault.{Down, BadChange, AsksFull, Diverged, NumbersSpent, JournalFault, BadBotText, DiskFault}
+use Rattle.protocol.specs.Notes.LinkFault.{Down, BadChange, AsksFull, OtherLayout, Diverged, NumbersSpent, JournalFault, BadBotText, DiskFault}
 use Rattle.protocol.specs.Bots.{Row}
 use Rattle.linkcalls.specs.declared.answer.Outgoing.{Outgoing}
 use Rattle.linkcalls.specs.declared.error.LinkFault.{LinkFault}
@@ -38,6 +38,7 @@ abbrev pub fault_told : Fault → LinkFault
 fault_told Down = fault.Down
 fault_told (BadChange of_change) = fault.BadChange of_change
 fault_told AsksFull = fault.AsksFull
+fault_told OtherLayout = fault.OtherLayout
 fault_told Diverged = fault.Diverged
 fault_told NumbersSpent = fault.NumbersSpent
 fault_told JournalFault = fault.JournalFault
@@ -46,7 +47,7 @@ fault_told DiskFault = fault.DiskFault
 
 -- the packet of this meaning
 abbrev pub packet_told : Packet → WirePacket
-packet_told (Hello leaf version) = wire.Hello leaf version
+packet_told (Hello layout leaf version) = wire.Hello layout leaf version
 packet_told (Change number origin request change) = wire.Change number origin request change
 packet_told (Request leaf request change) = wire.Request leaf request change
 packet_told (Accepted leaf request number) = wire.Accepted leaf request number

@@ -6,7 +6,9 @@ use Rattle.storage.specs.State.{State}
 use Rattle.bytejournal.specs.declared.fault.JournalFault.{JournalFault}
 use Rattle.bytejournal.specs.Opening.{CannotCreate}
 use Rattle.botlink.specs.Links.{BotEnd}
-use Rattle.botlink.specs.Opening.{IsFound, FindsNone, MeanTheSame}
+use Rattle.botjournal.specs.Contents.{meaning}
+use Rattle.botjournal.specs.Ledger.{Device, AtEachMoment, device_on}
+use Rattle.botlink.specs.Opening.{IsFound, IsLeft, FindsNone, MeanTheSame}
 use Rattle.botcore.specs.declared.config.Config.{Config}
 use Rattle.botcore.specs.declared.fault.BotFault.{BotFault}
 use Rattle.botcore.specs.declared.fault.BotFault.TheVariants.{BadConfig, Journal}
@@ -42,7 +44,7 @@ module _ {D : Type 0} (state : D → State) (config : Config) (first second : D)
 
   -- ---- finding
 
-  -- whatever a crash leaves on the disks still means what they meant
+  -- whatever a crash leaves on the disks means what those that were given mean, or that put anew in the present layout
   abbrev pub StayTheSame : D → D → Type 0
   StayTheSame first' second' = MeanTheSame state config.number config.leaves first second first' second'
 
@@ -62,3 +64,13 @@ module _ {D : Type 0} (state : D → State) (config : Config) (first second : D)
   abbrev pub Finds : Result Bot (Returned D) → Type 0
   Finds (Ok bot) = IsGood config × IsOnDisks bot.link × (bot ≡ begun config bot.link)
   Finds (Err returned) = NotFound returned.error returned.disks.first returned.disks.second
+
+  -- at each moment, from the given disks on to these, a crash leaves what the disks mean, or that put anew
+  abbrev pub LeavesFound : Device → Type 0
+  LeavesFound now = AtEachMoment (device_on (state first) (state second)) now
+      (IsLeft config.number config.leaves (meaning (state first).seen (state second).seen))
+
+  -- so it is at each moment of finding a bot
+  abbrev pub FindsAtEachMoment : Result Bot (Returned D) → Type 0
+  FindsAtEachMoment (Ok bot) = LeavesFound bot.link.device
+  FindsAtEachMoment (Err returned) = LeavesFound (device_on (state returned.disks.first) (state returned.disks.second))

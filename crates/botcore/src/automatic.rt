@@ -8,6 +8,7 @@ use crate::config::Config;
 use crate::cue::{Cue, cue_of};
 use crate::joining::on_join;
 use crate::limits::MAX_NICK;
+use crate::sticky::on_mode;
 use crate::wish::{alone, wish};
 use bytetext::{NoMemory, Text};
 use ircline::{Message, source};
@@ -21,8 +22,8 @@ impl<D: Disk> Bot<D> {
     ghost use Rattle.botcore.specs.Automatic.{automatic_lines, watched_in};
     ghost use Rattle.botcore.specs.Links.{link_records};
 
-    // The lines that a message makes it put, by its channels before the message. Where there are none, and nobody else
-    // joins a channel on which it is op, this takes no memory.
+    // The lines that a message makes it put, told from its channels before the message. Where there are none, and nobody
+    // else joins a channel on which it is op, this takes no memory.
     pub(crate) fn automatic_lines(
         &self,
         alloc: Global,
@@ -42,6 +43,18 @@ impl<D: Disk> Bot<D> {
                 let from = source(message.prefix.as_bytes());
                 let now = self.clock.last().unwrap_or(0);
                 on_join(
+                    alloc,
+                    from,
+                    params,
+                    self.channels.current(),
+                    self.userfile(),
+                    now,
+                )
+            }
+            Cue::Mode => {
+                let from = source(message.prefix.as_bytes());
+                let now = self.clock.last().unwrap_or(0);
+                on_mode(
                     alloc,
                     from,
                     params,

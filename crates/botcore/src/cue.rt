@@ -9,6 +9,8 @@ pub enum Cue {
     Ping,
     /// Somebody joins channels.
     Join,
+    /// Somebody sets or clears modes of a channel.
+    Mode,
     /// 001: the server has welcomed the bot.
     RplWelcome,
     /// 433: the nick is in use.
@@ -24,6 +26,7 @@ pub(crate) fn cue_of(command: &[u8]) -> Cue
     match command {
         b"PING" => Cue::Ping,
         b"JOIN" => Cue::Join,
+        b"MODE" => Cue::Mode,
         b"001" => Cue::RplWelcome,
         b"433" => Cue::ErrNicknameInUse,
         _ => Cue::Other,

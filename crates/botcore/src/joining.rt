@@ -10,7 +10,7 @@ ghost use Rattle.chanstate.specs.Comings.{hostmask};
 ghost use Rattle.chanstate.specs.Given.{address_of};
 ghost use Rattle.botcore.specs.Automatic.{guarded_as, guarded, watched, reason_of, ban_wishes, kept_off, barred};
 
-use crate::wish::wish;
+use crate::wish::{ban_wish, wish};
 use bytetext::{NoMemory, Text};
 use chanstate::ChanState;
 use ircline::{Person, Source};
@@ -163,8 +163,7 @@ fn push_ban(
 ) -> Result<(), NoMemory>
     ensures { OnOk result (wishes.new.items ≡ wishes.old.items ++ ban_wishes nick.now channel.now (Some ban.now)) }
 {
-    let mode = [b"MODE ", channel, b" +b ", ban.mask.as_bytes()];
-    wishes.push(wish(alloc, Queue::Mode, &mode)?)?;
+    wishes.push(ban_wish(alloc, channel, ban)?)?;
     let kick = [b"KICK ", channel, b" ", nick, b" :", reason_of(ban)];
     wishes.push(wish(alloc, Queue::Mode, &kick)?)?;
     Ok(())

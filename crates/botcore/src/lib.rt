@@ -45,6 +45,7 @@ mod reading;
 mod report;
 mod running;
 mod step;
+mod sticky;
 mod wish;
 
 pub use crate::automatic_laws::laws_of_automatic_lines;

@@ -30,9 +30,10 @@ impl<D: Disk> Bot<D> {
     ghost use Rattle.std.specs.Prelude.{◌≡◌, IfOk};
     ghost use Rattle.storage.specs.State.{IsSettled};
     ghost use Rattle.botjournal.specs.Ledger.{AreStill};
+    ghost use Rattle.botlink.specs.Opening.{AreCurrent};
     ghost use Rattle.botcore.specs.Bots.{begun};
     ghost use Rattle.botcore.specs.Configs.{IsGood};
-    ghost use Rattle.botcore.specs.Making.{Makes, Finds};
+    ghost use Rattle.botcore.specs.Making.{Makes, Finds, FindsAtEachMoment};
     ghost use Rattle.botcore.specs.Presence.{absent};
 
     /// A bot at version 0, without binds, that is on no channel, with a new journal on these two disks. What the disks held
@@ -64,18 +65,24 @@ impl<D: Disk> Bot<D> {
         }
     }
 
-    /// The bot whose journal these two disks hold: at the journal's version, without binds, on no channel. Nothing is
+    /// The bot whose journal these two disks hold: at the journal's version, without binds, on no channel. Where the journal
+    /// has an older layout, its state is written anew in the present one first, as a compaction does it; else nothing is
     /// written.
     ///
     /// # Errors
-    /// With the disks, which hold what they held: `BadConfig` (G1) where the configuration breaks a rule; then `NoMemory`;
-    /// `Journal` with J1 where a read failed, and with J2 where the disks hold no journal, or another bot's.
+    /// With the disks, which mean what they meant, or that in the present layout: `BadConfig` (G1) where the configuration
+    /// breaks a rule; then `NoMemory`; `Journal` with J1 where a read failed, and with J2 where the disks hold no journal, or
+    /// another bot's. Then, of an older layout alone, `Journal` with J4 where the journal has no next generation, `NoMemory`,
+    /// or `Journal` with J1 where a disk failed while it was written.
     pub fn open(alloc: Global, config: Config, first: D, second: D) -> Result<Bot<D>, Returned<D>>
         requires first_settled { IsSettled (D.state first) }
         requires second_settled { IsSettled (D.state second) }
         ensures found { Finds D.state config first second result }
-        // Nothing happened to the disks.
-        ensures still { IfOk result (λ bot. AreStill (D.state first) (D.state second) bot.link.device) }
+        // Nothing happened to disks of the present layout.
+        ensures still { AreCurrent D.state first second
+            → IfOk result (λ bot. AreStill (D.state first) (D.state second) bot.link.device) }
+        // At each moment of the call a crash leaves what the disks meant, or that in the present layout.
+        ensures any_moment { FindsAtEachMoment D.state config first second result }
     {
         let channels = match ready(alloc, &config) {
             Ok(channels) => channels,

@@ -1,11 +1,12 @@
 // A line that a bot puts by itself.
 ghost use Rattle.std.specs.Prelude.{◌≡◌, ◌∷◌, [], map, IfOk};
-ghost use Rattle.botcore.specs.Automatic.{wish};
+ghost use Rattle.botcore.specs.Automatic.{wish, ban_wish};
 
 use bytetext::{NoMemory, Text};
 use outqueue::Queue;
 use procstore::PutWish;
 use std::alloc::Global;
+use userfile::Ban;
 
 // A line of these pieces, for this queue.
 pub(crate) fn wish(alloc: Global, queue: Queue, pieces: &[&[u8]]) -> Result<PutWish, NoMemory>
@@ -19,6 +20,14 @@ pub(crate) fn wish(alloc: Global, queue: Queue, pieces: &[&[u8]]) -> Result<PutW
         queue,
         line: Text::new(line),
     })
+}
+
+// The line that sets a ban on a channel.
+pub(crate) fn ban_wish(alloc: Global, channel: &[u8], ban: &Ban) -> Result<PutWish, NoMemory>
+    ensures { IfOk result (λ w. w ≡ ban_wish channel.now ban.now) }
+{
+    let pieces = [b"MODE ", channel, b" +b ", ban.mask.as_bytes()];
+    wish(alloc, Queue::Mode, &pieces)
 }
 
 // This one alone.

@@ -176,8 +176,3 @@ HearsFirst-if promised names old new held bytes after lines (Err e) ends first =
   ends = ends;
   makes = first;
 }
-
--- what holds anyway
-pub OnErr-of : {T E Q : Type 0} (answer : Result T E) → Q → OnErr answer Q
-OnErr-of (Ok x) q = tt
-OnErr-of (Err e) q = q

@@ -9,15 +9,11 @@ use Rattle.botcore.specs.declared.event.Event.TheVariants.{Line, Clock}
 use Rattle.botcore.specs.declared.report.Report.{Report}
 use Rattle.botcore.specs.Bots.{Bot}
 use Rattle.botcore.specs.Steps.{TakesStep}
-use Rattle.botcore.proofs.GoodLemmas.{line_good, clock_good}
+use Rattle.botcore.proofs.GoodLemmas.{AreGood-append, line_good, clock_good}
 use Rattle.botdrive.specs.declared.driving.DriveEnd.{DriveEnd}
 use Rattle.botdrive.specs.declared.driving.DriveEnd.TheVariants.{Done, Read, Write, NoMemory}
 use Rattle.botdrive.specs.declared.outcome.Outcome.{Outcome}
 use Rattle.botdrive.specs.Driving.{Course, Connection, Makes, DrivesTo, line_events, all_events}
-
-AreGood-after : (xs ys : List Outgoing) → AreGood xs → AreGood ys → AreGood (xs ++ ys)
-AreGood-after [] ys good more = more
-AreGood-after (x ∷ xs) ys good more = (good.0, AreGood-after xs ys good.1 more)
 
 module _ (promised : Promised) (names : List (List ℕ)) where
   -- nothing but lines and readings
@@ -68,7 +64,7 @@ module _ (promised : Promised) (names : List (List ℕ)) where
   steps_good (event ∷ events) old new heard (mid, step, made) good =
       let more = heard old.bot mid.bot step.report [] event events refl step.takes in
       steps_good events mid new (rest_heard event events heard) made
-      (subst AreGood (sym step.packets) (AreGood-after old.packets step.report.packets good more))
+      (subst AreGood (sym step.packets) (AreGood-append old.packets step.report.packets good more))
 
 -- ---- a whole drive
 

@@ -1,4 +1,4 @@
--- Bases: what is read is spelled so, and what is spelled so is read.
+-- Bases in each layout: what is read is spelled so, and what is spelled so is read.
 use Rattle.std.proofs.Common.{◌≡◌, ℕ, ◌^◌, ◌<◌, true, eqb, List, [], ◌∷◌, ◌++◌, Option, Some, None, Ok, Err, refl, sym, ap, subst, ◌∙◌, inl, inr}
 use Rattle.std.specs.Int.{w32}
 use Rattle.std.proofs.lemmas.Bool.{eqb-true}
@@ -9,22 +9,27 @@ use Rattle.userfile.specs.declared.error.ChangeFault.TheVariants.{NoSuchMask, Ba
 use Rattle.usercodec.specs.declared.fault.CodecFault.TheVariants.{NotCanonical}
 use Rattle.usercodec.specs.declared.records.Record.{Record}
 use Rattle.usercodec.specs.Fields.{number, Reading, byte_at, number_at}
-use Rattle.usercodec.specs.Changes.{made, change_at, change_bytes}
-use Rattle.usercodec.specs.Records.{record_bytes, IsGoodRecord}
+use Rattle.usercodec.specs.Changes.{made, change_bytes}
+use Rattle.usercodec.specs.Records.{IsGoodRecord}
 use Rattle.usercodec.proofs.Steps.{IsBytes, chosen, bind_ok, ok_is, Takes}
 use Rattle.usercodec.specs.FaultBytes.{fault_byte, fault_from, known}
 use Rattle.botjournal.specs.declared.base.Base.{Base}
 use Rattle.botjournal.specs.declared.reply.Answer.{Answer}
 use Rattle.botjournal.specs.declared.reply.Answer.TheVariants.{Taken, Refused}
 use Rattle.botjournal.specs.declared.reply.Reply.{Reply}
-use Rattle.botjournal.specs.Bases.{listed, answer_bytes, reply_bytes, out_bytes, base_bytes, are_rising, is_of_its_bot, IsGoodAnswer, IsGoodReply, IsGoodOut}
-use Rattle.botjournal.specs.Bases.{AreListed, IsGoodBase}
+use Rattle.botjournal.specs.declared.layouts.Layout.{Layout}
+use Rattle.botjournal.specs.declared.layouts.Layout.TheVariants.{First, Second}
+use Rattle.botjournal.specs.Layouts.{IsGoodChangeBy, change_by, record_bytes_by, IsGoodRecordBy}
+use Rattle.botjournal.specs.Bases.{listed, answer_bytes, reply_bytes, out_bytes, base_bytes, base_bytes_by, are_rising, is_of_its_bot, IsGoodAnswer, IsGoodReply, IsGoodOut}
+use Rattle.botjournal.specs.Bases.{AreListed, IsGoodOutWith, IsGoodBase, IsGoodBaseBy}
 use Rattle.botjournal.specs.Bases.{answer_from, answer_at, reply_at, replies_listed_at, replies_at, records_at, out_from, out_at, base_of, parts_at, base_at}
-use Rattle.botjournal.specs.Bases.{base_in, IsBaseOf}
+use Rattle.botjournal.specs.Bases.{base_in, IsBaseBy}
 use Rattle.usercodec.proofs.PartLaws.{IsPart, checked_part, made_part, both_part}
-use Rattle.usercodec.proofs.ReaderLaws.{byte_part, u16_part, u32_part, change_part, record_part, fault_byte-from, known_is}
+use Rattle.usercodec.proofs.ReaderLaws.{byte_part, u16_part, u32_part, record_part, record_part_old, fault_byte-from, known_is}
 use Rattle.botjournal.proofs.ItemLaws.{listed_part}
 use Rattle.botjournal.proofs.WholeLaws.{whole_again, whole_spelled}
+use Rattle.botjournal.proofs.LayoutLaws.{change_part_by, change_good, record_good}
+use Rattle.usercodec.proofs.RecordLengths.{all_map}
 
 -- ---- replies
 
@@ -90,9 +95,10 @@ replies_part : IsPart replies_at (listed reply_bytes) (λ x. AreListed IsGoodRep
 unfolding replies_at replies_listed_at
 replies_part = checked_part (listed_part reply_part) are_rising
 
-records_part : IsPart records_at (listed record_bytes) (AreListed IsGoodRecord)
+records_part : (layout : Layout) → IsPart (records_at layout) (listed (record_bytes_by layout)) (AreListed (IsGoodRecordBy layout))
 unfolding records_at
-records_part = listed_part record_part
+records_part First = listed_part record_part_old
+records_part Second = listed_part record_part
 
 -- ---- the change that is out
 
@@ -105,42 +111,43 @@ some_change change = Some change
 abbrev none_out : Option Change
 none_out = None
 
-out_part : IsPart out_at out_bytes IsGoodOut
+out_part : (layout : Layout) → IsPart (out_at layout) out_bytes (IsGoodOutWith (IsGoodChangeBy layout))
 unfolding out_at out_from byte_at
-out_part = record { takes = takes; again = again }
+out_part layout = record { takes = takes; again = again }
   where
-    from_takes : (byte : ℕ) (bytes : List ℕ) (x : Option Change) (rest : List ℕ) → IsBytes bytes → out_from byte bytes ≡ Ok (x, rest)
-        → Takes (byte ∷ bytes) (out_bytes x) rest × IsGoodOut x
+    from_takes : (byte : ℕ) (bytes : List ℕ) (x : Option Change) (rest : List ℕ) → IsBytes bytes → out_from layout byte bytes ≡ Ok (x, rest)
+        → Takes (byte ∷ bytes) (out_bytes x) rest × IsGoodOutWith (IsGoodChangeBy layout) x
     from_takes byte bytes x rest fits e =
         elim (chosen (eqb byte 0) _ _ _ e) [
           | inl p ↦
               let parts : byte ∷ bytes ≡ (0 ∷ []) ++ bytes = ap (λ (k : ℕ). k ∷ bytes) (eqb-true byte 0 p.0) in
-              subst (λ (q : Option Change × List ℕ). Takes (byte ∷ bytes) (out_bytes q.0) q.1 × IsGoodOut q.0) (ok_is (none_out, bytes) (x, rest) p.1)
+              subst (λ (q : Option Change × List ℕ). Takes (byte ∷ bytes) (out_bytes q.0) q.1 × IsGoodOutWith (IsGoodChangeBy layout) q.0) (ok_is (none_out, bytes) (x, rest) p.1)
               (record { parts = parts; rest_fits = fits }, tt)
           | inr p ↦
               elim (chosen (eqb byte 1) _ _ _ p.1) [
                 | inl p ↦
-                    let a = bind_ok (change_at bytes) (λ c. Ok (some_change c.0, c.1)) (x, rest) p.1 in
-                    let t = change_part.takes bytes a.0.0 a.0.1 fits a.1 in
+                    let a = bind_ok (change_by layout bytes) (λ c. Ok (some_change c.0, c.1)) (x, rest) p.1 in
+                    let t = (change_part_by layout).takes bytes a.0.0 a.0.1 fits a.1 in
                     let parts : byte ∷ bytes ≡ (1 ∷ change_bytes a.0.0) ++ a.0.1 =
                     ap (λ (k : ℕ). k ∷ bytes) (eqb-true byte 1 p.0) ∙ ap (λ (b : List ℕ). 1 ∷ b) t.0.parts in
-                    subst (λ (q : Option Change × List ℕ). Takes (byte ∷ bytes) (out_bytes q.0) q.1 × IsGoodOut q.0)
+                    subst (λ (q : Option Change × List ℕ). Takes (byte ∷ bytes) (out_bytes q.0) q.1 × IsGoodOutWith (IsGoodChangeBy layout) q.0)
                     (ok_is (some_change a.0.0, a.0.1) (x, rest) a.2)
                     (record { parts = parts; rest_fits = t.0.rest_fits }, t.1)
                 | inr p ↦ absurd (no_out x rest p.1)
               ]
         ]
 
-    takes : (bytes : List ℕ) (x : Option Change) (rest : List ℕ) → IsBytes bytes → out_at bytes ≡ Ok (x, rest) → Takes bytes (out_bytes x) rest × IsGoodOut x
+    takes : (bytes : List ℕ) (x : Option Change) (rest : List ℕ) → IsBytes bytes → out_at layout bytes ≡ Ok (x, rest)
+        → Takes bytes (out_bytes x) rest × IsGoodOutWith (IsGoodChangeBy layout) x
     takes bytes x rest fits e =
-        let a = bind_ok (byte_at bytes) (λ byte. out_from byte.0 byte.1) (x, rest) e in
+        let a = bind_ok (byte_at bytes) (λ byte. out_from layout byte.0 byte.1) (x, rest) e in
         let t = byte_part.takes bytes a.0.0 a.0.1 fits a.1 in
         let u = from_takes a.0.0 a.0.1 x rest t.0.rest_fits a.2 in
         (record { parts = t.0.parts ∙ u.0.parts; rest_fits = u.0.rest_fits }, u.1)
 
-    again : (x : Option Change) (rest : List ℕ) → IsGoodOut x → out_at (out_bytes x ++ rest) ≡ Ok (x, rest)
+    again : (x : Option Change) (rest : List ℕ) → IsGoodOutWith (IsGoodChangeBy layout) x → out_at layout (out_bytes x ++ rest) ≡ Ok (x, rest)
     again None rest good = refl
-    again (Some change) rest good = ap (made some_change) (change_part.again change rest good)
+    again (Some change) rest good = ap (made some_change) ((change_part_by layout).again change rest good)
 
 -- ---- bases
 
@@ -148,30 +155,30 @@ abbrev fields_of : Base → ℕ × (ℕ × (List Record × (List Reply × (ℕ �
 fields_of b = (b.bot, (b.version, (b.records, (b.replies, (b.last_request, b.out)))))
 
 -- a base that has a spelling, but for what its bot wants
-record PartsPass (base : Base) : Type 0 where
+record PartsPass (layout : Layout) (base : Base) : Type 0 where
   bot : base.bot < 2 ^ 16
   version : base.version < 2 ^ 32
-  records : AreListed IsGoodRecord base.records
+  records : AreListed (IsGoodRecordBy layout) base.records
   replies : AreListed IsGoodReply base.replies × (are_rising base.replies ≡ true)
   last_request : base.last_request < 2 ^ 32
-  out : IsGoodOut base.out
+  out : IsGoodOutWith (IsGoodChangeBy layout) base.out
 
-parts_part : IsPart parts_at base_bytes PartsPass
+parts_part : (layout : Layout) → IsPart (parts_at layout) (base_bytes_by layout) (PartsPass layout)
 unfolding parts_at
-parts_part =
-    made_part (both_part u16_part (both_part u32_part (both_part records_part (both_part replies_part (both_part u32_part out_part)))))
-    base_of fields_of (λ y. refl) base_bytes (λ x. refl) (λ y. refl) PartsPass
+parts_part layout =
+    made_part (both_part u16_part (both_part u32_part (both_part (records_part layout) (both_part replies_part (both_part u32_part (out_part layout))))))
+    base_of fields_of (λ y. refl) (base_bytes_by layout) (λ x. refl) (λ y. refl) (PartsPass layout)
     (λ x g. record { bot = g.0; version = g.1.0; records = g.1.1.0; replies = g.1.1.1.0; last_request = g.1.1.1.1.0; out = g.1.1.1.1.1 })
     (λ y g. (g.bot, (g.version, (g.records, (g.replies, (g.last_request, g.out))))))
 
-pub base_part : IsPart base_at base_bytes IsGoodBase
+pub base_part : (layout : Layout) → IsPart (base_at layout) (base_bytes_by layout) (IsGoodBaseBy layout)
 unfolding base_at
-base_part = record {
-  takes = λ bytes x rest fits e. (let t = (checked_part parts_part is_of_its_bot).takes bytes x rest fits e in (t.0, good_is x t.1.0 t.1.1));
-  again = λ x rest good. (checked_part parts_part is_of_its_bot).again x rest (passes x good, good.of_its_bot);
+base_part layout = record {
+  takes = λ bytes x rest fits e. (let t = (checked_part (parts_part layout) is_of_its_bot).takes bytes x rest fits e in (t.0, good_is x t.1.0 t.1.1));
+  again = λ x rest good. (checked_part (parts_part layout) is_of_its_bot).again x rest (passes x good, good.of_its_bot);
 }
   where
-    good_is : (x : Base) → PartsPass x → is_of_its_bot x ≡ true → IsGoodBase x
+    good_is : (x : Base) → PartsPass layout x → is_of_its_bot x ≡ true → IsGoodBaseBy layout x
     good_is x p own = record {
       bot = p.bot;
       version = p.version;
@@ -183,7 +190,7 @@ base_part = record {
       of_its_bot = own;
     }
 
-    passes : (x : Base) → IsGoodBase x → PartsPass x
+    passes : (x : Base) → IsGoodBaseBy layout x → PartsPass layout x
     passes x g = record {
       bot = g.bot;
       version = g.version;
@@ -195,12 +202,47 @@ base_part = record {
 
 -- ---- bases that are all of their bytes
 
-pub base_again : (base : Base) → IsGoodBase base → base_in (base_bytes base) ≡ Some base
-base_again base good = whole_again base_part base good
+pub base_again_by : (layout : Layout) (base : Base) → IsGoodBaseBy layout base → base_in layout (base_bytes_by layout base) ≡ Some base
+base_again_by layout base good = whole_again (base_part layout) base good
 
-pub found_is : (bytes : List ℕ) (found : Option Base) → IsBytes bytes → found ≡ base_in bytes → IsBaseOf bytes found
-found_is bytes None fits e = tt
-found_is bytes (Some base) fits e = whole_spelled base_part bytes base fits (sym e)
+pub found_is : (layout : Layout) (bytes : List ℕ) (found : Option Base) → IsBytes bytes → found ≡ base_in layout bytes → IsBaseBy layout bytes found
+found_is layout bytes None fits e = tt
+found_is layout bytes (Some base) fits e = whole_spelled (base_part layout) bytes base fits (sym e)
 
-pub is_found : (bytes : List ℕ) (base : Base) (found : Option Base) → found ≡ base_in bytes → IsGoodBase base → bytes ≡ base_bytes base → found ≡ Some base
-is_found bytes base found e good is = e ∙ ap base_in is ∙ base_again base good
+pub is_found : (layout : Layout) (bytes : List ℕ) (base : Base) (found : Option Base) → found ≡ base_in layout bytes → IsGoodBaseBy layout base
+    → bytes ≡ base_bytes_by layout base → found ≡ Some base
+is_found layout bytes base found e good is = e ∙ ap (base_in layout) is ∙ base_again_by layout base good
+
+-- ---- bases that may be written
+
+-- what any layout spells has the spelling that is written
+pub base_good : (layout : Layout) (base : Base) → IsGoodBaseBy layout base → IsGoodBase base
+base_good layout base good = record {
+  bot = good.bot;
+  version = good.version;
+  records = (good.records.0, all_map (IsGoodRecordBy layout) IsGoodRecord (record_good layout) base.records good.records.1);
+  replies = good.replies;
+  rising = good.rising;
+  last_request = good.last_request;
+  out = by base.out good.out;
+  of_its_bot = good.of_its_bot;
+}
+  where
+    by : (out : Option Change) → IsGoodOutWith (IsGoodChangeBy layout) out → IsGoodOut out
+    by None g = tt
+    by (Some change) g = change_good layout change g
+
+pub good_now : (base : Base) → IsGoodBase base → IsGoodBaseBy Second base
+good_now base good = record {
+  bot = good.bot;
+  version = good.version;
+  records = good.records;
+  replies = good.replies;
+  rising = good.rising;
+  last_request = good.last_request;
+  out = good.out;
+  of_its_bot = good.of_its_bot;
+}
+
+pub base_again : (base : Base) → IsGoodBase base → base_in Second (base_bytes base) ≡ Some base
+base_again base good = base_again_by Second base (good_now base good)

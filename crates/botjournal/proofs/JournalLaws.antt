@@ -11,13 +11,18 @@ use Rattle.bytejournal.specs.declared.journal.Journal.{Journal}
 use Rattle.bytejournal.specs.Meaning.{Contents as Texts, added as added_text, rebased as rebased_text}
 use Rattle.bytejournal.specs.Journal.{HoldsOne, IsEither as IsEitherText, AnyMoment, IsSound as AreTextsSound, Appends as AppendsText, Rebases as RebasesText}
 use Rattle.bytejournal.specs.Journal.{contents_of as texts_of}
+use Rattle.bytejournal.proofs.Appending.{contents_are}
 use Rattle.bytejournal.proofs.Recovering.{some_is, some_map}
 use Rattle.botjournal.specs.declared.base.Base.{Base}
 use Rattle.botjournal.specs.declared.entry.Entry.{Entry}
+use Rattle.botjournal.specs.declared.layouts.Layout.{Layout}
+use Rattle.botjournal.specs.declared.layouts.Layout.TheVariants.{Second}
+use Rattle.botjournal.specs.declared.TheConstants.{LAYOUT}
+use Rattle.botjournal.specs.Layouts.{layout_of}
 use Rattle.botjournal.specs.Bases.{base_bytes, base_in, IsGoodBase}
 use Rattle.botjournal.specs.Entries.{entry_bytes, entry_in, IsGoodEntry}
-use Rattle.botjournal.specs.Contents.{added, rebased, before_others, entries_in, with_base, typed}
-use Rattle.botjournal.specs.Journal.{IsEither, IsSound, Appends, Rebases, contents_of}
+use Rattle.botjournal.specs.Contents.{added, rebased, before_others, entries_in, with_base, spelled_by, typed}
+use Rattle.botjournal.specs.Journal.{IsEither, IsAtRest, IsSound, Appends, Rebases, contents_of}
 use Rattle.botjournal.proofs.EntryLaws.{entry_again}
 use Rattle.botjournal.proofs.BaseLaws.{base_again}
 use Rattle.botjournal.proofs.MeaningLaws.{texts_are, typed_moments, still_some}
@@ -37,39 +42,57 @@ snoc_before None entry others = refl
 snoc_before (Some first) entry None = refl
 snoc_before (Some first) entry (Some others) = refl
 
-entries_added : (texts : List (List ℕ)) (text : List ℕ) (entry : Entry) → entry_in text ≡ Some entry
-    → entries_in (texts ++ (text ∷ [])) ≡ option_map (one_after entry) (entries_in texts)
-entries_added [] text entry is = ap (λ e. before_others e (Some [])) is
-entries_added (first ∷ texts) text entry is =
-    ap (before_others (entry_in first)) (entries_added texts text entry is) ∙ snoc_before (entry_in first) entry (entries_in texts)
+entries_added : (layout : Layout) (texts : List (List ℕ)) (text : List ℕ) (entry : Entry) → entry_in layout text ≡ Some entry
+    → entries_in layout (texts ++ (text ∷ [])) ≡ option_map (one_after entry) (entries_in layout texts)
+entries_added layout [] text entry is = ap (λ e. before_others e (Some [])) is
+entries_added layout (first ∷ texts) text entry is =
+    ap (before_others (entry_in layout first)) (entries_added layout texts text entry is)
+    ∙ snoc_before (entry_in layout first) entry (entries_in layout texts)
 
-with_added : (generation : ℕ) (base : Option Base) (entry : Entry) (entries : Option (List Entry))
-    → with_base generation base (option_map (one_after entry) entries) ≡ option_map (added entry) (with_base generation base entries)
-with_added generation None entry entries = refl
-with_added generation (Some base) entry None = refl
-with_added generation (Some base) entry (Some entries) = refl
+with_added : (number generation : ℕ) (base : Option Base) (entry : Entry) (entries : Option (List Entry))
+    → with_base number generation base (option_map (one_after entry) entries) ≡ option_map (added entry) (with_base number generation base entries)
+with_added number generation None entry entries = refl
+with_added number generation (Some base) entry None = refl
+with_added number generation (Some base) entry (Some entries) = refl
 
-pub typed_added : (entry : Entry) → IsGoodEntry entry → (texts : Option Texts)
+-- texts in the layout that is written
+abbrev pub AreCurrent : Option Texts → Type 0
+AreCurrent None = Unit {0}
+AreCurrent (Some texts) = texts.layout ≡ LAYOUT
+
+pub typed_added : (entry : Entry) → IsGoodEntry entry → (texts : Option Texts) → AreCurrent texts
     → typed (option_map (added_text (entry_bytes entry)) texts) ≡ option_map (added entry) (typed texts)
-typed_added entry good None = refl
-typed_added entry good (Some texts) =
-    ap (with_base texts.generation (base_in texts.base)) (entries_added texts.entries (entry_bytes entry) entry (entry_again entry good))
-    ∙ with_added texts.generation (base_in texts.base) entry (entries_in texts.entries)
+typed_added entry good None current = refl
+typed_added entry good (Some texts) current =
+    let known : layout_of texts.layout ≡ Some Second = ap layout_of current in
+    ap (λ o. spelled_by o (added_text (entry_bytes entry) texts)) known
+    ∙ ap (with_base texts.layout texts.generation (base_in Second texts.base))
+    (entries_added Second texts.entries (entry_bytes entry) entry (entry_again Second entry good))
+    ∙ with_added texts.layout texts.generation (base_in Second texts.base) entry (entries_in Second texts.entries)
+    ∙ sym (ap (λ o. option_map (added entry) (spelled_by o texts)) known)
 
 -- ---- another base
 
-with_rebased : (generation : ℕ) (old : Option Base) (entries : Option (List Entry)) (base : Base) → IsSome (with_base generation old entries)
-    → with_base (generation + 1) (Some base) (Some []) ≡ option_map (rebased base) (with_base generation old entries)
-with_rebased generation None entries base some = absurd cc
-with_rebased generation (Some old) None base some = absurd cc
-with_rebased generation (Some old) (Some entries) base some = refl
+with_rebased : (number generation : ℕ) (old : Option Base) (entries : Option (List Entry)) (base : Base)
+    → IsSome (with_base number generation old entries)
+    → with_base LAYOUT (generation + 1) (Some base) (Some []) ≡ option_map (rebased base) (with_base number generation old entries)
+with_rebased number generation None entries base some = absurd cc
+with_rebased number generation (Some old) None base some = absurd cc
+with_rebased number generation (Some old) (Some entries) base some = refl
+
+-- whichever layout the texts have
+spelled_rebased : (layout : Option Layout) (texts : Texts) (base : Base) → IsSome (spelled_by layout texts)
+    → with_base LAYOUT (texts.generation + 1) (Some base) (Some []) ≡ option_map (rebased base) (spelled_by layout texts)
+spelled_rebased None texts base some = absurd cc
+spelled_rebased (Some layout) texts base some =
+    with_rebased texts.layout texts.generation (base_in layout texts.base) (entries_in layout texts.entries) base some
 
 pub typed_rebased : (base : Base) → IsGoodBase base → (texts : Option Texts) → IsSome (typed texts)
-    → typed (option_map (rebased_text (base_bytes base)) texts) ≡ option_map (rebased base) (typed texts)
+    → typed (option_map (rebased_text LAYOUT (base_bytes base)) texts) ≡ option_map (rebased base) (typed texts)
 typed_rebased base good None some = absurd cc
 typed_rebased base good (Some texts) some =
-    ap (λ b. with_base (texts.generation + 1) b (Some [])) (base_again base good)
-    ∙ with_rebased texts.generation (base_in texts.base) (entries_in texts.entries) base some
+    ap (λ b. with_base LAYOUT (texts.generation + 1) b (Some [])) (base_again base good)
+    ∙ spelled_rebased (layout_of texts.layout) texts base some
 
 -- ---- calls
 
@@ -82,10 +105,16 @@ not_last n lt e = absurd (omega arith)
 module _ {D : Type 0} (state : D → State) where
   -- ---- an entry more
 
-  module _ (old : Journal D) (entry : Entry) (text : List ℕ) (good : IsGoodEntry entry) (is : text ≡ entry_bytes entry) (some : IsSome (contents_of state old)) where
+  -- a journal at rest in the layout that is written
+  pub texts_current : (old : Journal D) → IsAtRest state old → old.layout ≡ LAYOUT → AreCurrent (texts_of state old)
+  texts_current old rest current =
+      subst AreCurrent (sym (contents_are state old rest.texts)) (sym rest.texts.layout ∙ current)
+
+  module _ (old : Journal D) (entry : Entry) (text : List ℕ) (good : IsGoodEntry entry) (is : text ≡ entry_bytes entry) (some : IsSome (contents_of state old))
+      (current : AreCurrent (texts_of state old)) where
     pub entry_after : typed (option_map (added_text text) (texts_of state old)) ≡ option_map (added entry) (contents_of state old)
     entry_after =
-        ap (λ t. typed (option_map (added_text t) (texts_of state old))) is ∙ typed_added entry good (texts_of state old)
+        ap (λ t. typed (option_map (added_text t) (texts_of state old))) is ∙ typed_added entry good (texts_of state old) current
         ∙ ap (option_map (added entry)) (sym (texts_are state old some))
 
     pub append_moments : (new : Journal D)
@@ -101,13 +130,17 @@ module _ {D : Type 0} (state : D → State) where
         (some_map (added entry) (contents_of state old) some) (append_moments new m)
 
   module _ (old new : Journal D) (entry : Entry) (text : List ℕ) (good : IsGoodEntry entry) (is : text ≡ entry_bytes entry) (sound : IsSound state old)
+      (current : old.layout ≡ LAYOUT)
       (moments : old.spent ≡ false
       → AnyMoment state old new (IsEitherText (HoldsOne state old) (texts_of state old) (option_map (added_text text) (texts_of state old)))) where
+    texts_now : old.spent ≡ false → AreCurrent (texts_of state old)
+    texts_now going = texts_current old (sound going) current
+
     appended_texts : old.spent ≡ false → contents_of state new ≡ typed (texts_of state new)
-    appended_texts going = texts_are state new (append_some old entry text good is (sound going).some new (moments going))
+    appended_texts going = texts_are state new (append_some old entry text good is (sound going).some (texts_now going) new (moments going))
 
     pub append_row : (result : Result (Unit {0}) (Failure JournalFault)) → AppendsText state old text result new → Appends state old entry result new
-    append_row (Ok u) r = (r.0, r.1, appended_texts r.0 ∙ ap typed r.2 ∙ entry_after old entry text good is (sound r.0).some)
+    append_row (Ok u) r = (r.0, r.1, appended_texts r.0 ∙ ap typed r.2 ∙ entry_after old entry text good is (sound r.0).some (texts_now r.0))
     append_row (Err (Refused DiskFault)) r = r
     append_row (Err (Refused NotAJournal)) r = r
     append_row (Err (Refused Spent)) r = r
@@ -116,44 +149,44 @@ module _ {D : Type 0} (state : D → State) where
 
     pub append_sound : AreTextsSound state new → (result : Result (Unit {0}) (Failure JournalFault)) → AppendsText state old text result new
         → IsSound state new
-    append_sound texts (Ok u) r going = record { texts = texts going; some = append_some old entry text good is (sound r.0).some new (moments r.0) }
+    append_sound texts (Ok u) r going = record { texts = texts going; some = append_some old entry text good is (sound r.0).some (texts_now r.0) new (moments r.0) }
     append_sound texts (Err (Refused DiskFault)) r going = absurd (not_both new.spent going r.1)
     append_sound texts (Err (Refused NotAJournal)) r going = absurd r
     append_sound texts (Err (Refused Spent)) r going = subst (IsSound state) (sym r.1) sound going
     append_sound texts (Err (Refused GenerationsSpent)) r going = absurd r
     append_sound texts (Err NoMemory) r going =
-        record { texts = texts going; some = append_some old entry text good is (sound r.0).some new (moments r.0) }
+        record { texts = texts going; some = append_some old entry text good is (sound r.0).some (texts_now r.0) new (moments r.0) }
 
   -- ---- another base
 
   module _ (old : Journal D) (base : Base) (text : List ℕ) (good : IsGoodBase base) (is : text ≡ base_bytes base) (some : IsSome (contents_of state old)) where
-    pub base_after : typed (option_map (rebased_text text) (texts_of state old)) ≡ option_map (rebased base) (contents_of state old)
+    pub base_after : typed (option_map (rebased_text LAYOUT text) (texts_of state old)) ≡ option_map (rebased base) (contents_of state old)
     base_after =
         let are = texts_are state old some in
-        ap (λ t. typed (option_map (rebased_text t) (texts_of state old))) is
+        ap (λ t. typed (option_map (rebased_text LAYOUT t) (texts_of state old))) is
         ∙ typed_rebased base good (texts_of state old) (some_is (typed (texts_of state old)) (contents_of state old) (sym are) some)
         ∙ ap (option_map (rebased base)) (sym are)
 
     pub rebase_moments : (new : Journal D)
-        → AnyMoment state old new (IsEitherText (HoldsOne state old) (texts_of state old) (option_map (rebased_text text) (texts_of state old)))
+        → AnyMoment state old new (IsEitherText (HoldsOne state old) (texts_of state old) (option_map (rebased_text LAYOUT text) (texts_of state old)))
         → AnyMoment state old new (IsEither (contents_of state old) (option_map (rebased base) (contents_of state old)))
-    rebase_moments new m = typed_moments state old new (option_map (rebased_text text) (texts_of state old))
+    rebase_moments new m = typed_moments state old new (option_map (rebased_text LAYOUT text) (texts_of state old))
         (option_map (rebased base) (contents_of state old)) some (some_map (rebased base) (contents_of state old) some) base_after m
 
     rebase_some : (new : Journal D)
-        → AnyMoment state old new (IsEitherText (HoldsOne state old) (texts_of state old) (option_map (rebased_text text) (texts_of state old)))
+        → AnyMoment state old new (IsEitherText (HoldsOne state old) (texts_of state old) (option_map (rebased_text LAYOUT text) (texts_of state old)))
         → IsSome (contents_of state new)
     rebase_some new m = still_some state old new (option_map (rebased base) (contents_of state old)) some
         (some_map (rebased base) (contents_of state old) some) (rebase_moments new m)
 
   module _ (old new : Journal D) (base : Base) (text : List ℕ) (good : IsGoodBase base) (is : text ≡ base_bytes base) (sound : IsSound state old)
       (moments : old.spent ≡ false
-      → AnyMoment state old new (IsEitherText (HoldsOne state old) (texts_of state old) (option_map (rebased_text text) (texts_of state old)))) where
+      → AnyMoment state old new (IsEitherText (HoldsOne state old) (texts_of state old) (option_map (rebased_text LAYOUT text) (texts_of state old)))) where
     rebased_texts : old.spent ≡ false → contents_of state new ≡ typed (texts_of state new)
     rebased_texts going = texts_are state new (rebase_some old base text good is (sound going).some new (moments going))
 
-    pub rebase_row : (result : Result (Unit {0}) (Failure JournalFault)) → RebasesText state old text result new → Rebases state old base result new
-    rebase_row (Ok u) r = (r.0, r.1, r.2, rebased_texts r.0 ∙ ap typed r.3 ∙ base_after old base text good is (sound r.0).some)
+    pub rebase_row : (result : Result (Unit {0}) (Failure JournalFault)) → RebasesText state old LAYOUT text result new → Rebases state old base result new
+    rebase_row (Ok u) r = (r.0, r.1, r.2, r.3, rebased_texts r.0 ∙ ap typed r.4 ∙ base_after old base text good is (sound r.0).some)
     rebase_row (Err (Refused DiskFault)) r = r
     rebase_row (Err (Refused NotAJournal)) r = r
     rebase_row (Err (Refused Spent)) r = r
@@ -161,7 +194,7 @@ module _ {D : Type 0} (state : D → State) where
     rebase_row (Err NoMemory) r =
         (r.0, not_last old.generation r.1, r.2, r.3, rebased_texts r.0 ∙ ap typed r.4 ∙ sym (texts_are state old (sound r.0).some))
 
-    pub rebase_sound : AreTextsSound state new → (result : Result (Unit {0}) (Failure JournalFault)) → RebasesText state old text result new
+    pub rebase_sound : AreTextsSound state new → (result : Result (Unit {0}) (Failure JournalFault)) → RebasesText state old LAYOUT text result new
         → IsSound state new
     rebase_sound texts (Ok u) r going = record { texts = texts going; some = rebase_some old base text good is (sound r.0).some new (moments r.0) }
     rebase_sound texts (Err (Refused DiskFault)) r going = absurd (not_both new.spent going r.1)

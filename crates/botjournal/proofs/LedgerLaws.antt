@@ -12,6 +12,7 @@ use Rattle.bytejournal.specs.declared.fault.JournalFault.TheVariants.{DiskFault 
 use Rattle.bytejournal.specs.declared.journal.Journal.{Journal as OfTexts}
 use Rattle.bytejournal.specs.declared.opening.Disks.{Disks}
 use Rattle.bytejournal.specs.declared.opening.Returned.{Returned}
+use Rattle.bytejournal.specs.Meaning.{Contents as Texts}
 use Rattle.bytejournal.specs.Journal.{HoldsOne, AnyMoment, SameDisks, first_disk, second_disk, contents_of as texts_of}
 use Rattle.bytejournal.specs.Opening.{Untouched, Reopened}
 use Rattle.bytejournal.specs.Writing.{IsSame}
@@ -22,7 +23,9 @@ use Rattle.botjournal.specs.declared.entry.Entry.{Entry}
 use Rattle.botjournal.specs.declared.opening.Opened.{Opened}
 use Rattle.botjournal.specs.declared.store.Store.{Store}
 use Rattle.botjournal.specs.declared.store.Store.TheVariants.{Open, Shut, InHand}
-use Rattle.botjournal.specs.Contents.{Contents, meaning, with_base, entries_in, typed}
+use Rattle.botjournal.specs.Contents.{Contents, meaning, with_base, entries_in, spelled, spelled_by, typed}
+use Rattle.botjournal.specs.declared.layouts.Layout.{Layout}
+use Rattle.botjournal.specs.Layouts.{layout_of}
 use Rattle.botjournal.specs.Bases.{base_in}
 use Rattle.botjournal.specs.Journal.{IsEither, Refuses, Opens, contents_of, contents_found}
 use Rattle.botjournal.specs.Ledger.{Ledger, Account, Pending, Device, Failed, Reopens, AtEachMoment, AreStill, Leaves, Restarts, settled, written_if, counted, device_on, without_room}
@@ -40,12 +43,21 @@ some_shown o contents is = is ∙ ap Some (sym (shown_is o contents is))
 same_contents : (a b : Contents) → (let o : Option Contents = Some a in o) ≡ Some b → a ≡ b
 same_contents a b e = ap shown e
 
--- what is read keeps the generation
-spelled_generation : (generation : ℕ) (base : Option Base) (entries : Option (List Entry)) (contents : Contents)
-    → with_base generation base entries ≡ Some contents → contents.generation ≡ generation
-spelled_generation generation None entries contents is = absurd cc
-spelled_generation generation (Some base) None contents is = absurd cc
-spelled_generation generation (Some base) (Some entries) contents is = sym (ap (λ o. (shown o).generation) is)
+-- what is read keeps the layout and the generation
+abbrev IsOf : ℕ → ℕ → Contents → Type 0
+IsOf number generation contents = (contents.layout ≡ number) × (contents.generation ≡ generation)
+
+with_base_of : (number generation : ℕ) (base : Option Base) (entries : Option (List Entry)) (contents : Contents)
+    → with_base number generation base entries ≡ Some contents → IsOf number generation contents
+with_base_of number generation None entries contents is = absurd cc
+with_base_of number generation (Some base) None contents is = absurd cc
+with_base_of number generation (Some base) (Some entries) contents is = (sym (ap (λ o. (shown o).layout) is), sym (ap (λ o. (shown o).generation) is))
+
+spelled_of : (layout : Option Layout) (texts : Texts) (contents : Contents) → spelled_by layout texts ≡ Some contents
+    → IsOf texts.layout texts.generation contents
+spelled_of None texts contents is = absurd cc
+spelled_of (Some layout) texts contents is =
+    with_base_of texts.layout texts.generation (base_in layout texts.base) (entries_in layout texts.entries) contents is
 
 -- images of two disks that mean what they meant
 either_moved : (before before' after after' : Option Contents) (x y : List ℕ) → before ≡ before' → after ≡ after' → IsEither before after x y
@@ -69,13 +81,19 @@ module _ {D : Type 0} (state : D → State) where
   going_of false InHand account journal s d e = absurd s
   going_of true store account journal s d e = absurd cc
 
-  pub generation_is : (journal : OfTexts D) (account : Account) → IsGoing state journal account → account.contents.generation ≡ journal.generation
-  generation_is journal account is =
+  going_is_of : (journal : OfTexts D) (account : Account) → IsGoing state journal account → IsOf journal.layout journal.generation account.contents
+  going_is_of journal account is =
       let texts = is.rest.texts in
-      let read : with_base texts.contents.generation (base_in texts.contents.base) (entries_in texts.contents.entries) ≡ Some account.contents =
+      let read : spelled texts.contents ≡ Some account.contents =
       ap typed (sym (contents_are state journal texts)) ∙ sym (texts_are state journal is.rest.some) ∙ is.contents in
-      spelled_generation texts.contents.generation (base_in texts.contents.base) (entries_in texts.contents.entries) account.contents read
-      ∙ sym texts.generation
+      let of = spelled_of (layout_of texts.contents.layout) texts.contents account.contents read in
+      (of.0 ∙ sym texts.layout, of.1 ∙ sym texts.generation)
+
+  pub layout_is : (journal : OfTexts D) (account : Account) → IsGoing state journal account → account.contents.layout ≡ journal.layout
+  layout_is journal account is = (going_is_of journal account is).0
+
+  pub generation_is : (journal : OfTexts D) (account : Account) → IsGoing state journal account → account.contents.generation ≡ journal.generation
+  generation_is journal account is = (going_is_of journal account is).1
 
 module _ {D : Type 0} (state : D → State) where
   -- ---- what a crash leaves

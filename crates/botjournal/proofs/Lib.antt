@@ -1,4 +1,5 @@
 pub mod WholeLaws
+pub mod LayoutLaws
 pub mod EntryLaws
 pub mod ItemLaws
 pub mod BaseLaws

@@ -103,7 +103,7 @@ pub found_means : (texts : Texts) (older : Option Older) → chosen (Open texts)
     → typed (chosen (checked (Open texts)) (checked (held_older older))) ≡ (if is_spelled older then spelled texts else None)
 found_means texts None counts = alone_means (Open texts) texts counts
 found_means texts (Some older) counts =
-    let other : Texts = record { generation = older.generation; base = older.base; entries = older.entries } in
+    let other : Texts = record { layout = older.layout; generation = older.generation; base = older.base; entries = older.entries } in
     beside_older texts other (spelled texts) (spelled other) refl counts
 
 -- ---- a journal's disks

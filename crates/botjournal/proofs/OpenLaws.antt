@@ -18,6 +18,7 @@ use Rattle.bytejournal.proofs.Pairs.{meaning_comm as texts_comm}
 use Rattle.bytejournal.proofs.Recovering.{some_is}
 use Rattle.botjournal.specs.declared.base.Base.{Base}
 use Rattle.botjournal.specs.declared.opening.Opened.{Opened}
+use Rattle.botjournal.specs.declared.TheConstants.{LAYOUT}
 use Rattle.botjournal.specs.Bases.{base_bytes, IsGoodBase}
 use Rattle.botjournal.specs.Contents.{new_contents, with_base, spelled, checked, typed, meaning}
 use Rattle.botjournal.specs.Journal.{IsAtRest, contents_of, Creates, Refuses, Opens, Restarts, CannotRead, is_spelled, texts_found, contents_read, ReadsTexts}
@@ -28,13 +29,13 @@ module _ {D : Type 0} (state : D → State) where
   -- ---- made
 
   pub creates : (first second : D) (base : Base) (text : List ℕ) → IsGoodBase base → text ≡ base_bytes base → (journal : Journal D)
-      → CreatesTexts state first second text (Ok journal) → Creates state first second base (Ok journal)
+      → CreatesTexts state first second LAYOUT text (Ok journal) → Creates state first second base (Ok journal)
   creates first second base text good is journal r =
       let x = (state journal.active).seen in
       let contents : contents_of state journal ≡ Some (new_contents base) =
       ap (λ (h : Held). typed (chosen (checked (held x)) (checked h))) r.3
-      ∙ alone_means (held x) (new_texts text) (ap (λ (h : Held). chosen (held x) h) (sym r.3) ∙ r.2) ∙ ap (λ t. spelled (new_texts t)) is
-      ∙ ap (λ b. with_base 1 b (Some [])) (base_again base good) in
+      ∙ alone_means (held x) (new_texts LAYOUT text) (ap (λ (h : Held). chosen (held x) h) (sym r.3) ∙ r.2) ∙ ap (λ t. spelled (new_texts LAYOUT t)) is
+      ∙ ap (λ b. with_base LAYOUT 1 b (Some [])) (base_again base good) in
       (r.0, record { texts = r.1; some = some_is (contents_of state journal) (Some (new_contents base)) contents refl }, contents)
 
   -- ---- opened
@@ -72,14 +73,14 @@ module _ {D : Type 0} (state : D → State) where
       let journal : opened.journal ≡ texts.journal = r.0 in
       let found : meaning (state first).seen (state second).seen ≡ contents_read texts = found_are_read first second texts o in
       let read : meaning (state first).seen (state second).seen
-      ≡ Some (record { generation = texts.journal.generation; base = opened.base; entries = opened.entries }) = found ∙ r.2 in
+      ≡ Some (record { layout = texts.journal.layout; generation = texts.journal.generation; base = opened.base; entries = opened.entries }) = found ∙ r.2 in
       let here : contents_of state texts.journal ≡ meaning (state first).seen (state second).seen =
       contents_in_order state texts.journal ∙ untouched_means first second (first_disk texts.journal) (second_disk texts.journal) o.1 o.2 in
       let rests : AreTextsAtRest state texts.journal → IsAtRest state texts.journal =
       λ rest. record { texts = rest; some = some_is (contents_of state texts.journal) _ (here ∙ read) refl } in (
         record {
           found = subst (λ j. meaning (state first).seen (state second).seen
-              ≡ Some (record { generation = j.generation; base = opened.base; entries = opened.entries })) (sym journal) read;
+              ≡ Some (record { layout = j.layout; generation = j.generation; base = opened.base; entries = opened.entries })) (sym journal) read;
           going = subst (λ j. j.spent ≡ false) (sym journal) o.0.going;
           whole = λ a b. r.1 ∙ o.0.whole a b;
           at_rest = λ whole. subst (λ j. IsAtRest state j) (sym journal) (rests (o.0.at_rest (sym r.1 ∙ whole)));

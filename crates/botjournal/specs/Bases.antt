@@ -1,4 +1,4 @@
--- The one spelling of a base, and what reading one answers.
+-- The one spelling of a base in each layout, and what reading one answers.
 use Rattle.std.specs.Prelude.{◌≡◌, ℕ, ◌+◌, ◌<◌, ◌^◌, ◌==◌, nat_le, Bool, true, false, ◌&&◌, List, [], ◌∷◌, ◌++◌, length, Option, Some, None, Result, Ok, Err}
 use Rattle.std.specs.Prelude.{if◌then◌else◌}
 use Rattle.std.specs.List.{flat_map, AllByRecursion}
@@ -9,10 +9,13 @@ use Rattle.userfile.specs.declared.change.Change.{Change}
 use Rattle.usercodec.specs.declared.fault.CodecFault.TheVariants.{NotCanonical}
 use Rattle.usercodec.specs.declared.records.Record.{Record}
 use Rattle.usercodec.specs.Fields.{number, Reading, ◌>>=◌, checked, byte_at, number_at}
-use Rattle.usercodec.specs.Changes.{change_bytes, IsGoodChange, both, made, change_at}
-use Rattle.usercodec.specs.Records.{record_bytes, HasShape, IsGoodRecord, items_at, record_at}
+use Rattle.usercodec.specs.Changes.{change_bytes, IsGoodChange, both, made}
+use Rattle.usercodec.specs.Records.{HasShape, IsGoodRecord, items_at}
 use Rattle.usercodec.specs.FaultBytes.{fault_byte, fault_from, known}
 use Rattle.botjournal.specs.Whole.{whole}
+use Rattle.botjournal.specs.Layouts.{IsGoodChangeBy, change_by, record_bytes_by, IsGoodRecordBy, so_many_records_by}
+use Rattle.botjournal.specs.declared.layouts.Layout.{Layout}
+use Rattle.botjournal.specs.declared.layouts.Layout.TheVariants.{Second}
 use Rattle.botjournal.specs.declared.base.Base.{Base}
 use Rattle.botjournal.specs.declared.reply.Answer.{Answer}
 use Rattle.botjournal.specs.declared.reply.Answer.TheVariants.{Taken, Refused}
@@ -37,11 +40,15 @@ abbrev pub out_bytes : Option Change → List ℕ
 out_bytes None = 0 ∷ []
 out_bytes (Some change) = 1 ∷ change_bytes change
 
--- a base, its fields one after the other, each number with its most significant byte first
-abbrev pub base_bytes : Base → List ℕ
-base_bytes base =
-    number w16 base.bot ++ (number w32 base.version ++ (listed record_bytes base.records ++ (listed reply_bytes base.replies
+-- a base in this layout, its fields one after the other, each number with its most significant byte first
+abbrev pub base_bytes_by : Layout → Base → List ℕ
+base_bytes_by layout base =
+    number w16 base.bot ++ (number w32 base.version ++ (listed (record_bytes_by layout) base.records ++ (listed reply_bytes base.replies
     ++ (number w32 base.last_request ++ out_bytes base.out))))
+
+-- a base as it is written
+abbrev pub base_bytes : Base → List ℕ
+base_bytes base = base_bytes_by Second base
 
 -- ---- which bases have a spelling
 
@@ -84,9 +91,12 @@ IsGoodAnswer (Refused fault) = Unit {0}
 abbrev pub IsGoodReply : Reply → Type 0
 IsGoodReply reply = (reply.leaf < 2 ^ 16) × ((reply.request < 2 ^ 32) × IsGoodAnswer reply.answer)
 
+abbrev pub IsGoodOutWith : (Change → Type 0) → Option Change → Type 0
+IsGoodOutWith IsGood None = Unit {0}
+IsGoodOutWith IsGood (Some change) = IsGood change
+
 abbrev pub IsGoodOut : Option Change → Type 0
-IsGoodOut None = Unit {0}
-IsGoodOut (Some change) = IsGoodChange change
+IsGoodOut out = IsGoodOutWith IsGoodChange out
 
 -- items that have spellings, and not too many for their count
 abbrev pub AreListed : {A : Type 0} → (A → Type 0) → List A → Type 0
@@ -101,6 +111,17 @@ pub record IsGoodBase (base : Base) : Type 0 where
   pub rising : are_rising base.replies ≡ true
   pub last_request : base.last_request < 2 ^ 32
   pub out : IsGoodOut base.out
+  pub of_its_bot : is_of_its_bot base ≡ true
+
+-- a base that has a spelling in this layout
+pub record IsGoodBaseBy (layout : Layout) (base : Base) : Type 0 where
+  pub bot : base.bot < 2 ^ 16
+  pub version : base.version < 2 ^ 32
+  pub records : AreListed (IsGoodRecordBy layout) base.records
+  pub replies : AreListed IsGoodReply base.replies
+  pub rising : are_rising base.replies ≡ true
+  pub last_request : base.last_request < 2 ^ 32
+  pub out : IsGoodOutWith (IsGoodChangeBy layout) base.out
   pub of_its_bot : is_of_its_bot base ≡ true
 
 -- ---- reading
@@ -130,39 +151,46 @@ replies_listed_at bytes = listed_at reply_at bytes
 unfoldable pub replies_at : List ℕ → Reading (List Reply)
 replies_at bytes = checked are_rising (replies_listed_at bytes)
 
-unfoldable pub records_at : List ℕ → Reading (List Record)
-records_at bytes = listed_at record_at bytes
+unfoldable pub records_at : Layout → List ℕ → Reading (List Record)
+records_at layout bytes = do
+  count ← number_at w16 bytes
+  so_many_records_by layout count.0 count.1
 
 -- what follows the byte that says whether a change is out
-unfoldable pub out_from : ℕ → List ℕ → Reading (Option Change)
-out_from byte bytes = if byte == 0 then Ok (None, bytes) else (if byte == 1 then made Some (change_at bytes) else Err NotCanonical)
+unfoldable pub out_from : Layout → ℕ → List ℕ → Reading (Option Change)
+out_from layout byte bytes = if byte == 0 then Ok (None, bytes) else (if byte == 1 then made Some (change_by layout bytes) else Err NotCanonical)
 
-unfoldable pub out_at : List ℕ → Reading (Option Change)
-out_at bytes = do
+unfoldable pub out_at : Layout → List ℕ → Reading (Option Change)
+out_at layout bytes = do
   byte ← byte_at bytes
-  out_from byte.0 byte.1
+  out_from layout byte.0 byte.1
 
 -- the base of these fields
 abbrev pub base_of : ℕ × (ℕ × (List Record × (List Reply × (ℕ × Option Change)))) → Base
 base_of x = record { bot = x.0; version = x.1.0; records = x.1.1.0; replies = x.1.1.1.0; last_request = x.1.1.1.1.0; out = x.1.1.1.1.1 }
 
-unfoldable pub parts_at : List ℕ → Reading Base
-parts_at bytes =
-    made base_of (both (number_at w16) (both (number_at w32) (both records_at (both replies_at (both (number_at w32) out_at)))) bytes)
+unfoldable pub parts_at : Layout → List ℕ → Reading Base
+parts_at layout bytes =
+    made base_of (both (number_at w16) (both (number_at w32) (both (records_at layout) (both replies_at (both (number_at w32) (out_at layout))))) bytes)
 
-unfoldable pub base_at : List ℕ → Reading Base
-base_at bytes = checked is_of_its_bot (parts_at bytes)
+unfoldable pub base_at : Layout → List ℕ → Reading Base
+base_at layout bytes = checked is_of_its_bot (parts_at layout bytes)
 
 -- ---- bases that are all of their bytes
 
--- the base whose spelling these bytes are
-abbrev pub base_in : List ℕ → Option Base
-base_in bytes = whole (base_at bytes)
+-- the base whose spelling in this layout these bytes are
+abbrev pub base_in : Layout → List ℕ → Option Base
+base_in layout bytes = whole (base_at layout bytes)
 
 -- what was found is spelled by these bytes
 abbrev pub IsBaseOf : List ℕ → Option Base → Type 0
 IsBaseOf bytes None = Unit {0}
 IsBaseOf bytes (Some base) = IsGoodBase base × (bytes ≡ base_bytes base)
+
+-- what was found is spelled by these bytes in this layout
+abbrev pub IsBaseBy : Layout → List ℕ → Option Base → Type 0
+IsBaseBy layout bytes None = Unit {0}
+IsBaseBy layout bytes (Some base) = IsGoodBaseBy layout base × (bytes ≡ base_bytes_by layout base)
 
 -- this base was found, unless memory ran out
 abbrev pub FindsBase : Base → Result (Option Base) NoMemory → Type 0

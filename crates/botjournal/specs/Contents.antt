@@ -4,26 +4,31 @@ use Rattle.bytejournal.specs.Meaning.{Contents as Texts, Held, held, chosen}
 use Rattle.bytejournal.specs.Meaning.Held.{Shut, Broken, Open}
 use Rattle.botjournal.specs.declared.base.Base.{Base}
 use Rattle.botjournal.specs.declared.entry.Entry.{Entry}
+use Rattle.botjournal.specs.declared.layouts.Layout.{Layout}
+use Rattle.botjournal.specs.declared.TheConstants.{LAYOUT}
+use Rattle.botjournal.specs.Layouts.{layout_of}
 use Rattle.botjournal.specs.Entries.{entry_in}
 use Rattle.botjournal.specs.Bases.{base_in}
 
--- what a journal holds: a base, and the entries appended since
+-- what a journal holds, spelled by a layout: a base, and the entries appended since
 pub record Contents : Type 0 where
+  pub layout : ℕ
   pub generation : ℕ
   pub base : Base
   pub entries : List Entry
 
 -- the contents with one entry more
 abbrev pub added : Entry → Contents → Contents
-added entry contents = record { generation = contents.generation; base = contents.base; entries = contents.entries ++ (entry ∷ []) }
+added entry contents =
+    record { layout = contents.layout; generation = contents.generation; base = contents.base; entries = contents.entries ++ (entry ∷ []) }
 
--- another base alone, in the next generation
+-- another base alone, in the layout that is written and the next generation
 abbrev pub rebased : Base → Contents → Contents
-rebased base contents = record { generation = contents.generation + 1; base = base; entries = [] }
+rebased base contents = record { layout = LAYOUT; generation = contents.generation + 1; base = base; entries = [] }
 
 -- a new journal's contents
 abbrev pub new_contents : Base → Contents
-new_contents base = record { generation = 1; base = base; entries = [] }
+new_contents base = record { layout = LAYOUT; generation = 1; base = base; entries = [] }
 
 -- an entry before others
 abbrev pub before_others : Option Entry → Option (List Entry) → Option (List Entry)
@@ -31,21 +36,26 @@ before_others None others = None
 before_others (Some entry) others = option_map (λ more. entry ∷ more) others
 
 -- the entries whose spellings these texts are
-abbrev pub entries_in : List (List ℕ) → Option (List Entry)
-entries_in [] = Some []
-entries_in (text ∷ texts) = before_others (entry_in text) (entries_in texts)
+abbrev pub entries_in : Layout → List (List ℕ) → Option (List Entry)
+entries_in layout [] = Some []
+entries_in layout (text ∷ texts) = before_others (entry_in layout text) (entries_in layout texts)
 
-abbrev pub with_entries : ℕ → Base → Option (List Entry) → Option Contents
-with_entries generation base None = None
-with_entries generation base (Some entries) = Some (record { generation = generation; base = base; entries = entries })
+abbrev pub with_entries : ℕ → ℕ → Base → Option (List Entry) → Option Contents
+with_entries number generation base None = None
+with_entries number generation base (Some entries) = Some (record { layout = number; generation = generation; base = base; entries = entries })
 
-abbrev pub with_base : ℕ → Option Base → Option (List Entry) → Option Contents
-with_base generation None entries = None
-with_base generation (Some base) entries = with_entries generation base entries
+abbrev pub with_base : ℕ → ℕ → Option Base → Option (List Entry) → Option Contents
+with_base number generation None entries = None
+with_base number generation (Some base) entries = with_entries number generation base entries
 
--- the base and entries that these texts spell: none where one of them is the spelling of nothing
+-- the base and entries that these texts spell in a layout
+abbrev pub spelled_by : Option Layout → Texts → Option Contents
+spelled_by None texts = None
+spelled_by (Some layout) texts = with_base texts.layout texts.generation (base_in layout texts.base) (entries_in layout texts.entries)
+
+-- the base and entries that these texts spell: none where their layout isn't read, or one of them is the spelling of nothing
 abbrev pub spelled : Texts → Option Contents
-spelled texts = with_base texts.generation (base_in texts.base) (entries_in texts.entries)
+spelled texts = spelled_by (layout_of texts.layout) texts
 
 abbrev pub where_spelled : Texts → Option Contents → Held
 where_spelled texts None = Broken

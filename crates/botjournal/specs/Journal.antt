@@ -16,6 +16,7 @@ use Rattle.bytejournal.specs.Journal.{IsAtRest as AreTextsAtRest, DiskFailed, Sa
 use Rattle.bytejournal.specs.Opening.{CannotCreate, Untouched, Reopened}
 use Rattle.botjournal.specs.declared.base.Base.{Base}
 use Rattle.botjournal.specs.declared.entry.Entry.{Entry}
+use Rattle.botjournal.specs.declared.TheConstants.{LAYOUT}
 use Rattle.botjournal.specs.declared.opening.Opened.{Opened}
 use Rattle.botjournal.specs.Bases.{IsGoodBase}
 use Rattle.botjournal.specs.Entries.{IsGoodEntry}
@@ -52,7 +53,7 @@ module _ {D : Type 0} (state : D → State) where
 
   -- Putting another base in place, by cases on the answer.
   abbrev pub Rebases : OfTexts D → Base → Result (Unit {0}) (Failure JournalFault) → OfTexts D → Type 0
-  Rebases old base (Ok _) new = (old.spent ≡ false) × (new.spent ≡ false) × (new.generation ≡ old.generation + 1)
+  Rebases old base (Ok _) new = (old.spent ≡ false) × (new.spent ≡ false) × (new.layout ≡ LAYOUT) × (new.generation ≡ old.generation + 1)
       × (contents_of new ≡ option_map (rebased base) (contents_of old))
   Rebases old base (Err (Refused DiskFault)) new = (old.spent ≡ false) × (new.spent ≡ true) × DiskFailed state old new
   Rebases old base (Err (Refused NotAJournal)) new = ⊥
@@ -68,7 +69,8 @@ module _ {D : Type 0} (state : D → State) where
 
   -- what an opened journal was found to hold
   abbrev pub contents_found : Opened D → Contents
-  contents_found opened = record { generation = opened.journal.generation; base = opened.base; entries = opened.entries }
+  contents_found opened =
+      record { layout = opened.journal.layout; generation = opened.journal.generation; base = opened.base; entries = opened.entries }
 
   -- The journal was opened on disks with these bytes. Where it is whole it is at rest.
   pub record IsOpened (first second : List ℕ) (opened : Opened D) : Type 0 where
@@ -100,7 +102,8 @@ module _ {D : Type 0} (state : D → State) where
 -- whether the texts of the disk that doesn't count spell a base and entries, where its gate is open
 abbrev pub is_spelled : Option Older → Bool
 is_spelled None = true
-is_spelled (Some older) = is_some (spelled (record { generation = older.generation; base = older.base; entries = older.entries }))
+is_spelled (Some older) =
+    is_some (spelled (record { layout = older.layout; generation = older.generation; base = older.base; entries = older.entries }))
 
 -- why the texts of an opened journal were not read
 abbrev pub CannotRead : Option Contents → Failure JournalFault → Type 0
@@ -122,7 +125,7 @@ module _ {D : Type 0} where
 
   -- the texts that count
   abbrev pub texts_found : OpenedTexts D → Texts
-  texts_found texts = record { generation = texts.journal.generation; base = texts.base; entries = texts.entries }
+  texts_found texts = record { layout = texts.journal.layout; generation = texts.journal.generation; base = texts.base; entries = texts.entries }
 
   -- the contents of the texts that were found: none where a text on the other disk is the spelling of nothing
   abbrev pub contents_read : OpenedTexts D → Option Contents
@@ -131,6 +134,7 @@ module _ {D : Type 0} where
   -- Reading the texts of an opened journal, by cases on the answer: the disks are handed on as they are.
   abbrev pub ReadsTexts : OpenedTexts D → Result (Opened D) (Returned D) → Type 0
   ReadsTexts texts (Ok opened) = (opened.journal ≡ texts.journal) × (opened.whole ≡ texts.whole)
-      × (contents_read texts ≡ Some (record { generation = texts.journal.generation; base = opened.base; entries = opened.entries }))
+      × (contents_read texts
+      ≡ Some (record { layout = texts.journal.layout; generation = texts.journal.generation; base = opened.base; entries = opened.entries }))
   ReadsTexts texts (Err returned) = CannotRead (contents_read texts) returned.error
       × (returned.disks.first ≡ first_disk texts.journal) × (returned.disks.second ≡ second_disk texts.journal)

@@ -1,4 +1,5 @@
 pub mod Whole
+pub mod Layouts
 pub mod Entries
 pub mod Bases
 pub mod Contents

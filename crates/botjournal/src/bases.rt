@@ -1,14 +1,16 @@
 // Bases as bytes.
-ghost use Rattle.std.specs.Prelude.{◌≡◌, ◌++◌, IfOk, OnOk, None};
+ghost use Rattle.std.specs.Prelude.{◌≡◌, ◌++◌, IfOk, IfSome, OnOk, None};
 ghost use Rattle.std.specs.Int.{w16, w32};
 ghost use Rattle.userfile.specs.Apply.{bad_shape};
 ghost use Rattle.botjournal.specs.declared.base.Base.{Base};
 ghost use Rattle.usercodec.specs.Answers.{Finds};
 ghost use Rattle.botjournal.specs.Bases.{base_bytes, out_bytes, base_in, IsGoodBase, HasShapes, HasShapeOut, IsBaseOf};
-ghost use Rattle.botjournal.specs.Bases.{FindsBase, is_of_its_bot};
+ghost use Rattle.botjournal.specs.Bases.{base_bytes_by, IsGoodBaseBy, IsBaseBy, FindsBase, is_of_its_bot};
 ghost use Rattle.botjournal.specs.Bases.{out_at, out_from, parts_at, base_at};
+ghost use Rattle.botjournal.specs.declared.layouts.Layout.TheVariants.{Second};
 
 use crate::base::Base;
+use crate::layouts::{Layout, change};
 use crate::lists::{put_records, put_replies, records, replies};
 use bytetext::{Failure, NoMemory};
 use std::alloc::Global;
@@ -61,20 +63,37 @@ fn put_out(bytes: &mut Vec<u8>, out: &Option<Change>) -> Result<(), NoMemory>
 /// # Errors
 /// `NoMemory` where room for the base is refused.
 pub fn read_base(alloc: Global, bytes: &[u8]) -> Result<Option<Base>, NoMemory>
-    ensures exact { IfOk result (λ read. read ≡ base_in bytes.now) }
+    ensures exact { IfOk result (λ read. read ≡ base_in Second bytes.now) }
     // What is read is spelled by the bytes.
     ensures spelled { IfOk result (λ read. IsBaseOf bytes.now read) }
     // What is spelled is read.
     ensures only { (base : Base) → IsGoodBase base → bytes.now ≡ base_bytes base → FindsBase base result }
 {
-    read_whole(alloc, bytes)
+    read_base_by(alloc, Layout::Second, bytes)
 }
 
-fn read_whole(alloc: Global, bytes: &[u8]) -> Result<Option<Base>, NoMemory>
-    ensures { IfOk result (λ read. read ≡ base_in bytes.now) }
+/// The base whose spelling in this layout these bytes are, all of them, where they are one's.
+pub(crate) fn read_base_by(
+    alloc: Global,
+    layout: Layout,
+    bytes: &[u8],
+) -> Result<Option<Base>, NoMemory>
+    ensures exact { IfOk result (λ read. read ≡ base_in layout bytes.now) }
+    // What is read is spelled by the bytes.
+    ensures spelled { IfOk result (λ read. IsBaseBy layout bytes.now read) }
+    // What is spelled is read.
+    ensures only { (base : Base) → IsGoodBaseBy layout base → bytes.now ≡ base_bytes_by layout base → FindsBase base result }
+    // What any layout spelled may be written.
+    ensures good { IfOk result (λ read. IfSome read IsGoodBase) }
+{
+    read_whole(alloc, layout, bytes)
+}
+
+fn read_whole(alloc: Global, layout: Layout, bytes: &[u8]) -> Result<Option<Base>, NoMemory>
+    ensures { IfOk result (λ read. read ≡ base_in layout bytes.now) }
 {
     let mut reader = Reader::new(bytes);
-    match base(alloc, &mut reader) {
+    match base(alloc, layout, &mut reader) {
         Ok(base) => {
             if reader.is_empty() {
                 return Ok(Some(base));
@@ -87,10 +106,10 @@ fn read_whole(alloc: Global, bytes: &[u8]) -> Result<Option<Base>, NoMemory>
 }
 
 #[tactic(auto, unfolding(crate::specs::Bases::base_at))]
-fn base(alloc: Global, reader: &mut Reader<'_>) -> Result<Base, CodecError>
-    ensures { Finds (λ base. (base, reader.new)) result (base_at reader.old) }
+fn base(alloc: Global, layout: Layout, reader: &mut Reader<'_>) -> Result<Base, CodecError>
+    ensures { Finds (λ base. (base, reader.new)) result (base_at layout reader.old) }
 {
-    let base = parts(alloc, reader)?;
+    let base = parts(alloc, layout, reader)?;
     if !is_of_its_bot(&base) {
         return Err(Failure::Refused(CodecFault::NotCanonical));
     }
@@ -98,15 +117,15 @@ fn base(alloc: Global, reader: &mut Reader<'_>) -> Result<Base, CodecError>
 }
 
 #[tactic(auto, unfolding(crate::specs::Bases::parts_at))]
-fn parts(alloc: Global, reader: &mut Reader<'_>) -> Result<Base, CodecError>
-    ensures { Finds (λ base. (base, reader.new)) result (parts_at reader.old) }
+fn parts(alloc: Global, layout: Layout, reader: &mut Reader<'_>) -> Result<Base, CodecError>
+    ensures { Finds (λ base. (base, reader.new)) result (parts_at layout reader.old) }
 {
     let bot = reader.u16()?;
     let version = reader.u32()?;
-    let records = records(alloc, reader)?;
+    let records = records(alloc, layout, reader)?;
     let replies = replies(alloc, reader)?;
     let last_request = reader.u32()?;
-    let out = out(alloc, reader)?;
+    let out = out(alloc, layout, reader)?;
     Ok(Base {
         bot,
         version,
@@ -118,20 +137,25 @@ fn parts(alloc: Global, reader: &mut Reader<'_>) -> Result<Base, CodecError>
 }
 
 #[tactic(auto, unfolding(crate::specs::Bases::out_at))]
-fn out(alloc: Global, reader: &mut Reader<'_>) -> Result<Option<Change>, CodecError>
-    ensures { Finds (λ out. (out, reader.new)) result (out_at reader.old) }
+fn out(alloc: Global, layout: Layout, reader: &mut Reader<'_>) -> Result<Option<Change>, CodecError>
+    ensures { Finds (λ out. (out, reader.new)) result (out_at layout reader.old) }
 {
     let byte = reader.byte()?;
-    out_of(alloc, byte, reader)
+    out_of(alloc, layout, byte, reader)
 }
 
 #[tactic(auto, unfolding(crate::specs::Bases::out_from))]
-fn out_of(alloc: Global, byte: u8, reader: &mut Reader<'_>) -> Result<Option<Change>, CodecError>
-    ensures { Finds (λ out. (out, reader.new)) result (out_from byte reader.old) }
+fn out_of(
+    alloc: Global,
+    layout: Layout,
+    byte: u8,
+    reader: &mut Reader<'_>,
+) -> Result<Option<Change>, CodecError>
+    ensures { Finds (λ out. (out, reader.new)) result (out_from layout byte reader.old) }
 {
     match byte {
         0 => Ok(None),
-        1 => Ok(Some(reader.change(alloc)?)),
+        1 => Ok(Some(change(alloc, layout, reader)?)),
         _ => Err(Failure::Refused(CodecFault::NotCanonical)),
     }
 }

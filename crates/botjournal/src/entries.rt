@@ -1,16 +1,18 @@
 // Entries as bytes.
-ghost use Rattle.std.specs.Prelude.{◌≡◌, None, IfOk, OnOk, ◌++◌, ◌∷◌};
+ghost use Rattle.std.specs.Prelude.{◌≡◌, None, IfOk, IfSome, OnOk, ◌++◌, ◌∷◌};
 ghost use Rattle.userfile.specs.Apply.{bad_shape};
 ghost use Rattle.std.specs.Int.{w16, w32};
 ghost use Rattle.usercodec.specs.Answers.{Makes};
 ghost use Rattle.usercodec.specs.Fields.{number};
 ghost use Rattle.usercodec.specs.Changes.{change_bytes};
 ghost use Rattle.botjournal.specs.declared.entry.Entry.{Entry};
-ghost use Rattle.botjournal.specs.Entries.{entry_bytes, entry_in, IsGoodEntry, HasShape, IsEntryOf, FindsEntry};
+ghost use Rattle.botjournal.specs.Entries.{entry_bytes, entry_in, IsGoodEntry, IsGoodEntryBy, HasShape, IsEntryOf, FindsEntry};
 ghost use Rattle.botjournal.specs.Entries.{entry_at, entry_fields_at, accepted_at, settled_at, applied_at};
 ghost use Rattle.botjournal.specs.Entries.{request_out_at, request_done_at};
+ghost use Rattle.botjournal.specs.declared.layouts.Layout.TheVariants.{Second};
 
 use crate::entry::Entry;
+use crate::layouts::{Layout, change};
 use bytetext::{Failure, NoMemory};
 use std::alloc::Global;
 use usercodec::{CodecError, CodecFault, Reader, byte_of_fault, put_change, put_u16, put_u32};
@@ -84,20 +86,37 @@ fn put_numbered(out: &mut Vec<u8>, tag: u8, n: u32, change: &Change) -> Result<(
 /// # Errors
 /// `NoMemory` where room for the entry is refused.
 pub fn read_entry(alloc: Global, bytes: &[u8]) -> Result<Option<Entry>, NoMemory>
-    ensures exact { IfOk result (λ read. read ≡ entry_in bytes.now) }
+    ensures exact { IfOk result (λ read. read ≡ entry_in Second bytes.now) }
     // What is read is spelled by the bytes.
-    ensures spelled { IfOk result (λ read. IsEntryOf bytes.now read) }
+    ensures spelled { IfOk result (λ read. IsEntryOf Second bytes.now read) }
     // What is spelled is read.
     ensures only { (entry : Entry) → IsGoodEntry entry → bytes.now ≡ entry_bytes entry → FindsEntry entry result }
 {
-    read_whole(alloc, bytes)
+    read_entry_by(alloc, Layout::Second, bytes)
 }
 
-fn read_whole(alloc: Global, bytes: &[u8]) -> Result<Option<Entry>, NoMemory>
-    ensures { IfOk result (λ read. read ≡ entry_in bytes.now) }
+/// The entry whose spelling in this layout these bytes are, all of them, where they are one's.
+pub(crate) fn read_entry_by(
+    alloc: Global,
+    layout: Layout,
+    bytes: &[u8],
+) -> Result<Option<Entry>, NoMemory>
+    ensures exact { IfOk result (λ read. read ≡ entry_in layout bytes.now) }
+    // What is read is spelled by the bytes.
+    ensures spelled { IfOk result (λ read. IsEntryOf layout bytes.now read) }
+    // What is spelled is read.
+    ensures only { (entry : Entry) → IsGoodEntryBy layout entry → bytes.now ≡ entry_bytes entry → FindsEntry entry result }
+    // What any layout spelled may be written.
+    ensures good { IfOk result (λ read. IfSome read IsGoodEntry) }
+{
+    read_whole(alloc, layout, bytes)
+}
+
+fn read_whole(alloc: Global, layout: Layout, bytes: &[u8]) -> Result<Option<Entry>, NoMemory>
+    ensures { IfOk result (λ read. read ≡ entry_in layout bytes.now) }
 {
     let mut reader = Reader::new(bytes);
-    match entry(alloc, &mut reader) {
+    match entry(alloc, layout, &mut reader) {
         Ok(entry) => {
             if reader.is_empty() {
                 return Ok(Some(entry));
@@ -110,34 +129,39 @@ fn read_whole(alloc: Global, bytes: &[u8]) -> Result<Option<Entry>, NoMemory>
 }
 
 #[tactic(auto, unfolding(crate::specs::Entries::entry_at))]
-fn entry(alloc: Global, reader: &mut Reader<'_>) -> Result<Entry, CodecError>
-    ensures { Makes (λ entry. (entry, reader.new)) result (entry_at reader.old) }
+fn entry(alloc: Global, layout: Layout, reader: &mut Reader<'_>) -> Result<Entry, CodecError>
+    ensures { Makes (λ entry. (entry, reader.new)) result (entry_at layout reader.old) }
 {
     let tag = reader.byte()?;
-    tagged(alloc, tag, reader)
+    tagged(alloc, layout, tag, reader)
 }
 
 #[tactic(auto, unfolding(crate::specs::Entries::entry_fields_at))]
-fn tagged(alloc: Global, tag: u8, reader: &mut Reader<'_>) -> Result<Entry, CodecError>
-    ensures { Makes (λ entry. (entry, reader.new)) result (entry_fields_at tag reader.old) }
+fn tagged(
+    alloc: Global,
+    layout: Layout,
+    tag: u8,
+    reader: &mut Reader<'_>,
+) -> Result<Entry, CodecError>
+    ensures { Makes (λ entry. (entry, reader.new)) result (entry_fields_at layout tag reader.old) }
 {
     match tag {
-        1 => accepted(alloc, reader),
+        1 => accepted(alloc, layout, reader),
         2 => settled(reader),
-        3 => applied(alloc, reader),
-        4 => request_out(alloc, reader),
+        3 => applied(alloc, layout, reader),
+        4 => request_out(alloc, layout, reader),
         5 => request_done(reader),
         _ => Err(Failure::Refused(CodecFault::BadTag)),
     }
 }
 
 #[tactic(auto, unfolding(crate::specs::Entries::accepted_at))]
-fn accepted(alloc: Global, reader: &mut Reader<'_>) -> Result<Entry, CodecError>
-    ensures { Makes (λ entry. (entry, reader.new)) result (accepted_at reader.old) }
+fn accepted(alloc: Global, layout: Layout, reader: &mut Reader<'_>) -> Result<Entry, CodecError>
+    ensures { Makes (λ entry. (entry, reader.new)) result (accepted_at layout reader.old) }
 {
     let origin = reader.u16()?;
     let request = reader.u32()?;
-    let change = reader.change(alloc)?;
+    let change = change(alloc, layout, reader)?;
     Ok(Entry::Accepted {
         origin,
         request,
@@ -160,20 +184,20 @@ fn settled(reader: &mut Reader<'_>) -> Result<Entry, CodecError>
 }
 
 #[tactic(auto, unfolding(crate::specs::Entries::applied_at))]
-fn applied(alloc: Global, reader: &mut Reader<'_>) -> Result<Entry, CodecError>
-    ensures { Makes (λ entry. (entry, reader.new)) result (applied_at reader.old) }
+fn applied(alloc: Global, layout: Layout, reader: &mut Reader<'_>) -> Result<Entry, CodecError>
+    ensures { Makes (λ entry. (entry, reader.new)) result (applied_at layout reader.old) }
 {
     let number = reader.u32()?;
-    let change = reader.change(alloc)?;
+    let change = change(alloc, layout, reader)?;
     Ok(Entry::Applied { number, change })
 }
 
 #[tactic(auto, unfolding(crate::specs::Entries::request_out_at))]
-fn request_out(alloc: Global, reader: &mut Reader<'_>) -> Result<Entry, CodecError>
-    ensures { Makes (λ entry. (entry, reader.new)) result (request_out_at reader.old) }
+fn request_out(alloc: Global, layout: Layout, reader: &mut Reader<'_>) -> Result<Entry, CodecError>
+    ensures { Makes (λ entry. (entry, reader.new)) result (request_out_at layout reader.old) }
 {
     let request = reader.u32()?;
-    let change = reader.change(alloc)?;
+    let change = change(alloc, layout, reader)?;
     Ok(Entry::ReqOut { request, change })
 }
 

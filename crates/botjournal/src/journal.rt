@@ -7,8 +7,10 @@ ghost use Rattle.bytejournal.specs.Journal.{Rebases as RebasesText};
 ghost use Rattle.botjournal.specs.Bases.{IsGoodBase};
 ghost use Rattle.botjournal.specs.Entries.{IsGoodEntry};
 ghost use Rattle.botjournal.specs.Contents.{added, rebased};
+ghost use Rattle.botjournal.specs.declared.TheConstants.{LAYOUT};
 ghost use Rattle.botjournal.specs.Journal.{IsSound, IsEither, Appends, Rebases, contents_of};
 
+use crate::LAYOUT;
 use crate::base::Base;
 use crate::bases::write_base;
 use crate::entries::write_entry;
@@ -39,13 +41,14 @@ impl<D: Disk> Model for Journal<D> {
 }
 
 impl<D: Disk> Journal<D> {
-    /// Appends an entry. At `Ok` it is acknowledged: from then on each crash leaves it.
+    /// Appends an entry to a journal of the layout `LAYOUT`. At `Ok` it is acknowledged: from then on each crash leaves it.
     ///
     /// # Errors
     /// `Spent` where a disk failed before. `NoMemory` where room is refused: nothing was written. `DiskFault` where a
     /// disk failed in this call: the entry counts or doesn't, and the journal is spent.
     pub fn append(&mut self, alloc: Global, entry: &Entry) -> Result<(), JournalError>
         requires sound { IsSound D.state self.old }
+        requires current { self.old.layout ≡ LAYOUT }
         requires good { IsGoodEntry entry.now }
         ensures sound { IsSound D.state self.new }
         ensures row { Appends D.state self.old entry.now result self.new }
@@ -78,7 +81,8 @@ impl<D: Disk> Journal<D> {
         }
     }
 
-    /// Puts a base in the place of the base and its entries, in the next generation. At `Ok` it is acknowledged.
+    /// Puts a base in the place of the base and its entries, in the layout `LAYOUT` and the next generation. At `Ok` it is
+    /// acknowledged.
     ///
     /// # Errors
     /// `Spent` where a disk failed before. `GenerationsSpent` where the generations are used up. `NoMemory` where room
@@ -107,12 +111,12 @@ impl<D: Disk> Journal<D> {
         requires left { self.old.generation ≢ 2 ^ 32 - 1 }
         requires small { length text.now < 2 ^ 32 }
         ensures sound { AreTextsSound D.state self.new }
-        ensures row { RebasesText D.state self.old text.now result self.new }
+        ensures row { RebasesText D.state self.old LAYOUT text.now result self.new }
         ensures any_moment { self.old.spent ≡ false → AnyMoment D.state self.old self.new
             (IsEitherText (HoldsOne D.state self.old) (texts_of D.state self.old)
-            (option_map (rebased_text text.now) (texts_of D.state self.old))) }
+            (option_map (rebased_text LAYOUT text.now) (texts_of D.state self.old))) }
     {
-        match self.texts.rebase(alloc, text) {
+        match self.texts.rebase(alloc, LAYOUT, text) {
             Ok(()) => Ok(()),
             Err(Failure::NoMemory) => Err(Failure::NoMemory),
             Err(Failure::Refused(fault)) => {
@@ -136,5 +140,13 @@ impl<D: Disk> Journal<D> {
         ensures { result ≡ self.now.generation }
     {
         self.texts.generation()
+    }
+
+    /// The active disk's layout: `LAYOUT` in a new journal, and from the first base on that is put in place. After a fault
+    /// nothing is said of the answer.
+    pub fn layout(&self) -> u8
+        ensures { result ≡ self.now.layout }
+    {
+        self.texts.layout()
     }
 }

@@ -3,6 +3,7 @@ ghost use Rattle.std.specs.Prelude.{◌≡◌, ◌↔◌, ◌-◌, ◌^◌, IsTr
 ghost use Rattle.storage.specs.State.{IsSettled};
 ghost use Rattle.botjournal.specs.Bases.{IsGoodBase};
 ghost use Rattle.botjournal.specs.Entries.{IsGoodEntry};
+ghost use Rattle.botjournal.specs.declared.TheConstants.{LAYOUT};
 ghost use Rattle.botjournal.specs.Ledger.{Adding, Rebasing, Creates, Opens, Appends, Rebases, Restarts, Reopens, AreStill, AtEachMoment, LeavesEither, Leaves, IsGoodFound, settled, counted, device_on};
 ghost use Rattle.bytejournal.specs.Journal.{first_disk, second_disk};
 ghost use Rattle.botjournal.specs.Journal.{IsEither, IsAtRest, IsGoodOpened, contents_of};
@@ -59,7 +60,7 @@ impl<D: Disk> Model for Ledger<D> {
 }
 
 impl<D: Disk> Ledger<D> {
-    /// Makes a ledger with this base and no entry, in generation 1. What the disks held is lost.
+    /// Makes a ledger with this base and no entry, in generation 1 and the layout `LAYOUT`. What the disks held is lost.
     ///
     /// # Errors
     /// With the disks: `NoMemory` where room is refused: nothing was written. `DiskFault` where a disk failed: what the
@@ -76,7 +77,8 @@ impl<D: Disk> Ledger<D> {
         }
     }
 
-    /// Opens the ledger on two disks. Nothing is written.
+    /// Opens the ledger on two disks, each read by its own layout. Nothing is written: what was found in an older layout
+    /// stays so until `rebase`.
     ///
     /// # Errors
     /// With the disks as they were: `DiskFault` where a read failed; `NotAJournal` where the disks don't hold a journal,
@@ -123,13 +125,14 @@ impl<D: Disk> Ledger<D> {
         }
     }
 
-    /// Appends an entry. At `Ok` it is kept: from then on each crash leaves it.
+    /// Appends an entry to a ledger of the layout `LAYOUT`. At `Ok` it is kept: from then on each crash leaves it.
     ///
     /// # Errors
     /// `NoMemory` where room is refused: nothing was written. `DiskFault` where a disk failed in this call: the ledger is
     /// down, and the entry in doubt until a restart tells.
     pub fn append(&mut self, alloc: Global, entry: &Entry) -> Result<(), LedgerError>
         requires up { self.old.account.down ≡ false }
+        requires current { self.old.account.contents.layout ≡ LAYOUT }
         requires good { IsGoodEntry entry.now }
         ensures row { Appends self.old entry.now result self.new }
         // Whatever a crash at any moment of the call leaves means what was kept, or that with the entry.
@@ -152,7 +155,8 @@ impl<D: Disk> Ledger<D> {
         }
     }
 
-    /// Puts a base in the place of the base and its entries, in the next generation. At `Ok` it is kept.
+    /// Puts a base in the place of the base and its entries, in the layout `LAYOUT` and the next generation. At `Ok` it is
+    /// kept.
     ///
     /// # Errors
     /// `GenerationsSpent` where the generations are used up: nothing was written. `NoMemory` where room is refused:
@@ -207,6 +211,17 @@ impl<D: Disk> Ledger<D> {
         }
     }
 
+    /// The journal's layout: `LAYOUT`, or an older one that was found and not yet rewritten by `rebase`. Where the ledger
+    /// is down nothing is said of the answer.
+    pub fn layout(&self) -> u8
+        ensures { self.now.account.down ≡ false → result ≡ self.now.account.contents.layout }
+    {
+        match &self.store {
+            Store::Open(journal) => journal.layout(),
+            Store::Shut(_) | Store::InHand => 0,
+        }
+    }
+
     /// Crashes both disks, as where the program that used them ended, and opens what that left. A ledger that is down is
     /// up again at `Ok`, and nothing is in doubt any more.
     ///
@@ -247,6 +262,8 @@ impl<D: Disk> Ledger<D> {
     pub fn into_disks(self) -> Disks<D>
         // A crash leaves on them what is kept, or that with what is in doubt.
         ensures left { Leaves (D.state result.first) (D.state result.second) self.account }
+        // They are the ledger's, with all that happened to them.
+        ensures device { device_on (D.state result.first) (D.state result.second) ≡ self.device }
     {
         let Ledger {
             store,

@@ -13,8 +13,11 @@
 //! if opened.whole { /* opened.base, opened.entries, and opened.journal to go on with */ }
 //! ```
 //!
-//! `NotAJournal` comes from disks that hold no journal of texts, and where a base or an entry after an open gate is the
-//! spelling of none, on the disk that counts or on the other one. It never comes from disks that `create` made and only
+//! Each disk says in which layout its texts are spelled. [`LAYOUT`] is written; the layout before it is read too, and its
+//! journal takes no entry until another base is put in place, which is written in the new layout.
+//!
+//! `NotAJournal` comes from disks that hold no journal of texts, and where a disk whose gate is open has a layout that
+//! isn't read, or a base or an entry that is the spelling of none, on the disk that counts or on the other one. It never comes from disks that `create` made and only
 //! this journal wrote, whatever crashes came: [`laws_of_journals`] says so of any number of calls. After a disk's fault
 //! the journal is spent: what was being written counts or doesn't, and opening it again tells.
 //!
@@ -37,6 +40,7 @@ mod entry;
 mod found;
 mod journal;
 mod laws;
+mod layouts;
 mod ledger;
 mod lists;
 mod opening;
@@ -53,3 +57,7 @@ pub use crate::laws::{laws_of_bases, laws_of_entries, laws_of_journals};
 pub use crate::ledger::Ledger;
 pub use crate::opening::Opened;
 pub use crate::reply::{Answer, Reply};
+
+/// The layout in which a journal is written: the byte after the letters on its disks. Layout 1, whose users have no info
+/// texts and whose bans aren't sticky, is read too; nothing is appended to a journal that has it.
+pub const LAYOUT: u8 = 2;

@@ -8,6 +8,7 @@ ghost use Rattle.usercodec.specs.Records.{record_bytes, HasShape, items_at};
 ghost use Rattle.botjournal.specs.Bases.{listed, answer_bytes, reply_bytes, are_rising, rises_from};
 ghost use Rattle.botjournal.specs.Bases.{answer_at, answer_from, reply_at, records_at, replies_at, replies_listed_at};
 
+use crate::layouts::{Layout, so_many_records};
 use crate::reply::{Answer, Reply};
 use bytetext::{Failure, NoMemory, Seq};
 use std::alloc::Global;
@@ -63,11 +64,15 @@ fn put_answer(out: &mut Vec<u8>, answer: Answer) -> Result<(), NoMemory>
 // ---- read
 
 #[tactic(auto, unfolding(crate::specs::Bases::records_at))]
-pub(crate) fn records(alloc: Global, reader: &mut Reader<'_>) -> Result<Seq<Record>, CodecError>
-    ensures { Finds (λ records. (records, reader.new)) result (records_at reader.old) }
+pub(crate) fn records(
+    alloc: Global,
+    layout: Layout,
+    reader: &mut Reader<'_>,
+) -> Result<Seq<Record>, CodecError>
+    ensures { Finds (λ records. (records, reader.new)) result (records_at layout reader.old) }
 {
     let count = reader.u16()?;
-    let records = reader.records(alloc, count as usize)?;
+    let records = so_many_records(alloc, layout, reader, count as usize)?;
     Ok(Seq::new(records))
 }
 

@@ -9,11 +9,13 @@ ghost use Rattle.botjournal.specs.Entries.{IsGoodEntry};
 ghost use Rattle.botjournal.specs.Contents.{Contents, meaning, entries_in};
 ghost use Rattle.botjournal.specs.Journal.{Creates, Opens, Restarts, IsNotRefused, IsGoodOpened, ReadsTexts, is_spelled};
 
+use crate::LAYOUT;
 use crate::base::Base;
-use crate::bases::{read_base, write_base};
-use crate::entries::read_entry;
+use crate::bases::{read_base_by, write_base};
+use crate::entries::read_entry_by;
 use crate::entry::Entry;
 use crate::journal::Journal;
+use crate::layouts::{Layout, layout_of};
 use bytejournal::{Disks, JournalFault, Older, Returned};
 use bytetext::{Failure, NoMemory, Seq, Text};
 use std::alloc::Global;
@@ -34,7 +36,7 @@ pub struct Opened<D: Disk> {
 }
 
 impl<D: Disk> Journal<D> {
-    /// Makes a journal with this base and no entry, in generation 1. What the disks held is lost.
+    /// Makes a journal with this base and no entry, in generation 1 and the layout `LAYOUT`. What the disks held is lost.
     ///
     /// # Errors
     /// With the disks: `NoMemory` where room is refused: nothing was written. `DiskFault` where a disk failed: what the
@@ -59,7 +61,7 @@ impl<D: Disk> Journal<D> {
                 });
             }
         };
-        match bytejournal::Journal::create(alloc, first, second, &text) {
+        match bytejournal::Journal::create(alloc, first, second, LAYOUT, &text) {
             Ok(texts) => Ok(Journal {
                 texts,
                 spent: false,
@@ -68,12 +70,12 @@ impl<D: Disk> Journal<D> {
         }
     }
 
-    /// Opens the journal on two disks. Nothing is written.
+    /// Opens the journal on two disks, each read by its own layout. Nothing is written.
     ///
     /// # Errors
     /// With the disks as they were: `DiskFault` where a read failed; `NotAJournal` where the disks don't hold a
-    /// journal, or a base or an entry after an open gate is none, on whichever disk; `NoMemory` where room for what they
-    /// hold is refused.
+    /// journal, or what follows an open gate, on whichever disk, has a layout that isn't read, or a base or an entry that
+    /// is none; `NoMemory` where room for what they hold is refused.
     pub fn open(alloc: Global, first: D, second: D) -> Result<Opened<D>, Returned<D>>
         requires first_settled { IsSettled (D.state first) }
         requires second_settled { IsSettled (D.state second) }
@@ -127,12 +129,15 @@ fn read_texts<D: Disk>(
         Ok(false) => return Err(not_a_journal(texts.journal)),
         Err(NoMemory) => return Err(no_memory(texts.journal)),
     }
-    let base = match read_base(alloc, texts.base.as_bytes()) {
+    let Some(layout) = layout_of(texts.journal.layout()) else {
+        return Err(not_a_journal(texts.journal));
+    };
+    let base = match read_base_by(alloc, layout, texts.base.as_bytes()) {
         Ok(Some(base)) => base,
         Ok(None) => return Err(not_a_journal(texts.journal)),
         Err(NoMemory) => return Err(no_memory(texts.journal)),
     };
-    let entries = match read_entries(alloc, texts.entries.as_slice()) {
+    let entries = match read_entries(alloc, layout, texts.entries.as_slice()) {
         Ok(Some(entries)) => entries,
         Ok(None) => return Err(not_a_journal(texts.journal)),
         Err(NoMemory) => return Err(no_memory(texts.journal)),
@@ -155,22 +160,29 @@ fn is_spelled(alloc: Global, older: &Option<Older>) -> Result<bool, NoMemory>
     let Some(older) = older else {
         return Ok(true);
     };
-    match read_base(alloc, older.base.as_bytes())? {
+    let Some(layout) = layout_of(older.layout) else {
+        return Ok(false);
+    };
+    match read_base_by(alloc, layout, older.base.as_bytes())? {
         Some(_) => {}
         None => return Ok(false),
     }
-    let entries = read_entries(alloc, older.entries.as_slice())?;
+    let entries = read_entries(alloc, layout, older.entries.as_slice())?;
     Ok(entries.is_some())
 }
 
-// The entries whose spellings these texts are.
-fn read_entries(alloc: Global, texts: &[Text]) -> Result<Option<Seq<Entry>>, NoMemory>
-    ensures exact { IfOk result (λ read. read ≡ entries_in texts.now) }
+// The entries whose spellings in a layout these texts are.
+fn read_entries(
+    alloc: Global,
+    layout: Layout,
+    texts: &[Text],
+) -> Result<Option<Seq<Entry>>, NoMemory>
+    ensures exact { IfOk result (λ read. read ≡ entries_in layout texts.now) }
     ensures good { IfOk result (λ read. IfSome read (λ entries. AllByRecursion IsGoodEntry entries)) }
 {
     let mut entries = Vec::new(alloc);
     for text in texts {
-        match read_entry(alloc, text.as_bytes())? {
+        match read_entry_by(alloc, layout, text.as_bytes())? {
             Some(entry) => entries.push(entry)?,
             None => return Ok(None),
         }

@@ -12,7 +12,7 @@ use Rattle.protocol.specs.Bots.{How, Works, Fails, Counts, Row}
 use Rattle.protocol.specs.HubRules.{HubState}
 use Rattle.protocol.specs.LeafRules.{LeafState, no_loose}
 use Rattle.protocol.specs.Journals.{hub_meaning, leaf_meaning}
-use Rattle.protocol.specs.Network.{Event, Ask, Tell, Restart}
+use Rattle.protocol.specs.Network.{Event, Ask, Tell, Compact, Restart}
 use Rattle.linknet.specs.Ends.{End, AtHub, AtLeaf, new_end, with_oldest, end_did, end_received}
 use Rattle.linkcalls.specs.declared.answer.Answer.{Answer}
 use Rattle.linkcalls.specs.declared.answer.Outgoing.{Outgoing}
@@ -61,6 +61,14 @@ leaf_at_rest kept = AtLeaf (record { kept = kept; loose = no_loose; down = false
 abbrev pub end_meaning : ℕ → ℕ → Contents → Option End
 end_meaning zero leaves contents = option_map hub_at_rest (hub_meaning leaves contents)
 end_meaning (suc place) leaves contents = option_map leaf_at_rest (leaf_meaning (suc place) contents)
+
+-- the end after a compaction: its state alone is in the journal
+abbrev pub compacted : ℕ → ℕ → End → End
+compacted number leaves end = (end_did leaves number Works end Compact).after
+
+-- what becomes of an end whose journal has an older layout, which is put anew as a compaction does it
+abbrev pub RenewsEnd : ℕ → ℕ → End → End → Type 0
+RenewsEnd number leaves before end = end ≡ compacted number leaves before
 
 -- ---- what is left behind
 

@@ -1,18 +1,32 @@
 -- How a bot's end of the link is made, found and handed back.
-use Rattle.std.specs.Prelude.{◌≡◌, ◌⊎◌, ℕ, List, None, Some, Result, Ok, Err}
+use Rattle.std.specs.Prelude.{◌≡◌, ℕ, List, Option, Result, Ok, Err}
 use Rattle.bytetext.specs.declared.failure.Failure.{Failure}
-use Rattle.bytetext.specs.declared.failure.Failure.TheVariants.{Refused, NoMemory}
-use Rattle.storage.specs.State.{State, Rose, may_leave}
+use Rattle.storage.specs.State.{State}
 use Rattle.bytejournal.specs.declared.fault.JournalFault.{JournalFault}
-use Rattle.bytejournal.specs.declared.fault.JournalFault.TheVariants.{DiskFault, NotAJournal, Spent, GenerationsSpent}
 use Rattle.bytejournal.specs.declared.opening.Returned.{Returned}
 use Rattle.bytejournal.specs.Opening.{CannotCreate}
-use Rattle.botjournal.specs.Contents.{Contents, meaning}
-use Rattle.botjournal.specs.Recovery.{IsJournal}
+use Rattle.botjournal.specs.Contents.{Contents}
+use Rattle.botjournal.specs.Ledger.{device_on}
 use Rattle.linknet.specs.Ends.{End}
-use Rattle.botlink.specs.Links.{BotEnd, new_bot_end, end_meaning}
+use Rattle.linkstate.specs.Opening.{AreKept, IsLeftOf, AreCurrent as HaveLayout, IsFound as Finds, FindsNone as FindsNoEnd, MeanTheSame as StaySo, LeavesFound}
+use Rattle.botlink.specs.Links.{BotEnd, new_bot_end, end_meaning, RenewsEnd}
+
+-- ---- what contents mean to a bot that is opened on them
+
+module _ (number leaves : ℕ) where
+  -- The contents of two disks mean an end, and this one is kept: the same, or where they have an older layout that after a compaction.
+  abbrev pub IsKeptOf : Option Contents → End → Type 0
+  IsKeptOf found end = AreKept (end_meaning number leaves) (RenewsEnd number leaves) found end
+
+  -- these bytes mean what an opening leaves, at whichever moment it ends: what there was, or that put anew
+  abbrev pub IsLeft : Option Contents → List ℕ → List ℕ → Type 0
+  IsLeft = IsLeftOf (end_meaning number leaves) (RenewsEnd number leaves)
 
 -- ---- making and finding an end
+
+-- the disks have the present layout, where they hold a journal
+abbrev pub AreCurrent : {D : Type 0} → (D → State) → D → D → Type 0
+AreCurrent state first second = HaveLayout state first second
 
 module _ {D : Type 0} (state : D → State) (number leaves : ℕ) (first second : D) where
   -- Making an end, by cases on the answer.
@@ -21,31 +35,18 @@ module _ {D : Type 0} (state : D → State) (number leaves : ℕ) (first second 
   Makes (Err returned) =
       CannotCreate (state first) (state second) returned.error (state returned.disks.first) (state returned.disks.second)
 
-  -- the disks hold a journal that means this to the bot
-  pub record IsFound (end : End) : Type 0 where
-    pub contents : Contents
-    pub found : meaning (state first).seen (state second).seen ≡ Some contents
-    pub means : end_meaning number leaves contents ≡ Some end
-
-  -- the disks hold a journal that isn't this bot's
-  pub record IsAnothers : Type 0 where
-    pub contents : Contents
-    pub found : meaning (state first).seen (state second).seen ≡ Some contents
-    pub means : end_meaning number leaves contents ≡ None
+  -- the disks hold a journal that means an end to the bot, and this one is kept
+  abbrev pub IsFound : End → Type 0
+  IsFound end = Finds state first second (end_meaning number leaves) (RenewsEnd number leaves) end
 
   -- why no end was found
   abbrev pub FindsNone : Failure JournalFault → D → D → Type 0
-  FindsNone (Refused DiskFault) first' second' =
-      Rose (state first).failed (state first').failed ⊎ Rose (state second).failed (state second').failed
-  FindsNone (Refused NotAJournal) first' second' = (IsJournal (state first).seen (state second).seen → ⊥) ⊎ IsAnothers
-  FindsNone (Refused Spent) first' second' = ⊥
-  FindsNone (Refused GenerationsSpent) first' second' = ⊥
-  FindsNone NoMemory first' second' = Unit {0}
+  FindsNone error first' second' =
+      FindsNoEnd state first second (end_meaning number leaves) (RenewsEnd number leaves) error first' second'
 
-  -- whatever a crash leaves on these disks means what the disks that were given mean
+  -- whatever a crash leaves on these disks is what the disks that were given mean, or that put anew
   abbrev pub MeanTheSame : D → D → Type 0
-  MeanTheSame first' second' = (x y : List ℕ) → may_leave (state first') x → may_leave (state second') y
-      → meaning x y ≡ meaning (state first).seen (state second).seen
+  MeanTheSame first' second' = StaySo state first second (end_meaning number leaves) (RenewsEnd number leaves) first' second'
 
   -- Finding an end, by cases on the answer.
   abbrev pub Opens : Result BotEnd (Returned D) → Type 0
@@ -53,3 +54,11 @@ module _ {D : Type 0} (state : D → State) (number leaves : ℕ) (first second 
       IsFound link.end × (link ≡ record { number = number; leaves = leaves; end = link.end; device = link.device })
   Opens (Err returned) = FindsNone returned.error returned.disks.first returned.disks.second
       × MeanTheSame returned.disks.first returned.disks.second
+
+  -- At each moment of finding one a crash leaves what the disks mean, or that put anew.
+  abbrev pub OpensAtEachMoment : Result BotEnd (Returned D) → Type 0
+  OpensAtEachMoment (Ok link) =
+      LeavesFound state first second (end_meaning number leaves) (RenewsEnd number leaves) link.device
+  OpensAtEachMoment (Err returned) =
+      LeavesFound state first second (end_meaning number leaves) (RenewsEnd number leaves)
+      (device_on (state returned.disks.first) (state returned.disks.second))

@@ -43,7 +43,7 @@ impl<D: Disk> BotLink<D> {
     ghost use Rattle.linkcalls.specs.Shapes.{HasGoodRecords, GoOut};
     ghost use Rattle.botlink.specs.Links.{Calls, CallsRestart, Asks, Tells, did, took, keeps_asks};
     ghost use Rattle.botjournal.specs.Ledger.{AreStill};
-    ghost use Rattle.botlink.specs.Opening.{Makes, Opens};
+    ghost use Rattle.botlink.specs.Opening.{Makes, Opens, OpensAtEachMoment, AreCurrent};
     ghost use Rattle.botlink.specs.Links.{MayLeave};
 
     /// The bot of this number, from 0 to the number of leaves, before the first change. What the disks held is lost.
@@ -80,12 +80,15 @@ impl<D: Disk> BotLink<D> {
         }
     }
 
-    /// The bot of this number, as its journal on the two disks has it. Nothing is written.
+    /// The bot of this number, as its journal on the two disks has it. A journal of the present layout stays as it is. One of
+    /// an older layout is put anew before this answers, as `compact` does it: the bot's version and records are those that
+    /// it had.
     ///
     /// # Errors
-    /// With the disks, which hold what they held: `DiskFault` where a read failed; `NotAJournal` where the disks hold no
-    /// journal, or one that no bot of this number writes in such a net; `NoMemory` where room for what they hold, or for
-    /// the asks, is refused.
+    /// With the disks, which mean what they meant, or that put anew: `DiskFault` where a read failed; `NotAJournal` where
+    /// the disks hold no journal, or one that no bot of this number writes in such a net; `NoMemory` where room for what
+    /// they hold, or for the asks, is refused. Then, of an older layout alone, `GenerationsSpent` where there is no next
+    /// generation, `NoMemory`, or `DiskFault` where a disk failed while it was written.
     pub fn open(
         alloc: Global,
         first: D,
@@ -98,8 +101,10 @@ impl<D: Disk> BotLink<D> {
         requires numbered { number ≤ leaves }
         requires few { leaves ≤ MAX_LEAVES }
         ensures row { Opens D.state number leaves first second result }
-        // Nothing happened to the disks.
-        ensures still { IfOk result (λ link. AreStill (D.state first) (D.state second) link.device) }
+        // Nothing happened to disks that have the present layout.
+        ensures still { AreCurrent D.state first second → IfOk result (λ link. AreStill (D.state first) (D.state second) link.device) }
+        // At each moment of the call a crash leaves what the disks meant, or that put anew.
+        ensures any_moment { OpensAtEachMoment D.state number leaves first second result }
     {
         if number == 0 {
             return match HubLink::open(alloc, first, second, leaves) {
@@ -209,7 +214,8 @@ impl<D: Disk> BotLink<D> {
     /// a text of another bot's; what is for none of them is `Stray`.
     ///
     /// # Errors
-    /// `Down`; then `Diverged` where a leaf's records aren't the hub's, which drops its kept parts; then `NumbersSpent`;
+    /// `Down`; then `OtherLayout` at the hub for a hello of another layout; `Diverged` where a leaf's records aren't the
+    /// hub's, which drops its kept parts; then `NumbersSpent`;
     /// then `NoMemory`; the last two leave the bot as it was. `JournalFault` where a disk failed in this call: the bot is
     /// down, sends nothing, and what was being journaled is in doubt.
     pub fn receive(&mut self, alloc: Global, packet: &Packet) -> Result<Answer, LinkError>

@@ -58,6 +58,7 @@ asks_of call = count_by is_ask call.reply.actions
 -- the link refuses a change by this, and not a text
 abbrev pub is_ask_fault : LinkFault → Bool
 is_ask_fault refuses.Down = false
+is_ask_fault refuses.OtherLayout = false
 is_ask_fault refuses.Diverged = false
 is_ask_fault (refuses.BadChange fault) = true
 is_ask_fault refuses.AsksFull = true

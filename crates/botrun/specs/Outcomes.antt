@@ -1,6 +1,8 @@
 -- What came of a change that was asked for, by what a turn tells.
 use Rattle.std.specs.Prelude.{Bool, true, false, List, [], ◌∷◌, Option, Some, None, if◌then◌else◌}
 use Rattle.linkcalls.specs.declared.note.Note.{Note as LinkNote}
+use Rattle.linkcalls.specs.declared.error.LinkFault.{LinkFault}
+use Rattle.linkcalls.specs.declared.error.LinkFault.TheVariants as refuses
 use Rattle.linkcalls.specs.declared.note.Note.TheVariants as says
 use Rattle.botcore.specs.declared.fault.Refusal.{Refusal}
 use Rattle.botcore.specs.declared.fault.Refusal.TheVariants.{Link as by_link, Bind, Clock}
@@ -40,9 +42,21 @@ of_end (Some (Bound n)) = Nothing
 of_end (Some (Unbound n)) = Nothing
 of_end (Some (Bad fault)) = Nothing
 
--- the link refuses it
+-- the link refuses it; a hello of another layout is no change
+abbrev pub of_fault : LinkFault → Outcome
+of_fault refuses.Down = Barred refuses.Down
+of_fault (refuses.BadChange fault) = Barred (refuses.BadChange fault)
+of_fault refuses.AsksFull = Barred refuses.AsksFull
+of_fault refuses.OtherLayout = Nothing
+of_fault refuses.Diverged = Barred refuses.Diverged
+of_fault refuses.NumbersSpent = Barred refuses.NumbersSpent
+of_fault refuses.JournalFault = Barred refuses.JournalFault
+of_fault refuses.BadBotText = Barred refuses.BadBotText
+of_fault refuses.TextsFull = Barred refuses.TextsFull
+of_fault refuses.DiskFault = Barred refuses.DiskFault
+
 abbrev pub of_refusal : Refusal → Outcome
-of_refusal (by_link fault) = Barred fault
+of_refusal (by_link fault) = of_fault fault
 of_refusal (Bind fault) = Nothing
 of_refusal (Clock fault) = Nothing
 

@@ -12,10 +12,10 @@ use crate::operators::Operators;
 use crate::others::Others;
 use crate::outcome::{Outcome, told_by};
 use crate::uplink::Uplink;
-use botcore::{Note, Report};
+use botcore::{End, Note, Refusal, Report};
 use botlinks::Links;
 use bytetext::NoMemory;
-use linkcalls::Outgoings;
+use linkcalls::{LinkFault, Outgoings};
 use std::alloc::Global;
 
 impl Others {
@@ -77,6 +77,7 @@ impl Others {
             self.links.ask();
         }
         note_all(&mut self.links, &mut self.asks, &report.note)?;
+        log_layout(rt, report.end, now);
         if !settles {
             return Ok(());
         }
@@ -125,6 +126,14 @@ impl Others {
             }
             Asker::Person(nick) => uplink.notice(alloc, nick.as_bytes(), outcome),
         }
+    }
+}
+
+// The log tells of a leaf whose hello is refused since its journal has another layout.
+fn log_layout<R: Print>(rt: &R, end: End, now: u64) {
+    match end {
+        End::Refused(Refusal::Link(LinkFault::OtherLayout)) => log(rt, now, &Entry::OtherLayout),
+        End::Refused(_) | End::Done | End::NoMemory => {}
     }
 }
 

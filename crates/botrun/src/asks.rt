@@ -237,6 +237,7 @@ fn is_ask_fault(fault: LinkFault) -> bool
     match fault {
         LinkFault::AsksFull | LinkFault::BadChange(_) => true,
         LinkFault::Down
+        | LinkFault::OtherLayout
         | LinkFault::Diverged
         | LinkFault::NumbersSpent
         | LinkFault::JournalFault

@@ -53,6 +53,8 @@ pub(crate) enum Entry<'a> {
     Asked(&'a [u8]),
     // An operator that was silent is let go, since another waits.
     GaveWay,
+    // A leaf whose journal has another layout says hello.
+    OtherLayout,
     // The journal was written anew.
     Compacted,
     // The bot ends.
@@ -116,6 +118,10 @@ impl Display for Entry<'_> {
             Entry::LeftOut(word, proc) => write!(f, "left out: {word} {}", Shown(proc)),
             Entry::Asked(line) => write!(f, "operator: {}", Shown(line)),
             Entry::GaveWay => write!(f, "operator gone: it was silent, and another waited"),
+            Entry::OtherLayout => write!(
+                f,
+                "a leaf has another layout: run one version of the program on all bots"
+            ),
             Entry::Compacted => write!(f, "journal written anew"),
             Entry::Ended => write!(f, "ended"),
         }

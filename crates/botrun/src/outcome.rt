@@ -1,6 +1,6 @@
 // What came of a change.
 ghost use Rattle.std.specs.Prelude.{◌≡◌};
-ghost use Rattle.botrun.specs.Outcomes.{is_told, of_end, of_note, of_refusal, outcome_of, told_by};
+ghost use Rattle.botrun.specs.Outcomes.{is_told, of_end, of_fault, of_note, of_refusal, outcome_of, told_by};
 
 use botcore::{End, Note, Refusal, Report};
 use linkcalls::LinkFault;
@@ -60,8 +60,26 @@ fn of_refusal(refusal: Refusal) -> Outcome
     ensures { result ≡ of_refusal refusal }
 {
     match refusal {
-        Refusal::Link(fault) => Outcome::Barred(fault),
+        Refusal::Link(fault) => of_fault(fault),
         Refusal::Bind(_) | Refusal::Clock(_) => Outcome::Nothing,
+    }
+}
+
+// What a refusal by the link tells of a change: nothing where a hello of another layout came.
+fn of_fault(fault: LinkFault) -> Outcome
+    ensures { result ≡ of_fault fault }
+{
+    match fault {
+        LinkFault::OtherLayout => Outcome::Nothing,
+        LinkFault::Down
+        | LinkFault::BadChange(_)
+        | LinkFault::AsksFull
+        | LinkFault::Diverged
+        | LinkFault::NumbersSpent
+        | LinkFault::JournalFault
+        | LinkFault::BadBotText
+        | LinkFault::TextsFull
+        | LinkFault::DiskFault => Outcome::Barred(fault),
     }
 }
 

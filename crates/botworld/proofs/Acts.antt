@@ -38,7 +38,9 @@ use Rattle.linknet.specs.Nets.{IsMoment, RowFollows}
 use Rattle.botlink.specs.Links.{BotEnd, asked, told}
 use Rattle.botcore.specs.Acting.{Acting, acted, acted_all, asked_if, timer_of, made_unless, killed_if, sent_if, put_unless}
 use Rattle.botcore.specs.Links.{packet_told, outgoing_told, text_sent}
-use Rattle.botworld.proofs.BotEnds.{IsQuiet, refused_is_quiet, queued_is_quiet, relayed_is_quiet, IsAmong, did_row, set-same, set-set, get-set, posted-append, outgoings_of-append}
+use Rattle.botworld.proofs.BotEnds.{IsQuiet, refused_is_quiet, queued_is_quiet, relayed_is_quiet, IsAmong, did_row, set-same, set-set, posted-append}
+use Rattle.botworld.proofs.Lists.{slice_get-set-same}
+use Rattle.linkcalls.proofs.OutgoingLemmas.{outgoings-append}
 
 -- ---- rows that accept nothing
 
@@ -108,7 +110,7 @@ text_row leaves number (AtLeaf leaf) to text = leaf_text_row leaf _ (text_row_to
 
 -- what a text is told as is what its rule sends
 packet_is : (p : Packet) → from_wire (packet_told p) ≡ p
-packet_is (Hello leaf version) = refl
+packet_is (Hello layout leaf version) = refl
 packet_is (Change number origin request change) = refl
 packet_is (Request leaf request change) = refl
 packet_is (Accepted leaf request number) = refl
@@ -161,7 +163,7 @@ module _ (h : History) (all : List LinkEnd) (sent : List Sent) (place : ℕ) (ol
       → IsAmong goes.after (slice_set all place acting.link.end) (sent ++ posted place (outgoings_of acting.sent)) place acting.link
   amid acting goes = record {
     sound = goes.sound;
-    at = get-set all place old.end acting.link.end among.at;
+    at = slice_get-set-same all place old.end acting.link.end among.at;
     number = goes.number ∙ among.number;
     leaves = goes.leaves ∙ among.leaves ∙ sym goes.count;
   }
@@ -189,7 +191,7 @@ module _ (h : History) (all : List LinkEnd) (sent : List Sent) (place : ℕ) (ol
       → ActsGo h all sent place old new
   one_goes acting new goes row packets next quiet answers these link sends =
       let out : outgoings_of new.sent ≡ outgoings_of acting.sent ++ row.sends =
-      ap outgoings_of sends ∙ outgoings_of-append acting.sent packets ∙ ap (λ (os : List LinkOutgoing). outgoings_of acting.sent ++ os) these in
+      ap outgoings_of sends ∙ outgoings-append acting.sent packets ∙ ap (λ (os : List LinkOutgoing). outgoings_of acting.sent ++ os) these in
       let all_out : (sent ++ posted place (outgoings_of acting.sent)) ++ posted place row.sends ≡ sent ++ posted place (outgoings_of new.sent) =
       append_assoc sent (posted place (outgoings_of acting.sent)) (posted place row.sends)
       ∙ ap (λ (ps : List Sent). sent ++ ps) (sym (posted-append place (outgoings_of acting.sent) row.sends))

@@ -8,7 +8,7 @@ use Rattle.userfile.specs.declared.change.Change.{Change as UserChange}
 use Rattle.protocol.specs.Packets.{Outgoing as LinkOutgoing, Sent, AcceptedChange}
 use Rattle.protocol.specs.Notes.{Note as Meaning, LinkFault as Meant}
 use Rattle.protocol.specs.Notes.Note.{Queued, Relayed, Accepted as AcceptedAs, Restarted as RestartedAt}
-use Rattle.protocol.specs.Notes.LinkFault.{Diverged as Apart}
+use Rattle.protocol.specs.Notes.LinkFault.{OtherLayout as Another, Diverged as Apart}
 use Rattle.protocol.specs.Bots.{How, Works, Fails, Counts, Row}
 use Rattle.protocol.specs.History.{History, Grows}
 use Rattle.protocol.specs.Truth.{IsKeptAnswer, AllOutgoing}
@@ -20,7 +20,7 @@ use Rattle.linkcalls.specs.declared.answer.Outgoing.{Outgoing}
 use Rattle.linkcalls.specs.declared.note.Note.{Note as LinkNote}
 use Rattle.linkcalls.specs.declared.note.Note.TheVariants.{Gap}
 use Rattle.linkcalls.specs.declared.error.LinkFault.{LinkFault}
-use Rattle.linkcalls.specs.declared.error.LinkFault.TheVariants.{Down, BadChange, AsksFull, Diverged, NumbersSpent, JournalFault, BadBotText, TextsFull, DiskFault}
+use Rattle.linkcalls.specs.declared.error.LinkFault.TheVariants.{Down, BadChange, AsksFull, OtherLayout, Diverged, NumbersSpent, JournalFault, BadBotText, TextsFull, DiskFault}
 use Rattle.linkcalls.specs.Calls.{note_of, outgoing_of, outgoings_of, IsFault}
 use Rattle.linkcalls.specs.Meets.{how_of, Answers, Refuses}
 use Rattle.linknet.specs.Ends.{End as LinkEnd, AtHub, AtLeaf, end_did}
@@ -48,19 +48,10 @@ set-set [] i x y = refl
 set-set (z ∷ xs) zero x y = refl
 set-set (z ∷ xs) (suc i) x y = ap (λ ys. z ∷ ys) (set-set xs i x y)
 
-pub get-set : {X : Type 0} (xs : List X) (i : ℕ) (x y : X) → slice_get xs i ≡ Some x → slice_get (slice_set xs i y) i ≡ Some y
-get-set [] i x y e = cc
-get-set (z ∷ xs) zero x y e = refl
-get-set (z ∷ xs) (suc i) x y e = get-set xs i x y e
-
 pub posted-append : (from : ℕ) (xs ys : List LinkOutgoing) → posted from (xs ++ ys) ≡ posted from xs ++ posted from ys
 posted-append from [] ys = refl
 posted-append from (x ∷ xs) ys =
     ap (λ (ps : List Sent). record { from = from; to = x.to; packet = x.packet } ∷ ps) (posted-append from xs ys)
-
-pub outgoings_of-append : (xs ys : List Outgoing) → outgoings_of (xs ++ ys) ≡ outgoings_of xs ++ outgoings_of ys
-outgoings_of-append [] ys = refl
-outgoings_of-append (x ∷ xs) ys = ap (λ os. outgoing_of x ∷ os) (outgoings_of-append xs ys)
 
 -- ---- what is told where nothing is accepted
 
@@ -132,6 +123,7 @@ module _ (h : History) (all : List LinkEnd) (sent : List Sent) (place : ℕ) (ol
 
   fine_note : (note : LinkNote) → IsFineTold (Ok (note_of note)) → IsFineReport Done (Some (link_note note))
   fine_note note fine = record {
+    same_layout = λ e. cc;
     undiverged = λ e. cc;
     no_gap = λ e. let same : note ≡ Gap = cc in subst (λ (n : LinkNote). IsFineTold (Ok (note_of n))) same fine;
   }
@@ -140,21 +132,27 @@ module _ (h : History) (all : List LinkEnd) (sent : List Sent) (place : ℕ) (ol
   record IsMeant (fault : LinkFault) (said : Result Meaning Meant) : Type 0 where
     meant : Meant
     is : said ≡ Err meant
+    same_layout : IsFineTold said → fault ≢ OtherLayout
     undiverged : IsFineTold said → fault ≢ Diverged
 
   meant : (fault : LinkFault) (said : Result Meaning Meant) → IsFault fault said → IsMeant fault said
-  meant Down said e = record { meant = _; is = e; undiverged = λ fine f. cc }
-  meant (BadChange of_change) said e = record { meant = _; is = e; undiverged = λ fine f. cc }
-  meant AsksFull said e = record { meant = _; is = e; undiverged = λ fine f. cc }
-  meant Diverged said e = record { meant = Apart; is = e; undiverged = λ fine f. subst IsFineTold e fine }
-  meant NumbersSpent said e = record { meant = _; is = e; undiverged = λ fine f. cc }
-  meant JournalFault said e = record { meant = _; is = e; undiverged = λ fine f. cc }
-  meant BadBotText said e = record { meant = _; is = e; undiverged = λ fine f. cc }
+  meant Down said e = record { meant = _; is = e; same_layout = λ fine f. cc; undiverged = λ fine f. cc }
+  meant (BadChange of_change) said e = record { meant = _; is = e; same_layout = λ fine f. cc; undiverged = λ fine f. cc }
+  meant AsksFull said e = record { meant = _; is = e; same_layout = λ fine f. cc; undiverged = λ fine f. cc }
+  meant OtherLayout said e = record { meant = Another; is = e; same_layout = λ fine f. subst IsFineTold e fine; undiverged = λ fine f. cc }
+  meant Diverged said e = record { meant = Apart; is = e; same_layout = λ fine f. cc; undiverged = λ fine f. subst IsFineTold e fine }
+  meant NumbersSpent said e = record { meant = _; is = e; same_layout = λ fine f. cc; undiverged = λ fine f. cc }
+  meant JournalFault said e = record { meant = _; is = e; same_layout = λ fine f. cc; undiverged = λ fine f. cc }
+  meant BadBotText said e = record { meant = _; is = e; same_layout = λ fine f. cc; undiverged = λ fine f. cc }
   meant TextsFull said e = absurd e
-  meant DiskFault said e = record { meant = _; is = e; undiverged = λ fine f. cc }
+  meant DiskFault said e = record { meant = _; is = e; same_layout = λ fine f. cc; undiverged = λ fine f. cc }
 
-  fine_fault : (fault : LinkFault) → fault ≢ Diverged → IsFineReport (refused_end (link_refusal fault)) None
-  fine_fault fault other = record { undiverged = λ e. other (let same : fault ≡ Diverged = cc in same); no_gap = λ e. cc }
+  fine_fault : (fault : LinkFault) → fault ≢ OtherLayout → fault ≢ Diverged → IsFineReport (refused_end (link_refusal fault)) None
+  fine_fault fault layout other = record {
+    same_layout = λ e. layout (let same : fault ≡ OtherLayout = cc in same);
+    undiverged = λ e. other (let same : fault ≡ Diverged = cc in same);
+    no_gap = λ e. cc;
+  }
 
   -- what is answered
   answered : (row : Row LinkEnd) (answer : Answer) (new : BotEnd) → RowFollows h all sent place row → Answers row answer new.end
@@ -186,7 +184,7 @@ module _ (h : History) (all : List LinkEnd) (sent : List Sent) (place : ℕ) (ol
         grows = goes.grows;
         count = goes.count;
         answers = tt;
-        fine = fine_fault fault (m.undiverged goes.fine);
+        fine = fine_fault fault (m.same_layout goes.fine) (m.undiverged goes.fine);
         accepted = refused_is_quiet m.meant place h.hub.kept.accepted goes.after.hub.kept.accepted
             (subst (λ (t : Result Meaning Meant). MovesAsTold h.hub.kept.accepted goes.after.hub.kept.accepted place t) m.is goes.moves);
         number = number;
@@ -199,7 +197,7 @@ module _ (h : History) (all : List LinkEnd) (sent : List Sent) (place : ℕ) (ol
   no_memory_goes : (new : BotEnd) → new.end ≡ old.end → new.number ≡ old.number → new.leaves ≡ old.leaves
       → LinkGoes h all sent place old NoMemory None [] new
   no_memory_goes new same number leaves =
-      stays NoMemory None new (record { undiverged = λ e. cc; no_gap = λ e. cc }) refl same number leaves
+      stays NoMemory None new (record { same_layout = λ e. cc; undiverged = λ e. cc; no_gap = λ e. cc }) refl same number leaves
 
   -- a call, whose rows go on whatever the device does
   pub calls_go : (row : How → Row LinkEnd) (result : Result Answer (Failure LinkFault)) (new : BotEnd)
@@ -215,7 +213,7 @@ module _ (h : History) (all : List LinkEnd) (sent : List Sent) (place : ℕ) (ol
       answered (asked old change) answer new goes a.0 (ap (λ (b : BotEnd). b.number) a.1) (ap (λ (b : BotEnd). b.leaves) a.1)
   ask_goes change (Err (refused_by fault)) new goes a =
       let m = meant fault (asked old change).told a.0 in
-      stays (refused_end (link_refusal fault)) None new (fine_fault fault (m.undiverged goes.fine)) refl (ap (λ (b : BotEnd). b.end) a.1)
+      stays (refused_end (link_refusal fault)) None new (fine_fault fault (m.same_layout goes.fine) (m.undiverged goes.fine)) refl (ap (λ (b : BotEnd). b.end) a.1)
       (ap (λ (b : BotEnd). b.number) a.1) (ap (λ (b : BotEnd). b.leaves) a.1)
   ask_goes change (Err no_memory) new goes a =
       no_memory_goes new (ap (λ (b : BotEnd). b.end) a.1) (ap (λ (b : BotEnd). b.number) a.1) (ap (λ (b : BotEnd). b.leaves) a.1)
@@ -248,7 +246,7 @@ module _ (h : History) (all : List LinkEnd) (sent : List Sent) (place : ℕ) (ol
         grows = failed.grows;
         count = failed.count;
         answers = tt;
-        fine = record { undiverged = λ e. cc; no_gap = λ e. cc };
+        fine = record { same_layout = λ e. cc; undiverged = λ e. cc; no_gap = λ e. cc };
         accepted = refused_is_quiet why.0 place h.hub.kept.accepted failed.after.hub.kept.accepted
             (subst (λ (t : Result Meaning Meant). MovesAsTold h.hub.kept.accepted failed.after.hub.kept.accepted place t) why.1 failed.moves);
         number = c.number;

@@ -10,7 +10,7 @@ use Rattle.protocol.specs.Claims.{Holds}
 use Rattle.protocol.specs.Network.{Net as LinkNet}
 use Rattle.linkcalls.specs.Calls.{note_of}
 use Rattle.linkcalls.specs.declared.note.Note.TheVariants.{Accepted, Gap}
-use Rattle.linkcalls.specs.declared.error.LinkFault.TheVariants.{Diverged}
+use Rattle.linkcalls.specs.declared.error.LinkFault.TheVariants.{OtherLayout, Diverged}
 use Rattle.linknet.specs.Ends.{End as LinkEnd, end_asks}
 use Rattle.linknet.specs.Nets.{IsMoment, MovesAsTold, ends_of as ends_in}
 use Rattle.procstore.specs.Promises.{Promised}
@@ -163,8 +163,9 @@ AcceptsNext old step outcome new = (change : Change) (rest : List Change) → st
     → refusal (records_of (accepted_by old) (length (accepted_by old))) change ≡ None → IsDone outcome
     → HasNote outcome (link_note (Accepted (length (accepted_by old) + 1))) × (accepted_by new ≡ accepted_by old ++ own change ∷ [])
 
--- no leaf finds that its records differ, and no request comes early
+-- no bot meets another layout, no leaf finds that its records differ, and no request comes early
 pub record IsFineReport (end : End) (note : Option Note) : Type 0 where
+  pub same_layout : end ≢ Refused (link_refusal OtherLayout)
   pub undiverged : end ≢ Refused (link_refusal Diverged)
   pub no_gap : note ≢ Some (link_note Gap)
 

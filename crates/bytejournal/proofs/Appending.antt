@@ -94,8 +94,8 @@ module _ {D : Type 0} (state : D → State) (journal : Journal D) (rest : IsAtRe
               idle = journal.idle;
               swapped = journal.swapped;
               idle_open = journal.idle_open;
-              generation =
-                  journal.generation;
+              layout = journal.layout;
+              generation = journal.generation;
               gate = journal.gate + size;
               spent = spent;
             })
@@ -125,6 +125,7 @@ module _ {D : Type 0} (state : D → State) (journal : Journal D) (rest : IsAtRe
                   (front_after file journal.gate rest.contents rest.front rest.inside rest.closed entry small);
               inside = omega (arith, ap length whole, length-append front (0 ∷ end), long);
               closed = λ is_one. let both : 0 ≡ 1 = sym gate_is ∙ is_one in absurd (omega arith);
+              layout = rest.layout;
               generation = rest.generation;
               idle = rest.idle;
               idle_whole = rest.idle_whole;

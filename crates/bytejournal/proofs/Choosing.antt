@@ -27,7 +27,7 @@ shut_idle generation (gate ∷ rest) ends whole = (omega arith, ends (omega arit
 
 -- what a disk that was read holds
 abbrev pub found_contents : Found → Contents
-found_contents found = record { generation = found.generation; base = found.base; entries = found.entries }
+found_contents found = record { layout = found.layout; generation = found.generation; base = found.base; entries = found.entries }
 
 module _ (bytes : List ℕ) (found : Found) (is : IsFound bytes found) where
   held_rest : (rest : List ℕ) → drop found.gate bytes ≡ rest → held bytes ≡ Open (found_contents found)
@@ -100,6 +100,7 @@ module _ {D : Type 0} (state : D → State) where
           front = is.front;
           inside = inside.0;
           closed = is.ends inside.0;
+          layout = refl;
           generation = refl;
           idle = (beside.rests inside.1).0;
           idle_whole = (beside.rests inside.1).1;

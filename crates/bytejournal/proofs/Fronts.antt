@@ -2,7 +2,7 @@
 use Rattle.std.proofs.Common.{◌≡◌, ◌≢◌, ℕ, Option, None, Some, List, [], ◌∷◌, ◌++◌, length, refl, sym, ◌∙◌, ap, append_assoc}
 use Rattle.std.proofs.lemmas.List.{append-nil}
 use Rattle.std.specs.Int.{w32, from_be_bytes}
-use Rattle.bytejournal.specs.Meaning.{numbered, entry_before, all_before, entries_of, Contents, extended, from_base, from_generation, layout, held, IsFront, AreEntries, IsWhole}
+use Rattle.bytejournal.specs.Meaning.{numbered, entry_before, all_before, entries_of, Contents, extended, from_base, from_generation, letters, held, IsFront, AreEntries, IsWhole}
 use Rattle.bytejournal.specs.Meaning.Held.{Shut, Open}
 use Rattle.bytejournal.proofs.Entries.{numbered_at, sized_at, open_entry, closed, eqb_not}
 
@@ -24,7 +24,7 @@ more_entries front back old new are more rest = ap entries_of (append_assoc fron
 
 -- the contents with these entries more
 abbrev pub with_entries : Contents → List (List ℕ) → Contents
-with_entries contents entries = record { generation = contents.generation; base = contents.base; entries = contents.entries ++ entries }
+with_entries contents entries = record { layout = contents.layout; generation = contents.generation; base = contents.base; entries = contents.entries ++ entries }
 
 pub front_more : (front back : List ℕ) (contents : Contents) (entries : List (List ℕ)) → IsFront front contents → AreEntries back entries
     → IsFront (front ++ back) (with_entries contents entries)
@@ -33,21 +33,21 @@ front_more front back contents entries is are rest = ap held (append_assoc front
   where
     before : (more : Option (List (List ℕ))) → extended contents (all_before entries more) ≡ extended (with_entries contents entries) more
     before None = refl
-    before (Some more) = ap (λ (es : List (List ℕ)). Open (record { generation = contents.generation; base = contents.base; entries = es }))
+    before (Some more) = ap (λ (es : List (List ℕ)). Open (record { layout = contents.layout; generation = contents.generation; base = contents.base; entries = es }))
         (sym (append_assoc contents.entries entries more))
 
 -- the bytes before the first gate after a base
-abbrev pub start : List ℕ → List ℕ → List ℕ → List ℕ
-start generation size base = 1 ∷ (layout ++ (generation ++ (size ++ base)))
+abbrev pub start : ℕ → List ℕ → List ℕ → List ℕ → List ℕ
+start layout generation size base = 1 ∷ (letters ++ (layout ∷ (generation ++ (size ++ base))))
 
-pub front_start : (generation size base : List ℕ) → length generation ≡ 4 → length size ≡ 4 → from_be_bytes w32 size ≡ length base
-    → IsFront (start generation size base) (record { generation = from_be_bytes w32 generation; base = base; entries = [] })
-front_start generation size base g s is rest =
-    ap from_generation (ap numbered (append_assoc generation (size ++ base) rest) ∙ numbered_at generation ((size ++ base) ++ rest) g)
-    ∙ ap (from_base (from_be_bytes w32 generation)) (sized_at size base rest s is)
+pub front_start : (layout : ℕ) (generation size base : List ℕ) → length generation ≡ 4 → length size ≡ 4 → from_be_bytes w32 size ≡ length base
+    → IsFront (start layout generation size base) (record { layout = layout; generation = from_be_bytes w32 generation; base = base; entries = [] })
+front_start layout generation size base g s is rest =
+    ap (from_generation layout) (ap numbered (append_assoc generation (size ++ base) rest) ∙ numbered_at generation ((size ++ base) ++ rest) g)
+    ∙ ap (from_base layout (from_be_bytes w32 generation)) (sized_at size base rest s is)
 
 nothing_more : (contents : Contents) → extended contents (Some []) ≡ Open contents
-nothing_more contents = ap (λ (es : List (List ℕ)). Open (record { generation = contents.generation; base = contents.base; entries = es }))
+nothing_more contents = ap (λ (es : List (List ℕ)). Open (record { layout = contents.layout; generation = contents.generation; base = contents.base; entries = es }))
     (append-nil contents.entries)
 
 -- a closed gate ends the entries, whatever stands after it

@@ -5,7 +5,7 @@ use Rattle.std.proofs.lemmas.Bool.{cases_eq}
 use Rattle.std.proofs.lemmas.Nat.{from_be_bytes-to_be_bytes_4}
 use Rattle.std.specs.Int.{w32, to_be_bytes}
 use Rattle.bytejournal.specs.Gates.{with_gate, IsHalfWritten}
-use Rattle.bytejournal.specs.Meaning.{Contents, Held, added, layout, held, IsFront, IsWhole}
+use Rattle.bytejournal.specs.Meaning.{Contents, Held, added, letters, held, IsFront, IsWhole}
 use Rattle.bytejournal.specs.Meaning.Held.{Shut, Open}
 use Rattle.bytejournal.proofs.Fronts.{one_entry, front_more, front_closed, whole_closed, shut_gate, whole_shut}
 
@@ -28,8 +28,8 @@ means_shut gate rest image shut same = subst (λ (l : List ℕ). Means l Shut) (
 abbrev pub entry_bytes : List ℕ → List ℕ
 entry_bytes entry = to_be_bytes w32 (length entry) ++ entry
 
-abbrev pub base_bytes : ℕ → List ℕ → List ℕ
-base_bytes generation base = layout ++ (to_be_bytes w32 generation ++ (to_be_bytes w32 (length base) ++ base))
+abbrev pub base_bytes : ℕ → ℕ → List ℕ → List ℕ
+base_bytes layout generation base = letters ++ (layout ∷ (to_be_bytes w32 generation ++ (to_be_bytes w32 (length base) ++ base)))
 
 module _ (file : List ℕ) (gate : ℕ) (contents : Contents) (front : IsFront (take gate file) contents) (inside : gate < length file)
     (shut : get_or file gate 0 ≢ 1) where

@@ -46,44 +46,44 @@ HoldsNoOther file image = (contents : Contents) → held image ≡ Open contents
 shut_holds_none : (file image : List ℕ) → Means image Shut → HoldsNoOther file image
 shut_holds_none file image m contents h = let both : Shut ≡ Open contents = sym m.held_is ∙ h in absurd (cc both)
 
-module _ (contents : Contents) (base : List ℕ) (small : length base < 2 ^ 32) (left : contents.generation + 1 < 2 ^ 32) where
+module _ (contents : Contents) (layout : ℕ) (base : List ℕ) (small : length base < 2 ^ 32) (left : contents.generation + 1 < 2 ^ 32) where
   text : List ℕ
-  text = base_bytes (contents.generation + 1) base ++ (0 ∷ [])
+  text = base_bytes layout (contents.generation + 1) base ++ (0 ∷ [])
 
-  pub front : IsFront (1 ∷ base_bytes (contents.generation + 1) base) (rebased base contents)
+  pub front : IsFront (1 ∷ base_bytes layout (contents.generation + 1) base) (rebased layout base contents)
   front =
-      subst (λ (n : ℕ). IsFront (1 ∷ base_bytes (contents.generation + 1) base) (record { generation = n; base = base; entries = [] }))
+      subst (λ (n : ℕ). IsFront (1 ∷ base_bytes layout (contents.generation + 1) base) (record { layout = layout; generation = n; base = base; entries = [] }))
       (from_be_bytes-to_be_bytes_4 (contents.generation + 1) left)
-      (front_start (to_be_bytes w32 (contents.generation + 1)) (to_be_bytes w32 (length base)) base refl refl (from_be_bytes-to_be_bytes_4 (length base) small))
+      (front_start layout (to_be_bytes w32 (contents.generation + 1)) (to_be_bytes w32 (length base)) base refl refl (from_be_bytes-to_be_bytes_4 (length base) small))
 
   module _ (file : List ℕ) where
     rest : List ℕ
-    rest = drop (0 + 1 + length (base_bytes (contents.generation + 1) base ++ (0 ∷ []))) file
+    rest = drop (0 + 1 + length (base_bytes layout (contents.generation + 1) base ++ (0 ∷ []))) file
 
-    pub with_text : (gate : ℕ) → with_gate file 0 (base_bytes (contents.generation + 1) base ++ (0 ∷ [])) gate
-        ≡ (gate ∷ base_bytes (contents.generation + 1) base) ++ (0 ∷ drop (0 + 1 + length (base_bytes (contents.generation + 1) base ++ (0 ∷ []))) file)
+    pub with_text : (gate : ℕ) → with_gate file 0 (base_bytes layout (contents.generation + 1) base ++ (0 ∷ [])) gate
+        ≡ (gate ∷ base_bytes layout (contents.generation + 1) base) ++ (0 ∷ drop (0 + 1 + length (base_bytes layout (contents.generation + 1) base ++ (0 ∷ []))) file)
     with_text gate = ap (λ (l : List ℕ). gate ∷ l)
-        (append_assoc (base_bytes (contents.generation + 1) base) (0 ∷ []) (drop (0 + 1 + length (base_bytes (contents.generation + 1) base ++ (0 ∷ []))) file))
+        (append_assoc (base_bytes layout (contents.generation + 1) base) (0 ∷ []) (drop (0 + 1 + length (base_bytes layout (contents.generation + 1) base ++ (0 ∷ []))) file))
 
-    pub after_rebase : Means (with_gate file 0 (base_bytes (contents.generation + 1) base ++ (0 ∷ [])) 1) (Open (rebased base contents))
-    after_rebase = means_open (1 ∷ base_bytes (contents.generation + 1) base) (rebased base contents) 0
-        (drop (0 + 1 + length (base_bytes (contents.generation + 1) base ++ (0 ∷ []))) file)
-        (with_gate file 0 (base_bytes (contents.generation + 1) base ++ (0 ∷ [])) 1) front (omega arith) (with_text 1)
+    pub after_rebase : Means (with_gate file 0 (base_bytes layout (contents.generation + 1) base ++ (0 ∷ [])) 1) (Open (rebased layout base contents))
+    after_rebase = means_open (1 ∷ base_bytes layout (contents.generation + 1) base) (rebased layout base contents) 0
+        (drop (0 + 1 + length (base_bytes layout (contents.generation + 1) base ++ (0 ∷ []))) file)
+        (with_gate file 0 (base_bytes layout (contents.generation + 1) base ++ (0 ∷ [])) 1) front (omega arith) (with_text 1)
 
-    torn_start : IsClosed file → (image : List ℕ) → IsHalfWritten file 0 (base_bytes (contents.generation + 1) base ++ (0 ∷ [])) image
-        → Means image Shut ⊎ Means image (Open (rebased base contents))
+    torn_start : IsClosed file → (image : List ℕ) → IsHalfWritten file 0 (base_bytes layout (contents.generation + 1) base ++ (0 ∷ [])) image
+        → Means image Shut ⊎ Means image (Open (rebased layout base contents))
     torn_start closed image (inl same) = inl (same_first file image closed same)
     torn_start closed image (inr torn) = elim (cases_eq torn.0 1) [
-      | inl is_one ↦ inr (subst (λ (l : List ℕ). Means l (Open (rebased base contents)))
-          (sym (torn.1 ∙ ap (λ (g : ℕ). with_gate file 0 (base_bytes (contents.generation + 1) base ++ (0 ∷ [])) g) is_one)) after_rebase)
-      | inr shut ↦ inl (means_shut torn.0 (base_bytes (contents.generation + 1) base ++
-          (0 ∷ drop (0 + 1 + length (base_bytes (contents.generation + 1) base ++ (0 ∷ []))) file)) image shut (torn.1 ∙ with_text torn.0))
+      | inl is_one ↦ inr (subst (λ (l : List ℕ). Means l (Open (rebased layout base contents)))
+          (sym (torn.1 ∙ ap (λ (g : ℕ). with_gate file 0 (base_bytes layout (contents.generation + 1) base ++ (0 ∷ [])) g) is_one)) after_rebase)
+      | inr shut ↦ inl (means_shut torn.0 (base_bytes layout (contents.generation + 1) base ++
+          (0 ∷ drop (0 + 1 + length (base_bytes layout (contents.generation + 1) base ++ (0 ∷ []))) file)) image shut (torn.1 ∙ with_text torn.0))
     ]
 
   -- what stands beside the active disk while it is replaced
   pub while_replacing : (is_open : Bool) (file image : List ℕ) → IdleIs is_open contents.generation file → IsWhole file
-      → IsHalfReplaced is_open file (base_bytes (contents.generation + 1) base ++ (0 ∷ [])) image
-      → (IsWhole image × (chosen (Open contents) (held image) ≡ Some contents) × HoldsNoOther file image) ⊎ Means image (Open (rebased base contents))
+      → IsHalfReplaced is_open file (base_bytes layout (contents.generation + 1) base ++ (0 ∷ [])) image
+      → (IsWhole image × (chosen (Open contents) (held image) ≡ Some contents) × HoldsNoOther file image) ⊎ Means image (Open (rebased layout base contents))
   while_replacing false file image idle whole (inl torn) = absurd (cc (torn.1))
   while_replacing true file image idle whole (inl torn) = elim (cases_eq torn.0 1) [
     | inl is_one ↦
@@ -97,23 +97,23 @@ module _ (contents : Contents) (base : List ℕ) (small : length base < 2 ^ 32) 
       ⊎_elim (λ m. inl (m.whole, ap (chosen (Open contents)) m.held_is, shut_holds_none file image m)) (λ m. inr m)
       (torn_start (closed_first is_open file) (is_closed is_open contents.generation file idle) image half)
 
-module _ {D : Type 0} (state : D → State) (journal : Journal D) (rest : IsAtRest state journal) (base : List ℕ) (small : length base < 2 ^ 32)
+module _ {D : Type 0} (state : D → State) (journal : Journal D) (rest : IsAtRest state journal) (layout : ℕ) (base : List ℕ) (small : length base < 2 ^ 32)
     (left : journal.generation + 1 < 2 ^ 32) where
   below : rest.contents.generation + 1 < 2 ^ 32
   below = omega (arith, rest.generation, left)
 
-  pub rebased_are : option_map (rebased base) (contents_of state journal) ≡ Some (rebased base rest.contents)
-  rebased_are = ap (option_map (rebased base)) (contents_are state journal rest)
+  pub rebased_are : option_map (rebased layout base) (contents_of state journal) ≡ Some (rebased layout base rest.contents)
+  rebased_are = ap (option_map (rebased layout base)) (contents_are state journal rest)
 
-  new_counts : (image : List ℕ) → Means image (Open (rebased base rest.contents))
-      → meaning (state journal.active).seen image ≡ Some (rebased base rest.contents)
+  new_counts : (image : List ℕ) → Means image (Open (rebased layout base rest.contents))
+      → meaning (state journal.active).seen image ≡ Some (rebased layout base rest.contents)
   new_counts image means =
       ap (λ (h : Held). chosen h (held image)) (active_means state journal rest).held_is ∙ ap (chosen (Open rest.contents)) means.held_is
-      ∙ chosen_comm (Open rest.contents) (Open (rebased base rest.contents)) ∙ newer (rebased base rest.contents) rest.contents (omega arith)
+      ∙ chosen_comm (Open rest.contents) (Open (rebased layout base rest.contents)) ∙ newer (rebased layout base rest.contents) rest.contents (omega arith)
 
   either_rebased : (image : List ℕ) → IsHalfReplaced journal.idle_open (state journal.idle).seen
-      (base_bytes (rest.contents.generation + 1) base ++ (0 ∷ [])) image
-      → IsEither (HoldsOne state journal) (contents_of state journal) (option_map (rebased base) (contents_of state journal)) image
+      (base_bytes layout (rest.contents.generation + 1) base ++ (0 ∷ [])) image
+      → IsEither (HoldsOne state journal) (contents_of state journal) (option_map (rebased layout base) (contents_of state journal)) image
       (state journal.active).seen
   either_rebased image half =
       ⊎_elim
@@ -132,68 +132,69 @@ module _ {D : Type 0} (state : D → State) (journal : Journal D) (rest : IsAtRe
             m.whole;
         second_whole = (active_means state journal rest).whole;
       })
-      (while_replacing rest.contents base small below journal.idle_open (state journal.idle).seen image rest.idle rest.idle_whole half)
+      (while_replacing rest.contents layout base small below journal.idle_open (state journal.idle).seen image rest.idle rest.idle_whole half)
 
   module _ (idle : D) where
     -- at each moment of a rebase
     pub rebase_moments : LeavesOnly (state journal.idle) (state idle)
-        (IsHalfReplaced journal.idle_open (state journal.idle).seen (base_bytes (journal.generation + 1) base ++ (0 ∷ [])))
+        (IsHalfReplaced journal.idle_open (state journal.idle).seen (base_bytes layout (journal.generation + 1) base ++ (0 ∷ [])))
         → EachMoment (state journal.active) (state journal.idle) (state journal.active) (state idle)
-        (IsEither (HoldsOne state journal) (contents_of state journal) (option_map (rebased base) (contents_of state journal)))
+        (IsEither (HoldsOne state journal) (contents_of state journal) (option_map (rebased layout base) (contents_of state journal)))
     rebase_moments run =
         flipped state journal.idle journal.active idle journal.active _
-        (either_comm (HoldsOne state journal) (contents_of state journal) (option_map (rebased base) (contents_of state journal)))
+        (either_comm (HoldsOne state journal) (contents_of state journal) (option_map (rebased layout base) (contents_of state journal)))
         (one_written state journal.idle journal.active idle _ _ rest.active_settled
         (subst (λ (n : ℕ). LeavesOnly (state journal.idle) (state idle)
-        (IsHalfReplaced journal.idle_open (state journal.idle).seen (base_bytes (n + 1) base ++ (0 ∷ [])))) rest.generation run) either_rebased)
+        (IsHalfReplaced journal.idle_open (state journal.idle).seen (base_bytes layout (n + 1) base ++ (0 ∷ [])))) rest.generation run) either_rebased)
 
     module _ (written : (state idle).seen ≡ with_gate (closed_first journal.idle_open (state journal.idle).seen) 0
-        (base_bytes (journal.generation + 1) base ++ (0 ∷ [])) 1) where
+        (base_bytes layout (journal.generation + 1) base ++ (0 ∷ [])) 1) where
       written_by : (state idle).seen ≡ with_gate (closed_first journal.idle_open (state journal.idle).seen) 0
-          (base_bytes (rest.contents.generation + 1) base ++ (0 ∷ [])) 1
+          (base_bytes layout (rest.contents.generation + 1) base ++ (0 ∷ [])) 1
       written_by = subst (λ (n : ℕ). (state idle).seen
-          ≡ with_gate (closed_first journal.idle_open (state journal.idle).seen) 0 (base_bytes (n + 1) base ++ (0 ∷ [])) 1) rest.generation written
+          ≡ with_gate (closed_first journal.idle_open (state journal.idle).seen) 0 (base_bytes layout (n + 1) base ++ (0 ∷ [])) 1) rest.generation written
 
-      new_means : Means (state idle).seen (Open (rebased base rest.contents))
-      new_means = subst (λ (l : List ℕ). Means l (Open (rebased base rest.contents))) (sym written_by)
-          (after_rebase rest.contents base small below (closed_first journal.idle_open (state journal.idle).seen))
+      new_means : Means (state idle).seen (Open (rebased layout base rest.contents))
+      new_means = subst (λ (l : List ℕ). Means l (Open (rebased layout base rest.contents))) (sym written_by)
+          (after_rebase rest.contents layout base small below (closed_first journal.idle_open (state journal.idle).seen))
 
-      pub rebased_counts : meaning (state idle).seen (state journal.active).seen ≡ option_map (rebased base) (contents_of state journal)
+      pub rebased_counts : meaning (state idle).seen (state journal.active).seen ≡ option_map (rebased layout base) (contents_of state journal)
       rebased_counts = meaning_comm (state idle).seen (state journal.active).seen ∙ new_counts (state idle).seen new_means ∙ sym rebased_are
 
-      pub rests_rebased : (gate : ℕ) (swapped spent : Bool) → gate ≡ length (base_bytes (journal.generation + 1) base ++ (0 ∷ [])) → IsSettled (state idle)
+      pub rests_rebased : (gate : ℕ) (swapped spent : Bool) → gate ≡ length (base_bytes layout (journal.generation + 1) base ++ (0 ∷ [])) → IsSettled (state idle)
           → IsAtRest state (record {
             active = idle;
             idle = journal.active;
             swapped = swapped;
             idle_open = true;
-            generation =
-                journal.generation + 1;
+            layout = layout;
+            generation = journal.generation + 1;
             gate = gate;
             spent = spent;
           })
       rests_rebased gate swapped spent gate_is settled =
           let n = rest.contents.generation + 1 in
-          let f = 1 ∷ base_bytes n base in
-          let end = drop (0 + 1 + length (base_bytes n base ++ (0 ∷ []))) (closed_first journal.idle_open (state journal.idle).seen) in
+          let f = 1 ∷ base_bytes layout n base in
+          let end = drop (0 + 1 + length (base_bytes layout n base ++ (0 ∷ []))) (closed_first journal.idle_open (state journal.idle).seen) in
           let whole : (state idle).seen ≡ f ++ (0 ∷ end) = written_by
-          ∙ with_text rest.contents base small below (closed_first journal.idle_open (state journal.idle).seen) 1 in
+          ∙ with_text rest.contents layout base small below (closed_first journal.idle_open (state journal.idle).seen) 1 in
           let long : length f ≡ gate = omega (
             arith,
             gate_is,
-            length-append (base_bytes (journal.generation + 1) base) (0 ∷ []),
+            length-append (base_bytes layout (journal.generation + 1) base) (0 ∷ []),
             length-append
-                (base_bytes n base) (0 ∷ []),
+                (base_bytes layout n base) (0 ∷ []),
             rest.generation,
           ) in
           let front_is : take gate (state idle).seen ≡ f = ap (λ (l : List ℕ). take gate l) whole ∙ take_at f (0 ∷ end) gate long in
           let gate_zero : get_or (state idle).seen gate 0 ≡ 0 = ap (λ (l : List ℕ). get_or l gate 0) whole
           ∙ ap (λ (k : ℕ). get_or (f ++ (0 ∷ end)) k 0) (sym long) ∙ get_or-append_seam f 0 end 0 in
           record {
-            contents = rebased base rest.contents;
-            front = subst (λ (l : List ℕ). IsFront l (rebased base rest.contents)) (sym front_is) (front rest.contents base small below);
+            contents = rebased layout base rest.contents;
+            front = subst (λ (l : List ℕ). IsFront l (rebased layout base rest.contents)) (sym front_is) (front rest.contents layout base small below);
             inside = omega (arith, ap length whole, length-append f (0 ∷ end), long);
             closed = λ is_one. let both : 0 ≡ 1 = sym gate_zero ∙ is_one in absurd (omega arith);
+            layout = refl;
             generation = omega (arith, rest.generation);
             idle = (rest.contents, (active_means state journal rest).held_is, omega arith);
             idle_whole = (active_means state journal rest).whole;

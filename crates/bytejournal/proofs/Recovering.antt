@@ -61,14 +61,14 @@ module _ {D : Type 0} (state : D → State) where
   spent_append old entry (Err (Refused GenerationsSpent)) new r spent = absurd r
   spent_append old entry (Err NoMemory) new r spent = absurd (not_both old.spent spent r.0)
 
-  spent_rebase : (old : Journal D) (base : List ℕ) (result : Result (Unit {0}) (Failure JournalFault)) (new : Journal D)
-      → Rebases state old base result new → old.spent ≡ true → new ≡ old
-  spent_rebase old base (Ok u) new r spent = absurd (not_both old.spent spent r.0)
-  spent_rebase old base (Err (Refused DiskFault)) new r spent = absurd (not_both old.spent spent r.0)
-  spent_rebase old base (Err (Refused NotAJournal)) new r spent = absurd r
-  spent_rebase old base (Err (Refused Spent)) new r spent = r.1
-  spent_rebase old base (Err (Refused GenerationsSpent)) new r spent = absurd (not_both old.spent spent r.0)
-  spent_rebase old base (Err NoMemory) new r spent = absurd (not_both old.spent spent r.0)
+  spent_rebase : (old : Journal D) (layout : ℕ) (base : List ℕ) (result : Result (Unit {0}) (Failure JournalFault)) (new : Journal D)
+      → Rebases state old layout base result new → old.spent ≡ true → new ≡ old
+  spent_rebase old layout base (Ok u) new r spent = absurd (not_both old.spent spent r.0)
+  spent_rebase old layout base (Err (Refused DiskFault)) new r spent = absurd (not_both old.spent spent r.0)
+  spent_rebase old layout base (Err (Refused NotAJournal)) new r spent = absurd r
+  spent_rebase old layout base (Err (Refused Spent)) new r spent = r.1
+  spent_rebase old layout base (Err (Refused GenerationsSpent)) new r spent = absurd (not_both old.spent spent r.0)
+  spent_rebase old layout base (Err NoMemory) new r spent = absurd (not_both old.spent spent r.0)
 
   -- ---- moments
 
@@ -141,8 +141,8 @@ module _ {D : Type 0} (state : D → State) where
   call_stays : {old new : Stage D} → Calls state old new → IsStageKept state IsJournal old → StageStays state IsJournal old new
   call_stays (append {old} {new} entry result is) kept =
       called old new (added entry) kept (spent_append old entry result new is.row) is.any_moment
-  call_stays (rebase {old} {new} base result is) kept =
-      called old new (rebased base) kept (spent_rebase old base result new is.row) is.any_moment
+  call_stays (rebase {old} {new} layout base result is) kept =
+      called old new (rebased layout base) kept (spent_rebase old layout base result new is.row) is.any_moment
   call_stays (restart {journal} result r) kept =
       let u = after_open r.0 r.1 result r.4 in
       opened_again state IsJournal (first_disk journal) (second_disk journal) r.0 r.1 (first_of (after_opening result))
@@ -155,7 +155,7 @@ module _ {D : Type 0} (state : D → State) where
 
   call_callable : {old new : Stage D} → Calls state old new → IsStageKept state IsJournal old → Callable (IsSound state) new
   call_callable (append entry result is) kept = is.sound
-  call_callable (rebase base result is) kept = is.sound
+  call_callable (rebase layout base result is) kept = is.sound
   call_callable (restart {journal} result r) kept = opened_callable r.0 r.1 result
       (after_moments state IsJournal (first_disk journal) (second_disk journal) r.0 r.1
       (reopened state IsJournal (first_disk journal) (second_disk journal) r.0 r.1 kept r.2 r.3)) r.4
@@ -164,9 +164,9 @@ module _ {D : Type 0} (state : D → State) where
   call_callable (opening {first} {second} result settled settled' o) kept = opened_callable first second result kept o
 
   -- a new journal
-  created_is_kept : (first second : D) (base : List ℕ) (journal : Journal D) → Creates state first second base (Ok journal)
+  created_is_kept : (first second : D) (layout : ℕ) (base : List ℕ) (journal : Journal D) → Creates state first second layout base (Ok journal)
       → IsIntact state (IsSound state) IsJournal (InProgram journal)
-  created_is_kept first second base journal c =
+  created_is_kept first second layout base journal c =
       let rest = c.1 in
       let after = contents_of state journal in
       let some = some_is (contents_of state journal) (Some rest.contents) (contents_are state journal rest) refl in
@@ -181,9 +181,9 @@ module _ {D : Type 0} (state : D → State) where
             }),
       )
 
-  pub lives_kept : (first second : D) (base : List ℕ) (journal : Journal D) (last : Stage D) → Creates state first second base (Ok journal)
+  pub lives_kept : (first second : D) (layout : ℕ) (base : List ℕ) (journal : Journal D) (last : Stage D) → Creates state first second layout base (Ok journal)
       → Lives state (Calls state) (InProgram journal) last → IsIntact state (IsSound state) IsJournal last
-  lives_kept first second base journal last created lives =
+  lives_kept first second layout base journal last created lives =
       all_kept state IsJournal (IsSound state) (Calls state) (λ old new call kept. call_stays call kept)
       (λ old new call kept. call_callable call kept) lives
-      (created_is_kept first second base journal created)
+      (created_is_kept first second layout base journal created)

@@ -3,7 +3,7 @@ use Rattle.std.proofs.Common.{◌≡◌, ◌≤◌, ◌+◌, ℕ, Some, List, []
 use borrow.Author.Tests.{leb-true}
 use Rattle.std.proofs.lemmas.List.{take_at, length-take, get_or-append-add}
 use Rattle.std.specs.Int.{w32, from_be_bytes}
-use Rattle.bytejournal.specs.Meaning.{numbered, sized, layout, IsFront}
+use Rattle.bytejournal.specs.Meaning.{numbered, sized, letters, IsFront}
 use Rattle.bytejournal.specs.Reading.{HasEntries, IsFound}
 use Rattle.bytejournal.specs.declared.reading.Entries.{Entries}
 use Rattle.bytejournal.proofs.Entries.{if_some, Spelled, sized_is}
@@ -19,7 +19,7 @@ numbered_is bytes number rest is =
     let parts = if_some (leb 4 (length bytes)) (from_be_bytes w32 (take 4 bytes), drop 4 bytes) (number, rest) is in
     record { long = leb-true _ _ parts.0; number_is = ap (λ (p : ℕ × List ℕ). p.0) parts.1; rest_is = ap (λ (p : ℕ × List ℕ). p.1) parts.1 }
 
-module _ (bytes numbers sizes base rest : List ℕ) (generation : ℕ) (letters : bytes ≡ layout ++ numbers) (number : numbered numbers
+module _ (bytes numbers sizes base rest : List ℕ) (layout generation : ℕ) (begins : bytes ≡ letters ++ (layout ∷ numbers)) (number : numbered numbers
     ≡ Some (generation, sizes)) (text : sized sizes ≡ Some (base, rest)) where
   four : List ℕ
   four = take 4 numbers
@@ -30,13 +30,13 @@ module _ (bytes numbers sizes base rest : List ℕ) (generation : ℕ) (letters 
   is_number : Numbered numbers generation sizes
   is_number = numbered_is numbers generation sizes number
 
-  split : 1 ∷ bytes ≡ start (take 4 numbers) (take 4 sizes) base ++ rest
+  split : 1 ∷ bytes ≡ start layout (take 4 numbers) (take 4 sizes) base ++ rest
   split =
-      ap (λ (l : List ℕ). 1 ∷ l) (letters ∙ ap (λ (l : List ℕ). layout ++ l)
+      ap (λ (l : List ℕ). 1 ∷ l) (begins ∙ ap (λ (l : List ℕ). letters ++ (layout ∷ l))
       (sym (take-append-drop 4 numbers) ∙ ap (λ (l : List ℕ). take 4 numbers ++ l) (is_number.rest_is ∙ spelled.split)
       ∙ sym (append_assoc (take 4 numbers) (take 4 sizes ++ base) rest)))
 
-  size : length (start (take 4 numbers) (take 4 sizes) base) ≡ 14 + length base
+  size : length (start layout (take 4 numbers) (take 4 sizes) base) ≡ 14 + length base
   size = omega (
     arith,
     length-take 4 numbers,
@@ -48,16 +48,16 @@ module _ (bytes numbers sizes base rest : List ℕ) (generation : ℕ) (letters 
   )
 
   pub start_size : length bytes ≡ 13 + length base + length rest
-  start_size = omega (arith, size, ap length split, length-append (start (take 4 numbers) (take 4 sizes) base) rest)
+  start_size = omega (arith, size, ap length split, length-append (start layout (take 4 numbers) (take 4 sizes) base) rest)
 
-  front : IsFront (start (take 4 numbers) (take 4 sizes) base) (record { generation = generation; base = base; entries = [] })
-  front = subst (λ (g : ℕ). IsFront (start (take 4 numbers) (take 4 sizes) base) (record { generation = g; base = base; entries = [] })) is_number.number_is
-      (front_start (take 4 numbers) (take 4 sizes) base (omega (arith, length-take 4 numbers, is_number.long)) spelled.four_bytes spelled.number)
+  front : IsFront (start layout (take 4 numbers) (take 4 sizes) base) (record { layout = layout; generation = generation; base = base; entries = [] })
+  front = subst (λ (g : ℕ). IsFront (start layout (take 4 numbers) (take 4 sizes) base) (record { layout = layout; generation = g; base = base; entries = [] })) is_number.number_is
+      (front_start layout (take 4 numbers) (take 4 sizes) base (omega (arith, length-take 4 numbers, is_number.long)) spelled.four_bytes spelled.number)
 
   pub is_found : (found : Entries) → HasEntries rest found
-      → IsFound (1 ∷ bytes) (record { generation = generation; base = base; entries = found.texts; gate = 14 + length base + found.gate })
+      → IsFound (1 ∷ bytes) (record { layout = layout; generation = generation; base = base; entries = found.texts; gate = 14 + length base + found.gate })
   is_found found has =
-      let s = start (take 4 numbers) (take 4 sizes) base in
+      let s = start layout (take 4 numbers) (take 4 sizes) base in
       let gate = 14 + length base + found.gate in
       let whole : 1 ∷ bytes ≡ (s ++ take found.gate rest) ++ drop found.gate rest =
       split ∙ ap (λ (l : List ℕ). s ++ l) (sym (take-append-drop found.gate rest)) ∙ sym (append_assoc s (take found.gate rest) (drop found.gate rest)) in
@@ -66,8 +66,8 @@ module _ (bytes numbers sizes base rest : List ℕ) (generation : ℕ) (letters 
       (omega (arith, size, length-append s (take found.gate rest), length-take found.gate rest, has.inside)) in
       record {
         inside = omega (arith, start_size, has.inside);
-        front = subst (λ (f : List ℕ). IsFront f (record { generation = generation; base = base; entries = found.texts })) (sym is_front)
-            (front_more s (take found.gate rest) (record { generation = generation; base = base; entries = [] }) found.texts front has.entries);
+        front = subst (λ (f : List ℕ). IsFront f (record { layout = layout; generation = generation; base = base; entries = found.texts })) (sym is_front)
+            (front_more s (take found.gate rest) (record { layout = layout; generation = generation; base = base; entries = [] }) found.texts front has.entries);
         ends = λ inside is_open. has.ends (omega (arith, inside, start_size))
             (sym (get_or-append-add s rest found.gate 0) ∙ ap (λ (l : List ℕ). get_or l (length s + found.gate) 0) (sym split)
             ∙ ap (λ (n : ℕ). get_or (1 ∷ bytes) n 0) (omega (arith, size)) ∙ is_open);

@@ -61,6 +61,7 @@ module _ {D : Type 0} (state : D → State) where
     pub front : IsFront (take journal.gate (state journal.active).seen) contents
     pub inside : journal.gate < length (state journal.active).seen
     pub closed : slice_index (state journal.active).seen journal.gate ≢ 1
+    pub layout : journal.layout ≡ contents.layout
     pub generation : journal.generation ≡ contents.generation
     pub idle : IdleIs journal.idle_open contents.generation (state journal.idle).seen
     pub idle_whole : IsWhole (state journal.idle).seen
@@ -89,13 +90,13 @@ module _ {D : Type 0} (state : D → State) where
   Appends old entry (Err (Refused GenerationsSpent)) new = ⊥
   Appends old entry (Err NoMemory) new = (old.spent ≡ false) × (new.spent ≡ false) × SameDisks old new × (contents_of new ≡ contents_of old)
 
-  -- Putting another base in place, by cases on the answer.
-  abbrev pub Rebases : Journal D → List ℕ → Result (Unit {0}) (Failure JournalFault) → Journal D → Type 0
-  Rebases old base (Ok _) new = (old.spent ≡ false) × (new.spent ≡ false) × (new.generation ≡ old.generation + 1)
-      × (contents_of new ≡ option_map (rebased base) (contents_of old))
-  Rebases old base (Err (Refused DiskFault)) new = (old.spent ≡ false) × (new.spent ≡ true) × DiskFailed old new
-  Rebases old base (Err (Refused NotAJournal)) new = ⊥
-  Rebases old base (Err (Refused Spent)) new = (old.spent ≡ true) × (new ≡ old)
-  Rebases old base (Err (Refused GenerationsSpent)) new = (old.spent ≡ false) × (old.generation ≡ 2 ^ 32 - 1) × (new ≡ old)
-  Rebases old base (Err NoMemory) new = (old.spent ≡ false) × (old.generation < 2 ^ 32 - 1) × (new.spent ≡ false) × SameDisks old new
+  -- Putting another base in place, spelled by a layout, by cases on the answer.
+  abbrev pub Rebases : Journal D → ℕ → List ℕ → Result (Unit {0}) (Failure JournalFault) → Journal D → Type 0
+  Rebases old layout base (Ok _) new = (old.spent ≡ false) × (new.spent ≡ false) × (new.layout ≡ layout) × (new.generation ≡ old.generation + 1)
+      × (contents_of new ≡ option_map (rebased layout base) (contents_of old))
+  Rebases old layout base (Err (Refused DiskFault)) new = (old.spent ≡ false) × (new.spent ≡ true) × DiskFailed old new
+  Rebases old layout base (Err (Refused NotAJournal)) new = ⊥
+  Rebases old layout base (Err (Refused Spent)) new = (old.spent ≡ true) × (new ≡ old)
+  Rebases old layout base (Err (Refused GenerationsSpent)) new = (old.spent ≡ false) × (old.generation ≡ 2 ^ 32 - 1) × (new ≡ old)
+  Rebases old layout base (Err NoMemory) new = (old.spent ≡ false) × (old.generation < 2 ^ 32 - 1) × (new.spent ≡ false) × SameDisks old new
       × (contents_of new ≡ contents_of old)

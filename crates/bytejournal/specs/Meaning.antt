@@ -1,8 +1,9 @@
--- What the bytes of two disks mean as a journal. The layout is our own.
+-- What the bytes of two disks mean as a journal. The format is our own.
 --
--- A disk is a gate, the letters EGGJ and the layout's number 1, a generation and a base's length (four bytes each, the
--- highest first), the base, and entries, each a gate, a length (four bytes) and as many bytes. A gate is open where it
--- is 1. The entries end at the first gate that is closed or missing, and what follows that doesn't count.
+-- A disk is a gate, the letters EGGJ, a byte that says by which layout the texts are spelled, a generation and a base's
+-- length (four bytes each, the highest first), the base, and entries, each a gate, a length (four bytes) and as many
+-- bytes. A gate is open where it is 1. The entries end at the first gate that is closed or missing, and what follows that
+-- doesn't count. Any layout is read: what a text means is for those above to say.
 use Rattle.std.specs.Prelude.{◌≡◌, ◌==◌, ◌+◌, ℕ, zero, suc, Option, None, Some, List, [], ◌∷◌, ◌++◌, length, take, drop, nat_le, nat_lt, if◌then◌else◌}
 use Rattle.std.specs.Int.{w32, from_be_bytes}
 use Rattle.std.specs.Str.{bytes_eq}
@@ -46,8 +47,9 @@ abbrev pub all_before : List (List ℕ) → Option (List (List ℕ)) → Option 
 all_before entries None = None
 all_before entries (Some more) = Some (entries ++ more)
 
--- what a journal holds: a base, and the entries appended since
+-- what a journal holds: a base, and the entries appended since, spelled by a layout
 pub record Contents : Type 0 where
+  pub layout : ℕ
   pub generation : ℕ
   pub base : List ℕ
   pub entries : List (List ℕ)
@@ -60,35 +62,41 @@ pub data Held : Type 0 where
 
 -- the contents with one entry more, and with several more
 abbrev pub added : List ℕ → Contents → Contents
-added entry contents = record { generation = contents.generation; base = contents.base; entries = contents.entries ++ (entry ∷ []) }
+added entry contents = record { layout = contents.layout; generation = contents.generation; base = contents.base; entries = contents.entries ++ (entry ∷ []) }
 
--- another base alone, in the next generation
-abbrev pub rebased : List ℕ → Contents → Contents
-rebased base contents = record { generation = contents.generation + 1; base = base; entries = [] }
+-- another base alone, spelled by this layout, in the next generation
+abbrev pub rebased : ℕ → List ℕ → Contents → Contents
+rebased layout base contents = record { layout = layout; generation = contents.generation + 1; base = base; entries = [] }
 
 abbrev pub extended : Contents → Option (List (List ℕ)) → Held
 extended contents None = Broken
-extended contents (Some entries) = Open (record { generation = contents.generation; base = contents.base; entries = contents.entries ++ entries })
+extended contents (Some entries) =
+    Open (record { layout = contents.layout; generation = contents.generation; base = contents.base; entries = contents.entries ++ entries })
 
-abbrev pub from_base : ℕ → Option (List ℕ × List ℕ) → Held
-from_base generation None = Broken
-from_base generation (Some base) = extended (record { generation = generation; base = base.0; entries = [] }) (entries_of base.1)
+abbrev pub from_base : ℕ → ℕ → Option (List ℕ × List ℕ) → Held
+from_base layout generation None = Broken
+from_base layout generation (Some base) =
+    extended (record { layout = layout; generation = generation; base = base.0; entries = [] }) (entries_of base.1)
 
-abbrev pub from_generation : Option (ℕ × List ℕ) → Held
-from_generation None = Broken
-from_generation (Some generation) = from_base generation.0 (sized generation.1)
-
--- the letters EGGJ, and the number of the layout
-abbrev pub layout : List ℕ
-layout = 69 ∷ 71 ∷ 71 ∷ 74 ∷ 1 ∷ []
+abbrev pub from_generation : ℕ → Option (ℕ × List ℕ) → Held
+from_generation layout None = Broken
+from_generation layout (Some generation) = from_base layout generation.0 (sized generation.1)
 
 abbrev pub from_layout : List ℕ → Held
-from_layout bytes = if bytes_eq (take 5 bytes) layout then from_generation (numbered (drop 5 bytes)) else Broken
+from_layout [] = Broken
+from_layout (layout ∷ rest) = from_generation layout (numbered rest)
+
+-- the letters EGGJ
+abbrev pub letters : List ℕ
+letters = 69 ∷ 71 ∷ 71 ∷ 74 ∷ []
+
+abbrev pub from_letters : List ℕ → Held
+from_letters bytes = if bytes_eq (take 4 bytes) letters then from_layout (drop 4 bytes) else Broken
 
 -- what a disk with these bytes holds
 abbrev pub held : List ℕ → Held
 held [] = Shut
-held (gate ∷ rest) = if gate == 1 then from_layout rest else Shut
+held (gate ∷ rest) = if gate == 1 then from_letters rest else Shut
 
 -- The contents that count: those of the disk with an open gate and the higher generation. None where no gate is open,
 -- where what follows an open one isn't a journal's, and where both are open with one generation.

@@ -16,15 +16,15 @@ use Rattle.bytejournal.specs.declared.reading.Found.{Found}
 use Rattle.bytejournal.specs.declared.reading.Reading.{Reading}
 use Rattle.std.specs.Int.{w32, to_be_bytes}
 use Rattle.bytejournal.specs.Gates.{with_gate, with_first}
-use Rattle.bytejournal.specs.Meaning.{Contents, Held, held, layout, meaning, IsWhole}
+use Rattle.bytejournal.specs.Meaning.{Contents, Held, held, letters, meaning, IsWhole}
 use Rattle.bytejournal.specs.Meaning.Held.{Shut, Open}
 use Rattle.bytejournal.specs.Reading.{Reads}
 use Rattle.bytejournal.specs.Writing.{IsSame}
 use Rattle.bytejournal.specs.Journal.{IsAtRest, contents_of, first_disk, second_disk}
 
 -- a new journal's contents
-abbrev pub new_contents : List ℕ → Contents
-new_contents base = record { generation = 1; base = base; entries = [] }
+abbrev pub new_contents : ℕ → List ℕ → Contents
+new_contents layout base = record { layout = layout; generation = 1; base = base; entries = [] }
 
 -- nothing was written: a read gives what it gave, and at each moment a crash leaves that
 pub record Untouched (old new : State) : Type 0 where
@@ -59,23 +59,23 @@ CannotCreate first second (Refused GenerationsSpent) first' second' = ⊥
 CannotCreate first second NoMemory first' second' = IsSame first first' × IsSame second second'
 
 -- what stands on a disk before its first closed gate, and the gate
-abbrev pub new_text : List ℕ → List ℕ
-new_text base = (layout ++ (to_be_bytes w32 1 ++ (to_be_bytes w32 (length base) ++ base))) ++ (0 ∷ [])
+abbrev pub new_text : ℕ → List ℕ → List ℕ
+new_text layout base = (letters ++ (layout ∷ (to_be_bytes w32 1 ++ (to_be_bytes w32 (length base) ++ base)))) ++ (0 ∷ [])
 
 -- writing a new journal, by cases on the answer
-abbrev pub WritesNew : State → State → List ℕ → Result (Unit {0}) (Failure JournalFault) → State → State → Type 0
-WritesNew first second base (Ok _) first' second' = (first'.seen ≡ with_gate (with_first first.seen 0) 0 (new_text base) 1)
+abbrev pub WritesNew : State → State → ℕ → List ℕ → Result (Unit {0}) (Failure JournalFault) → State → State → Type 0
+WritesNew first second layout base (Ok _) first' second' = (first'.seen ≡ with_gate (with_first first.seen 0) 0 (new_text layout base) 1)
     × (second'.seen ≡ with_first second.seen 0) × IsSettled first' × IsSettled second'
-WritesNew first second base (Err error) first' second' = CannotCreate first second error first' second'
+WritesNew first second layout base (Err error) first' second' = CannotCreate first second error first' second'
 
 -- what was found on the disk that doesn't count
 abbrev pub older_of : Found → Older
-older_of found = record { generation = found.generation; base = found.base; entries = found.entries }
+older_of found = record { layout = found.layout; generation = found.generation; base = found.base; entries = found.entries }
 
 -- what the disk holds that doesn't count
 abbrev pub held_older : Option Older → Held
 held_older None = Shut
-held_older (Some older) = Open (record { generation = older.generation; base = older.base; entries = older.entries })
+held_older (Some older) = Open (record { layout = older.layout; generation = older.generation; base = older.base; entries = older.entries })
 
 module _ {D : Type 0} where
   -- the journal that was found on the active disk, and what was found on the other one
@@ -86,6 +86,7 @@ module _ {D : Type 0} where
       idle = idle;
       swapped = swapped;
       idle_open = is_some older;
+      layout = found.layout;
       generation = found.generation;
       gate =
           found.gate;
@@ -103,7 +104,8 @@ module _ {D : Type 0} where
 module _ {D : Type 0} (state : D → State) where
   -- what an opened journal was found to hold
   abbrev pub contents_found : Opened D → Contents
-  contents_found opened = record { generation = opened.journal.generation; base = opened.base; entries = opened.entries }
+  contents_found opened =
+      record { layout = opened.journal.layout; generation = opened.journal.generation; base = opened.base; entries = opened.entries }
 
   -- The journal was opened on disks with these bytes. Where it is whole it is at rest.
   pub record IsOpened (first second : List ℕ) (opened : Opened D) : Type 0 where
@@ -137,10 +139,10 @@ module _ {D : Type 0} (state : D → State) where
       × Untouched (state first) (state returned.disks.first) × Untouched (state second) (state returned.disks.second)
 
   -- Making a journal, by cases on the answer.
-  abbrev pub Creates : D → D → List ℕ → Result (Journal D) (Returned D) → Type 0
-  Creates first second base (Ok journal) = (journal.spent ≡ false) × IsAtRest state journal × (contents_of state journal ≡ Some (new_contents base))
-      × (held (state journal.idle).seen ≡ Shut)
-  Creates first second base (Err returned) = CannotCreate (state first) (state second) returned.error (state returned.disks.first) (state returned.disks.second)
+  abbrev pub Creates : D → D → ℕ → List ℕ → Result (Journal D) (Returned D) → Type 0
+  Creates first second layout base (Ok journal) = (journal.spent ≡ false) × IsAtRest state journal
+      × (contents_of state journal ≡ Some (new_contents layout base)) × (held (state journal.idle).seen ≡ Shut)
+  Creates first second layout base (Err returned) = CannotCreate (state first) (state second) returned.error (state returned.disks.first) (state returned.disks.second)
 
   -- Opening a journal again on what a crash left of its disks.
   abbrev pub Restarts : Journal D → Result (Opened D) (Returned D) → Type 0

@@ -20,7 +20,7 @@ pub record HasEntries (bytes : List ℕ) (found : Entries) : Type 0 where
 -- the bytes are this journal's, up to a gate that isn't open
 pub record IsFound (bytes : List ℕ) (found : Found) : Type 0 where
   pub inside : found.gate ≤ length bytes
-  pub front : IsFront (take found.gate bytes) (record { generation = found.generation; base = found.base; entries = found.entries })
+  pub front : IsFront (take found.gate bytes) (record { layout = found.layout; generation = found.generation; base = found.base; entries = found.entries })
   pub ends : EndsAt bytes found.gate
 
 abbrev pub Reads : List ℕ → Reading → Type 0

@@ -80,17 +80,17 @@ module _ {D : Type 0} (state : D → State) where
     pub any_moment : old.spent ≡ false
         → AnyMoment state old new (IsEither (HoldsOne state old) (contents_of state old) (option_map (added entry) (contents_of state old)))
 
-  pub record Rebased (old : Journal D) (base : List ℕ) (result : Result (Unit {0}) (Failure JournalFault)) (new : Journal D) : Type 0 where
+  pub record Rebased (old : Journal D) (layout : ℕ) (base : List ℕ) (result : Result (Unit {0}) (Failure JournalFault)) (new : Journal D) : Type 0 where
     pub sound : IsSound state new
-    pub row : Rebases state old base result new
+    pub row : Rebases state old layout base result new
     pub any_moment : old.spent ≡ false
-        → AnyMoment state old new (IsEither (HoldsOne state old) (contents_of state old) (option_map (rebased base) (contents_of state old)))
+        → AnyMoment state old new (IsEither (HoldsOne state old) (contents_of state old) (option_map (rebased layout base) (contents_of state old)))
 
   -- a call that returned
   pub data Calls : Stage D → Stage D → Type 0 where
     append : {old new : Journal D} (entry : List ℕ) (result : Result (Unit {0}) (Failure JournalFault)) → Appended old entry result new
         → Calls (InProgram old) (InProgram new)
-    rebase : {old new : Journal D} (base : List ℕ) (result : Result (Unit {0}) (Failure JournalFault)) → Rebased old base result new
+    rebase : {old new : Journal D} (layout : ℕ) (base : List ℕ) (result : Result (Unit {0}) (Failure JournalFault)) → Rebased old layout base result new
         → Calls (InProgram old) (InProgram new)
     restart : {journal : Journal D} (result : Result (Opened D) (Returned D)) → Restarts state journal result
         → Calls (InProgram journal) (after_opening result)

@@ -20,6 +20,8 @@ pub struct Journal<D: Disk> {
     pub(crate) swapped: bool,
     /// Whether the gate at the idle disk's start stands open.
     pub(crate) idle_open: bool,
+    /// The layout by which the active disk's base and entries are spelled.
+    pub(crate) layout: u8,
     /// The active disk's generation.
     pub(crate) generation: u32,
     /// Where the closed gate stands that ends the active disk's entries.
@@ -29,7 +31,7 @@ pub struct Journal<D: Disk> {
 }
 
 impl<D: Disk> Journal<D> {
-    /// Appends an entry. At `Ok` it is acknowledged: from then on each crash leaves it.
+    /// Appends an entry, which is spelled by the journal's layout. At `Ok` it is acknowledged: from then on each crash leaves it.
     ///
     /// # Errors
     /// `Spent` where a disk failed before. `NoMemory` where room is refused: nothing was written. `DiskFault` where a
@@ -60,20 +62,21 @@ impl<D: Disk> Journal<D> {
         }
     }
 
-    /// Puts a base in the place of the base and its entries, in the next generation. At `Ok` it is acknowledged.
+    /// Puts a base, spelled by this layout, in the place of the base and its entries, in the next generation. At `Ok` it
+    /// is acknowledged.
     ///
     /// # Errors
     /// `Spent` where a disk failed before. `GenerationsSpent` where the generations are used up. `NoMemory` where room
     /// is refused: nothing was written. `DiskFault` where a disk failed in this call: the old base and entries count,
     /// or the new base alone, and the journal is spent.
-    pub fn rebase(&mut self, alloc: Global, base: &[u8]) -> Result<(), JournalError>
+    pub fn rebase(&mut self, alloc: Global, layout: u8, base: &[u8]) -> Result<(), JournalError>
         requires sound { IsSound D.state self.old }
         requires small { length base.now < 2 ^ 32 }
         ensures sound { IsSound D.state self.new }
-        ensures row { Rebases D.state self.old base.now result self.new }
+        ensures row { Rebases D.state self.old layout base.now result self.new }
         ensures any_moment { self.old.spent ≡ false → AnyMoment D.state self.old self.new
             (IsEither (HoldsOne D.state self.old) (contents_of D.state self.old)
-            (option_map (rebased base.now) (contents_of D.state self.old))) }
+            (option_map (rebased layout base.now) (contents_of D.state self.old))) }
     {
         if self.spent {
             return Err(Failure::Refused(JournalFault::Spent));
@@ -81,12 +84,13 @@ impl<D: Disk> Journal<D> {
         if self.generations_spent() {
             return Err(Failure::Refused(JournalFault::GenerationsSpent));
         }
-        let text = base_text(alloc, self.generation + 1, base)?;
+        let text = base_text(alloc, layout, self.generation + 1, base)?;
         match replace(&mut self.idle, self.idle_open, &text) {
             Ok(()) => {
                 mem::swap(&mut self.active, &mut self.idle);
                 self.swapped = !self.swapped;
                 self.idle_open = true;
+                self.layout = layout;
                 self.generation += 1;
                 self.gate = text.len();
                 Ok(())
@@ -113,5 +117,13 @@ impl<D: Disk> Journal<D> {
         ensures { result ≡ self.now.generation }
     {
         self.generation
+    }
+
+    /// The layout by which the active disk's base and entries are spelled: that of the last base that was put in place.
+    /// After a fault nothing is said of the answer.
+    pub fn layout(&self) -> u8
+        ensures { result ≡ self.now.layout }
+    {
+        self.layout
     }
 }

@@ -29,6 +29,8 @@ pub struct Disks<D: Disk> {
 /// What the disk that doesn't count holds where its gate stands open too: a base and entries of an earlier generation.
 #[derive(Drop)]
 pub struct Older {
+    /// The layout by which its base and entries are spelled.
+    pub layout: u8,
     pub generation: u32,
     pub base: Text,
     pub entries: Texts,
@@ -126,6 +128,7 @@ fn open_found<D: Disk>(
             idle,
             swapped,
             idle_open,
+            layout: found.layout,
             generation: found.generation,
             gate: found.gate,
             spent: false,
@@ -143,6 +146,7 @@ fn older_of(found: Option<Found>) -> Option<Older>
 {
     match found {
         Some(found) => Some(Older {
+            layout: found.layout,
             generation: found.generation,
             base: found.base,
             entries: found.entries,
@@ -166,14 +170,15 @@ fn write_new<D: Disk>(
     alloc: Global,
     first: &mut D,
     second: &mut D,
+    layout: u8,
     base: &[u8],
 ) -> Result<(), JournalError>
     requires first_settled { IsSettled (D.state first.old) }
     requires second_settled { IsSettled (D.state second.old) }
     requires small { length base.now < 2 ^ 32 }
-    ensures { WritesNew (D.state first.old) (D.state second.old) base.now result (D.state first.new) (D.state second.new) }
+    ensures { WritesNew (D.state first.old) (D.state second.old) layout base.now result (D.state first.new) (D.state second.new) }
 {
-    let text = base_text(alloc, 1, base)?;
+    let text = base_text(alloc, layout, 1, base)?;
     let Some(end) = end_after(0, &text) else {
         return Err(Failure::NoMemory);
     };
@@ -203,7 +208,7 @@ fn write_all<D: Disk>(first: &mut D, second: &mut D, text: &[u8]) -> Result<(), 
 }
 
 impl<D: Disk> Journal<D> {
-    /// Makes a journal with this base and no entry, in generation 1. What the disks held is lost.
+    /// Makes a journal with this base, spelled by this layout, and no entry, in generation 1. What the disks held is lost.
     ///
     /// # Errors
     /// With the disks: `NoMemory` where room is refused: nothing was written. `DiskFault` where a disk failed: what the
@@ -212,21 +217,23 @@ impl<D: Disk> Journal<D> {
         alloc: Global,
         first: D,
         second: D,
+        layout: u8,
         base: &[u8],
     ) -> Result<Journal<D>, Returned<D>>
         requires first_settled { IsSettled (D.state first) }
         requires second_settled { IsSettled (D.state second) }
         requires small { length base.now < 2 ^ 32 }
-        ensures { Creates D.state first second base.now result }
+        ensures { Creates D.state first second layout base.now result }
     {
         let mut first = first;
         let mut second = second;
-        match write_new(alloc, &mut first, &mut second, base) {
+        match write_new(alloc, &mut first, &mut second, layout, base) {
             Ok(()) => Ok(Journal {
                 active: first,
                 idle: second,
                 swapped: false,
                 idle_open: false,
+                layout,
                 generation: 1,
                 gate: START + base.len(),
                 spent: false,
@@ -238,7 +245,7 @@ impl<D: Disk> Journal<D> {
         }
     }
 
-    /// Opens the journal on two disks. Nothing is written.
+    /// Opens the journal on two disks, each by its own layout. Nothing is written.
     ///
     /// # Errors
     /// With the disks as they were: `DiskFault` where a read failed; `NotAJournal` where the disks don't hold a

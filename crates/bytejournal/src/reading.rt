@@ -6,10 +6,10 @@ ghost use Rattle.bytejournal.specs.Reading.{HasEntries, Reads};
 use bytetext::{NoMemory, Text, Texts};
 use std::alloc::Global;
 
-/// The letters that a journal's disk begins with, and the number of its layout.
-pub(crate) const LAYOUT: [u8; 5] = [b'E', b'G', b'G', b'J', 1];
+/// The letters that a journal's disk begins with, after its first gate.
+pub(crate) const LETTERS: [u8; 4] = [b'E', b'G', b'G', b'J'];
 
-/// How many bytes there are before a base: the gate, the layout, a generation and the base's length.
+/// How many bytes there are before a base: the gate, the letters, the layout, a generation and the base's length.
 pub(crate) const START: usize = 14;
 
 /// The entries after a base.
@@ -23,6 +23,8 @@ pub(crate) struct Entries {
 /// What an open disk holds.
 #[derive(Drop)]
 pub(crate) struct Found {
+    /// The layout by which the base and entries are spelled.
+    pub(crate) layout: u8,
     pub(crate) generation: u32,
     pub(crate) base: Text,
     pub(crate) entries: Texts,
@@ -99,7 +101,10 @@ pub(crate) fn read_disk(alloc: Global, bytes: &[u8]) -> Result<Reading, NoMemory
 fn read_open(alloc: Global, bytes: &[u8]) -> Result<Reading, NoMemory>
     ensures { IfOk result (Reads (1 ∷ bytes.now)) }
 {
-    let Some(rest) = bytes.strip_prefix(&LAYOUT) else {
+    let Some(rest) = bytes.strip_prefix(&LETTERS) else {
+        return Ok(Reading::Broken);
+    };
+    let Some((layout, rest)) = rest.split_first() else {
         return Ok(Reading::Broken);
     };
     let Some((generation, rest)) = number_front(rest) else {
@@ -114,6 +119,7 @@ fn read_open(alloc: Global, bytes: &[u8]) -> Result<Reading, NoMemory>
     let base = Text::from_slice(alloc, base)?;
     let gate = START + base.len() + found.gate;
     Ok(Reading::Open(Found {
+        layout: *layout,
         generation,
         base,
         entries: found.texts,

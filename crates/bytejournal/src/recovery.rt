@@ -14,8 +14,8 @@ use storage::Disk;
 pub fn laws_of_journals<D: Disk>()
     // From a `create` that was `Ok`, through any calls and through crashes at any moment of them: a journal that a
     // program holds may be called, and what a crash leaves on the disks is a journal.
-    ensures kept { (first second : D) (base : List ℕ) (journal : Journal D) (last : Stage D)
-        → Creates D.state first second base (Ok journal)
+    ensures kept { (first second : D) (layout : ℕ) (base : List ℕ) (journal : Journal D) (last : Stage D)
+        → Creates D.state first second layout base (Ok journal)
         → Lives D.state (Calls D.state) (InProgram journal) last → IsIntact D.state (IsSound D.state) IsJournal last }
     // So opening it never ends with `NotAJournal`, and finds all gates.
     ensures opened { (first second : D) (result : Result (Opened D) (Returned D))

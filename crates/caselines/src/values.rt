@@ -6,7 +6,8 @@ use std::alloc::Global;
 use usercodec::Record;
 use userfile::{Ban, Change, User};
 
-/// A change in the words of a script: its name, texts as they are, `*` for all channels, and letters or `-` for flags.
+/// A change in the words of a script: its name, texts as they are, `*` for all channels, letters or `-` for flags, and 1 or
+/// 0 for a mark.
 pub fn put_change(alloc: Global, change: &Change, out: &mut Sink) {
     match change {
         Change::AddUser { handle } => put_named(b"adduser", handle, out),
@@ -40,11 +41,16 @@ pub fn put_change(alloc: Global, change: &Change, out: &mut Sink) {
             put_made(creator, *expires, comment, out);
         }
         Change::DelBan { channel, mask } => put_masked(b"delban ", channel, mask.as_bytes(), out),
+        Change::SetInfo { handle, info } => put_two(b"info", handle, info, out),
+        Change::SetSticky { channel, mask, on } => {
+            put_masked(b"sticky ", channel, mask.as_bytes(), out);
+            out.put(if *on { b" 1" } else { b" 0" });
+        }
     }
 }
 
-/// A user as `user HANDLE GLOBAL BOT`, and behind commas `host MASK` and `chan CHANNEL FLAGS`; a ban as `ban CHANNEL MASK
-/// CREATOR EXPIRES COMMENT`.
+/// A user as `user HANDLE GLOBAL BOT`, and behind commas `host MASK`, `chan CHANNEL FLAGS` and, where there is one, `info
+/// TEXT`; a ban as `ban CHANNEL MASK CREATOR EXPIRES COMMENT`, or with `sticky` in front where it is so.
 pub fn put_record(alloc: Global, record: &Record, out: &mut Sink) {
     match record {
         Record::User(user) => put_user(alloc, user, out),
@@ -64,9 +70,14 @@ fn put_user(alloc: Global, user: &User, out: &mut Sink) {
         put_named(b", chan", &entry.channel, out);
         put_flags(alloc, entry.flags, out);
     }
+    if !user.info.is_empty() {
+        out.put(b", info ");
+        out.put(user.info.as_bytes());
+    }
 }
 
 fn put_ban(ban: &Ban, out: &mut Sink) {
+    out.put_if(ban.sticky, b"sticky ");
     put_masked(b"ban ", &ban.channel, ban.mask.as_bytes(), out);
     put_made(&ban.creator, ban.expires, &ban.comment, out);
 }

@@ -69,12 +69,12 @@ pub list_any-find : {X : Type 0} (p : X → Bool) (xs : List X) → list_any p x
 list_any-find p [] = refl
 list_any-find p (x ∷ xs) = any_step (p x) x xs p (list_any-find p xs)
 
-none-by : {X : Type 0} (o : Option X) → is_some o ≡ false → o ≡ None
-none-by None is = refl
-none-by (Some x) is = cc
+pub none-is : {X : Type 0} (o : Option X) → is_some o ≡ false → o ≡ None
+none-is None is = refl
+none-is (Some x) is = cc
 
 pub find-none : {X : Type 0} (p : X → Bool) (xs : List X) → list_any p xs ≡ false → find p xs ≡ None
-find-none p xs none = none-by (find p xs) (sym (list_any-find p xs) ∙ none)
+find-none p xs none = none-is (find p xs) (sym (list_any-find p xs) ∙ none)
 
 -- tests that agree find the same
 pub find-agree : {X : Type 0} (p q : X → Bool) → ((x : X) → p x ≡ q x) → (xs : List X) → find p xs ≡ find q xs

@@ -570,10 +570,6 @@ edited-seated edit nick ps es at m n o read is made indexed place =
 pub next_len : (o p : Option ℕ) (n k : ℕ) → k ≡ n + (if is_some o then 0 else 1) → o ≡ p → p ≡ None → k ≡ n + 1
 next_len o p n k is same none = is ∙ ap (λ q. n + (if is_some q then 0 else 1)) (same ∙ none)
 
-pub none-is : {X : Type 0} (o : Option X) → is_some o ≡ false → o ≡ None
-none-is None is = refl
-none-is (Some x) is = cc
-
 pub has-is : (nick : List ℕ) (ps : Places) (es : Entries) (o : Option ℕ) → AreIndexed ps es → o ≡ place_under (folded nick) es → is_some o ≡ true
     → list_any (is_called nick) (seated ps) ≡ true
 has-is nick ps es None indexed same is = cc

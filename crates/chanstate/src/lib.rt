@@ -11,7 +11,9 @@
 //!
 //! Which modes have an argument, and which signs stand before a nick in a list of names, is as the server announces it
 //! (RPL_ISUPPORT, numeric 005, its tokens PREFIX and CHANMODES), and until then as RFC 2812 says. The state keeps that
-//! in tables of a fixed size; a welcome forgets it.
+//! in tables of a fixed size; a welcome forgets it. Who reads a mode string byte by byte asks [`modes`] whether a byte is a
+//! single mode (`is_mode`) and which argument it has (`argument`), and what is left for the bytes after it (`next_sign`,
+//! `next_arguments`): at first modes are set, and all arguments are left.
 //!
 //! `apply` either takes a message in whole or leaves the state as it was. Who has other growths to make for a message calls
 //! its two halves: [`ChanState::ready`] makes all room that the message needs, or is refused, and then [`Update::commit`]
@@ -58,7 +60,7 @@ mod marks;
 mod meaning;
 mod member;
 mod members;
-mod modes;
+pub mod modes;
 mod names;
 mod newcomers;
 mod operations;
@@ -83,4 +85,5 @@ pub use crate::meaning::events;
 pub use crate::member::{Mark, Member};
 pub use crate::members::Members;
 pub use crate::state::ChanState;
+pub use crate::support::Support;
 pub use crate::update::{Made, Update};

@@ -50,6 +50,13 @@ impl ChanState {
         self.nick.as_bytes()
     }
 
+    /// What the server has announced of its channel modes. Takes no memory.
+    pub fn support(&self) -> &Support
+        ensures { result.now ≡ self.now.support }
+    {
+        &self.support
+    }
+
     /// Whether the bot is on the channel.
     pub fn holds(&self, channel: &[u8]) -> bool
         ensures { result ≡ is_held channel.now self.now.channels }

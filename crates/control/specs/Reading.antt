@@ -91,10 +91,12 @@ said_of (Some word.DelHost) spelling words = change_said word.DelHost spelling w
 said_of (Some word.DelUser) spelling words = change_said word.DelUser spelling words
 said_of (Some word.Die) spelling words = die_said words
 said_of (Some word.Global) spelling words = change_said word.Global spelling words
+said_of (Some word.Info) spelling words = change_said word.Info spelling words
 said_of (Some word.Jump) spelling words = alone word.Jump words command.Jump
 said_of (Some word.Say) spelling words = say_said words
 said_of (Some word.Show) spelling words = alone word.Show words command.Show
 said_of (Some word.Status) spelling words = alone word.Status words command.Status
+said_of (Some word.Sticky) spelling words = change_said word.Sticky spelling words
 said_of (Some word.Unbind) spelling words = unbind_said words
 
 -- the first word says what is asked for

@@ -3,7 +3,7 @@ use Rattle.std.specs.Prelude.{ℕ, List, [], ◌∷◌, Option, find, codes}
 use Rattle.std.specs.Str.{bytes_eq}
 use Rattle.control.specs.declared.word.Word.{Word}
 use Rattle.control.specs.declared.word.Word.TheVariants.{AddBan, AddHost, AddUser, Bind, Bot, Chan, Compact, DelBan, DelHost}
-use Rattle.control.specs.declared.word.Word.TheVariants.{DelUser, Die, Global, Jump, Say, Show, Status, Unbind}
+use Rattle.control.specs.declared.word.Word.TheVariants.{DelUser, Die, Global, Info, Jump, Say, Show, Status, Sticky, Unbind}
 
 abbrev pub spelling_of : Word → List ℕ
 spelling_of AddBan = codes "addban"
@@ -18,16 +18,18 @@ spelling_of DelHost = codes "delhost"
 spelling_of DelUser = codes "deluser"
 spelling_of Die = codes "die"
 spelling_of Global = codes "global"
+spelling_of Info = codes "info"
 spelling_of Jump = codes "jump"
 spelling_of Say = codes "say"
 spelling_of Show = codes "show"
 spelling_of Status = codes "status"
+spelling_of Sticky = codes "sticky"
 spelling_of Unbind = codes "unbind"
 
 abbrev pub all_words : List Word
 all_words =
-    AddBan ∷ AddHost ∷ AddUser ∷ Bind ∷ Bot ∷ Chan ∷ Compact ∷ DelBan ∷ DelHost ∷ DelUser ∷ Die ∷ Global ∷ Jump ∷ Say ∷ Show ∷ Status ∷
-    Unbind ∷ []
+    AddBan ∷ AddHost ∷ AddUser ∷ Bind ∷ Bot ∷ Chan ∷ Compact ∷ DelBan ∷ DelHost ∷ DelUser ∷ Die ∷ Global ∷ Info ∷ Jump ∷ Say ∷ Show ∷
+    Status ∷ Sticky ∷ Unbind ∷ []
 
 -- the word that is spelled so: no two are spelled alike
 abbrev pub word_named : List ℕ → Option Word

@@ -28,7 +28,7 @@ impl Display for Advice {
             Advice::Unknown => write!(
                 f,
                 "begin with addban, addhost, adduser, bind, bot, chan, compact, delban, delhost, deluser, die, global, \
-                 jump, say, show, status or unbind"
+                 info, jump, say, show, status, sticky or unbind"
             ),
             Advice::Form(word) => write!(f, "{}", form_of(word)),
         }
@@ -51,10 +51,13 @@ fn form_of(word: Word) -> &'static str {
         Word::DelUser => "say deluser HANDLE, as in deluser alice",
         Word::Die => "say die, and what the server is told after it, as in die back soon",
         Word::Global => "say global HANDLE FLAGS, as in global alice o",
+        Word::Info => "say info HANDLE TEXT, as in info alice I keep the eggs",
         Word::Jump => "say jump alone",
         Word::Say => "say say LINE, of at most 510 bytes, as in say PRIVMSG #egg :hello",
         Word::Show => "say show alone",
         Word::Status => "say status alone",
+        Word::Sticky =>
+            "say sticky CHANNEL MASK N, with N 1 or 0, as in sticky #egg *!*@spam.example 1",
         Word::Unbind => "say unbind TYPE PROC MASK, as in unbind pub echo !echo",
     }
 }

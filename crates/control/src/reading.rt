@@ -83,7 +83,9 @@ fn said_of(
         | Word::DelBan
         | Word::DelHost
         | Word::DelUser
-        | Word::Global => change_said(alloc, word, name, words),
+        | Word::Global
+        | Word::Info
+        | Word::Sticky => change_said(alloc, word, name, words),
         Word::Bind => bind_said(alloc, words),
         Word::Compact => alone(word, words, Command::Compact),
         Word::Die => die_said(alloc, words),

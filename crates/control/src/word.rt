@@ -29,6 +29,8 @@ pub enum Word {
     Die,
     /// A user's global flags are set.
     Global,
+    /// A user's info line is set.
+    Info,
     /// The bot leaves its server for the next.
     Jump,
     /// The server is told a line.
@@ -37,12 +39,14 @@ pub enum Word {
     Show,
     /// It is shown how the bot is.
     Status,
+    /// It is set whether a ban is sticky.
+    Sticky,
     /// A bind is taken away.
     Unbind,
 }
 
 // Every word.
-const ALL: [Word; 17] = [
+const ALL: [Word; 19] = [
     Word::AddBan,
     Word::AddHost,
     Word::AddUser,
@@ -55,10 +59,12 @@ const ALL: [Word; 17] = [
     Word::DelUser,
     Word::Die,
     Word::Global,
+    Word::Info,
     Word::Jump,
     Word::Say,
     Word::Show,
     Word::Status,
+    Word::Sticky,
     Word::Unbind,
 ];
 
@@ -80,10 +86,12 @@ impl Word {
             Word::DelUser => "deluser",
             Word::Die => "die",
             Word::Global => "global",
+            Word::Info => "info",
             Word::Jump => "jump",
             Word::Say => "say",
             Word::Show => "show",
             Word::Status => "status",
+            Word::Sticky => "sticky",
             Word::Unbind => "unbind",
         }
     }

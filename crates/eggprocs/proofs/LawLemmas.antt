@@ -1,13 +1,20 @@
 -- Who is not heeded, and what is asked for then.
-use Rattle.std.proofs.Common.{◌≡◌, ◌∙◌, ◌&&◌, ◌||◌, ◌∷◌, not, ℕ, List, [], Bool, true, false, refl, ap, codes, if◌then◌else◌, Option, Some, None}
-use Rattle.std.specs.List.{list_any}
+use Rattle.std.proofs.Common.{◌≡◌, ◌∙◌, ◌&&◌, ◌||◌, ◌==◌, ◌∷◌, not, ℕ, List, [], length, map, take, drop, Bool, true, false, refl, ap, codes, if◌then◌else◌, Option, Some, None}
+use Rattle.std.specs.Prelude.{is_some}
+use Rattle.std.proofs.lemmas.Slice.Eq.{bytes_eq-Decides}
+use Rattle.std.specs.List.{list_all, list_any}
 use Rattle.flagexpr.specs.Letters.{has_letter}
 use Rattle.userfile.specs.declared.change.Change.{Change}
 use Rattle.userfile.specs.declared.error.ChangeFault.{ChangeFault}
+use Rattle.userfile.specs.declared.ban.Ban.{Ban}
+use Rattle.userfile.specs.declared.user.User.{User}
 use Rattle.userfile.specs.Apply.{refusal}
+use Rattle.userfile.specs.Held.{has_user, user_of}
 use Rattle.userfile.specs.declared.flags.PersonFlags.{PersonFlags}
 use Rattle.procstore.specs.declared.action.Action.{Action}
+use Rattle.outqueue.specs.declared.queue.Queue.TheVariants.{Help}
 use Rattle.procstore.specs.declared.call.Call.{Call}
+use Rattle.procstore.specs.declared.limits.TheConstants.{MAX_ACTIONS}
 use Rattle.procstore.specs.declared.reply.Reply.{Reply}
 use Rattle.procstore.specs.Promises.{IsKept}
 use Rattle.procstore.specs.Seen.{Seen}
@@ -16,10 +23,13 @@ use Rattle.eggprocs.specs.declared.rights.Standing.{Standing}
 use Rattle.eggprocs.specs.declared.rights.Standing.TheVariants.{Elsewhere, Stranger, Master}
 use Rattle.eggprocs.specs.declared.which.Which.{Which}
 use Rattle.eggprocs.specs.declared.which.Which.TheVariants as which
-use Rattle.eggprocs.specs.Args.{told_of}
+use Rattle.eggprocs.specs.Args.{nick_of, handle_of, channel_of, told_of, or_else}
 use Rattle.eggprocs.specs.Bans.{asked_by_ban, asked_by_unban}
-use Rattle.eggprocs.specs.Channel.{asked_for_mode, asked_for_newcomer, change_for, asked_by_kick, asked_by_topic, asked_by_invite}
-use Rattle.eggprocs.specs.Laws.{Lacks, DoesNothing, AsksNoChange, is_ask, is_ask_for_owners}
+use Rattle.eggprocs.specs.Channel.{put, asked_for_mode, asked_for_newcomer, change_for, asked_by_kick, asked_by_topic, asked_by_invite}
+use Rattle.eggprocs.specs.Infos.{info_by, set_by, asked_by_known, greeting}
+use Rattle.eggprocs.specs.Laws.{Lacks, DoesNothing, AsksNoChange, is_ask, is_ask_for_owners, is_own, IsOnlyWithInfo}
+use Rattle.eggprocs.specs.Lines.{privmsg}
+use Rattle.eggprocs.specs.Marks.{stick, unstick, left_out, told_ban, told_bans, asked_by_bans}
 use Rattle.eggprocs.specs.People.{told, for_owners, is_for_owners, asked_unless, asked_by_master, asked_by_command, plus_user, minus_user, plus_host, minus_host, chattr, asked_by_whois}
 use Rattle.eggprocs.specs.Procs.{name_of, actions_by, actions_if, ours}
 use Rattle.eggprocs.specs.Rights.{has_flag, flags_by, is_bot_op, is_from_op, is_from_voice, is_join, is_pub, is_msg, global_by, is_owner, is_master, standing_if, standing_of}
@@ -185,6 +195,84 @@ pub whois-asks : (call : Call) (seen : Seen) → list_any is_ask (actions_by whi
 unfolding actions_by
 whois-asks call seen = whois-no-ask (is_msg call.kind) (is_master call seen) call seen
 
+pub stick-asks : (call : Call) (seen : Seen) → is_master call seen ≡ false → list_any is_ask (actions_by which.Stick call seen) ≡ false
+unfolding actions_by
+stick-asks call seen = stranger-asks call seen (codes "use stick MASK CHANNEL") (stick (told_of call))
+
+pub unstick-asks : (call : Call) (seen : Seen) → is_master call seen ≡ false → list_any is_ask (actions_by which.Unstick call seen) ≡ false
+unfolding actions_by
+unstick-asks call seen = stranger-asks call seen (codes "use unstick MASK CHANNEL") (unstick (told_of call))
+
+-- nor does `bans`
+lines-no-ask : (call : Call) (bans : List Ban) → list_any is_ask (map (told_ban call) bans) ≡ false
+lines-no-ask call [] = refl
+lines-no-ask call (ban ∷ bans) = lines-no-ask call bans
+
+told_bans-no-ask : (call : Call) (bans : List Ban) → list_any is_ask (told_bans call bans) ≡ false
+told_bans-no-ask call [] = refl
+told_bans-no-ask call (ban ∷ bans) = lines-no-ask call (ban ∷ bans)
+
+bans-no-ask : (told master : Bool) (call : Call) (seen : Seen) → list_any is_ask (asked_by_bans (standing_if told master) call seen) ≡ false
+bans-no-ask false master call seen = refl
+bans-no-ask true false call seen = refl
+bans-no-ask true true call seen = told_bans-no-ask call (take MAX_ACTIONS (drop (left_out (told_of call)) seen.sight.records.bans))
+
+pub bans-asks : (call : Call) (seen : Seen) → list_any is_ask (actions_by which.Bans call seen) ≡ false
+unfolding actions_by
+bans-asks call seen = bans-no-ask (is_msg call.kind) (is_master call seen) call seen
+
+-- ---- info lines
+
+-- a change of who calls, or none where it is refused, is of who calls
+own-unless : (fault : Option ChangeFault) (call : Call) → list_all (is_own call) (asked_unless fault call (set_by call)) ≡ true
+own-unless None call = ap (λ (own : Bool). own && true) ((bytes_eq-Decides (handle_of call) (handle_of call)).1 refl)
+own-unless (Some fault) call = refl
+
+own-known : (call : Call) (seen : Seen) (asks : Bool) → list_all (is_own call)
+    (if asks then told call (or_else (info_by call seen) (codes "you have no info line")) ∷ []
+    else asked_unless (refusal seen.sight.records (set_by call)) call (set_by call)) ≡ true
+own-known call seen true = refl
+own-known call seen false = own-unless (refusal seen.sight.records (set_by call)) call
+
+own-info : (other known : Bool) (call : Call) (seen : Seen) → list_all (is_own call)
+    (if other then [] else if known then asked_by_known call seen else told call (codes "you are not known here") ∷ []) ≡ true
+own-info true known call seen = refl
+own-info false true call seen = own-known call seen (length (told_of call) == 0)
+own-info false false call seen = refl
+
+pub info-own : (call : Call) (seen : Seen) (reply : Reply) → IsKept ours (codes "info") call seen reply → list_all (is_own call) reply.actions ≡ true
+unfolding actions_by
+info-own call seen reply kept =
+    ap (list_all (is_own call)) (actions-kept which.Info call seen reply kept)
+    ∙ own-info (not (is_msg call.kind)) (has_user (handle_of call) seen.sight.records.users) call seen
+
+-- who is not known is told so, and that is all
+unknown-asks : (other : Bool) (user : Option User) (call : Call) (seen : Seen) → user ≡ None → list_any is_ask
+    (if other then [] else if is_some user then asked_by_known call seen else told call (codes "you are not known here") ∷ []) ≡ false
+unknown-asks true user call seen none = refl
+unknown-asks false None call seen none = refl
+unknown-asks false (Some user) call seen none = cc
+
+pub info-unknown : (call : Call) (seen : Seen) → user_of (handle_of call) seen.sight.records.users ≡ None
+    → list_any is_ask (actions_by which.Info call seen) ≡ false
+unfolding actions_by
+info-unknown call seen none =
+    unknown-asks (not (is_msg call.kind)) (user_of (handle_of call) seen.sight.records.users) call seen none
+
+-- nobody is greeted who has no info line
+ungreeted : (joins : Bool) (call : Call) (info : List ℕ) → info ≡ []
+    → (if joins && not (length info == 0) then put Help (privmsg (channel_of call) (greeting (nick_of call) info)) ∷ [] else []) ≡ []
+ungreeted false call info none = refl
+ungreeted true call [] none = refl
+ungreeted true call (b ∷ bs) none = cc
+
+pub greet-none : (call : Call) (seen : Seen) → info_by call seen ≡ [] → actions_by which.Greet call seen ≡ []
+unfolding actions_by
+greet-none call seen none = ungreeted (is_join call.kind) call (info_by call seen) none
+
+pub greet-law : IsOnlyWithInfo (codes "greet")
+greet-law call seen none = does-nothing which.Greet call seen (greet-none call seen none)
+
 -- ---- what is for owners alone
 
 -- who is no owner has no change asked for that is for owners
@@ -241,3 +329,38 @@ pub chattr-is : (call : Call) (seen : Seen)
     → actions_by which.Chattr call seen ≡ asked_by_command (standing_of call seen) call seen (codes "use chattr HANDLE FLAGS") (chattr (told_of call))
 unfolding actions_by
 chattr-is call seen = refl
+
+pub stick-is : (call : Call) (seen : Seen)
+    → actions_by which.Stick call seen ≡ asked_by_command (standing_of call seen) call seen (codes "use stick MASK CHANNEL") (stick (told_of call))
+unfolding actions_by
+stick-is call seen = refl
+
+pub unstick-is : (call : Call) (seen : Seen)
+    → actions_by which.Unstick call seen ≡ asked_by_command (standing_of call seen) call seen (codes "use unstick MASK CHANNEL") (unstick (told_of call))
+unfolding actions_by
+unstick-is call seen = refl
+
+-- the info line of who is no owner is of no owner
+spared-unless : (call : Call) (seen : Seen) (fault : Option ChangeFault) → is_owner call seen ≡ false
+    → list_any (is_ask_for_owners seen) (asked_unless fault call (set_by call)) ≡ false
+spared-unless call seen None none = ap (λ (b : Bool). b || false) none
+spared-unless call seen (Some fault) none = refl
+
+spared-known : (call : Call) (seen : Seen) (asks : Bool) → is_owner call seen ≡ false → list_any (is_ask_for_owners seen)
+    (if asks then told call (or_else (info_by call seen) (codes "you have no info line")) ∷ []
+    else asked_unless (refusal seen.sight.records (set_by call)) call (set_by call)) ≡ false
+spared-known call seen true none = refl
+spared-known call seen false none = spared-unless call seen (refusal seen.sight.records (set_by call)) none
+
+spared-info : (other known : Bool) (call : Call) (seen : Seen) → is_owner call seen ≡ false → list_any (is_ask_for_owners seen)
+    (if other then [] else if known then asked_by_known call seen else told call (codes "you are not known here") ∷ []) ≡ false
+spared-info true known call seen none = refl
+spared-info false true call seen none = spared-known call seen (length (told_of call) == 0) none
+spared-info false false call seen none = refl
+
+pub info-spares : (call : Call) (seen : Seen) → is_owner call seen ≡ false → (reply : Reply) → IsKept ours (codes "info") call seen reply
+    → list_any (is_ask_for_owners seen) reply.actions ≡ false
+unfolding actions_by
+info-spares call seen none reply kept =
+    ap (list_any (is_ask_for_owners seen)) (actions-kept which.Info call seen reply kept)
+    ∙ spared-info (not (is_msg call.kind)) (has_user (handle_of call) seen.sight.records.users) call seen none

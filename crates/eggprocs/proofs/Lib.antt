@@ -1,2 +1,3 @@
+pub mod BanLines
 pub mod LawLemmas
 pub mod Names

@@ -1,7 +1,11 @@
 -- Who gets nothing done.
-use Rattle.std.specs.Prelude.{◌≡◌, ℕ, Bool, true, false, List, []}
-use Rattle.std.specs.List.{list_any}
+use Rattle.std.specs.Prelude.{◌≡◌, ℕ, Bool, true, false, List, [], None}
+use Rattle.std.specs.List.{list_all, list_any}
+use Rattle.std.specs.Str.{bytes_eq}
 use Rattle.flagexpr.specs.Letters.{has_letter}
+use Rattle.userfile.specs.declared.change.Change.{Change}
+use Rattle.userfile.specs.declared.change.Change.TheVariants.{AddUser, DelUser, AddHost, DelHost, SetGlobal, SetChan, SetBot, AddBan, DelBan, SetInfo, SetSticky}
+use Rattle.userfile.specs.Held.{user_of}
 use Rattle.procstore.specs.declared.action.Action.{Action}
 use Rattle.procstore.specs.declared.action.Action.TheVariants.{Ask, Timer, Utimer, KillTimer, SendBot, Put}
 use Rattle.procstore.specs.declared.call.Call.{Call}
@@ -9,6 +13,8 @@ use Rattle.procstore.specs.declared.reply.Reply.{Reply}
 use Rattle.procstore.specs.Promises.{IsKept}
 use Rattle.procstore.specs.Seen.{Seen}
 use Rattle.eggprocs.specs.declared.rights.TheConstants.{MASTER, OWNER}
+use Rattle.eggprocs.specs.Args.{handle_of}
+use Rattle.eggprocs.specs.Infos.{info_by}
 use Rattle.eggprocs.specs.People.{is_for_owners}
 use Rattle.eggprocs.specs.Procs.{ours}
 use Rattle.eggprocs.specs.Rights.{flags_by, global_by, is_bot_op}
@@ -70,3 +76,42 @@ IsOnlyForMasters name =
     (call : Call) (seen : Seen)
     → has_letter (global_by call seen) MASTER ≡ false → has_letter (global_by call seen) OWNER ≡ false
     → AsksNoChange name call seen
+
+-- ---- info lines
+
+-- a change of the info line of this handle's user
+abbrev pub is_info_of : List ℕ → Change → Bool
+is_info_of handle (SetInfo other info) = bytes_eq other handle
+is_info_of handle (AddUser other) = false
+is_info_of handle (DelUser other) = false
+is_info_of handle (AddHost other mask) = false
+is_info_of handle (DelHost other mask) = false
+is_info_of handle (SetGlobal other flags) = false
+is_info_of handle (SetChan other channel flags) = false
+is_info_of handle (SetBot other flags) = false
+is_info_of handle (AddBan channel mask creator expires comment) = false
+is_info_of handle (DelBan channel mask) = false
+is_info_of handle (SetSticky channel mask on) = false
+
+-- an action that asks for no change, or for one of the info line of who calls
+abbrev pub is_own : Call → Action → Bool
+is_own call (Ask change) = is_info_of (handle_of call) change
+is_own call (Timer wish) = true
+is_own call (Utimer wish) = true
+is_own call (KillTimer name) = true
+is_own call (SendBot wish) = true
+is_own call (Put wish) = true
+
+-- whatever the proc of this name answers, it asks for no change but of the info line of who calls
+abbrev pub ChangesOwnInfo : List ℕ → Type 0
+ChangesOwnInfo name =
+    (call : Call) (seen : Seen) (reply : Reply) → IsKept ours name call seen reply → list_all (is_own call) reply.actions ≡ true
+
+-- a proc asks for no change for who is not known
+abbrev pub IsOnlyForKnown : List ℕ → Type 0
+IsOnlyForKnown name =
+    (call : Call) (seen : Seen) → user_of (handle_of call) seen.sight.records.users ≡ None → AsksNoChange name call seen
+
+-- a proc does nothing for who has no info line
+abbrev pub IsOnlyWithInfo : List ℕ → Type 0
+IsOnlyWithInfo name = (call : Call) (seen : Seen) → info_by call seen ≡ [] → DoesNothing name call seen

@@ -5,7 +5,7 @@ use Rattle.flagexpr.specs.declared.fault.FlagFault.{FlagFault}
 use Rattle.flagexpr.specs.Faults.{flags_fault}
 use Rattle.flagexpr.specs.Letters.{has_letter, set_of, spelling}
 use Rattle.userfile.specs.declared.change.Change.{Change}
-use Rattle.userfile.specs.declared.change.Change.TheVariants.{AddUser, DelUser, AddHost, DelHost, SetGlobal, SetChan, SetBot, AddBan, DelBan}
+use Rattle.userfile.specs.declared.change.Change.TheVariants.{AddUser, DelUser, AddHost, DelHost, SetGlobal, SetChan, SetBot, AddBan, DelBan, SetInfo, SetSticky}
 use Rattle.userfile.specs.declared.error.ChangeFault.{ChangeFault}
 use Rattle.userfile.specs.declared.user.User.{User}
 use Rattle.userfile.specs.Apply.{refusal}
@@ -52,6 +52,8 @@ handle_in (SetChan handle channel flags) = handle
 handle_in (SetBot handle flags) = handle
 handle_in (AddBan channel mask creator expires comment) = []
 handle_in (DelBan channel mask) = []
+handle_in (SetInfo handle info) = handle
+handle_in (SetSticky channel mask on) = []
 
 abbrev pub makes_owner : Change → Bool
 makes_owner (SetGlobal handle flags) = has_letter flags OWNER
@@ -63,6 +65,8 @@ makes_owner (SetChan handle channel flags) = false
 makes_owner (SetBot handle flags) = false
 makes_owner (AddBan channel mask creator expires comment) = false
 makes_owner (DelBan channel mask) = false
+makes_owner (SetInfo handle info) = false
+makes_owner (SetSticky channel mask on) = false
 
 -- a change that makes an owner, or is of one
 abbrev pub is_for_owners : Change → Seen → Bool
@@ -120,10 +124,16 @@ spaced mask = codes " " ++ mask
 abbrev pub listed : List (List ℕ) → List ℕ
 listed masks = flat_map spaced masks
 
+-- an info line, where there is one
+abbrev pub info_text : List ℕ → List ℕ
+info_text [] = []
+info_text (b ∷ bs) = codes "; info: " ++ b ∷ bs
+
 -- what is said of a user
 abbrev pub described : Option User → List ℕ
 described None = codes "there is no such user"
-described (Some user) = user.handle ++ codes " has the flags " ++ spelling user.global ++ codes " and the hostmasks" ++ listed user.masks
+described (Some user) =
+    user.handle ++ codes " has the flags " ++ spelling user.global ++ codes " and the hostmasks" ++ listed user.masks ++ info_text user.info
 
 abbrev pub asked_by_whois : Standing → Call → Seen → List Action
 asked_by_whois Elsewhere call seen = []

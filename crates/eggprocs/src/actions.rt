@@ -8,6 +8,8 @@ use crate::basics::{asked_by_adduser, asked_by_echo, asked_by_tell, asked_by_tic
 use crate::channel::{
     asked_by_autoop, asked_by_invite, asked_by_kick, asked_by_topic, asked_for_mode,
 };
+use crate::infos::{asked_by_greet, asked_by_info};
+use crate::marks::{asked_by_bans, stick, unstick};
 use crate::people::{
     asked_by_command, asked_by_whois, chattr, minus_host, minus_user, plus_host, plus_user,
 };
@@ -65,5 +67,16 @@ pub(crate) fn actions_by(
             asked_by_command(alloc, call, view, b"use chattr HANDLE FLAGS", wish)
         }
         Which::Whois => asked_by_whois(alloc, call, view),
+        Which::Info => asked_by_info(alloc, call, view),
+        Which::Greet => asked_by_greet(alloc, call, view),
+        Which::Stick => {
+            let wish = stick(alloc, told_of(call))?;
+            asked_by_command(alloc, call, view, b"use stick MASK CHANNEL", wish)
+        }
+        Which::Unstick => {
+            let wish = unstick(alloc, told_of(call))?;
+            asked_by_command(alloc, call, view, b"use unstick MASK CHANNEL", wish)
+        }
+        Which::Bans => asked_by_bans(alloc, call, view),
     }
 }

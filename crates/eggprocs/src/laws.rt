@@ -1,6 +1,7 @@
 // Who gets nothing done.
 ghost use Rattle.std.specs.Prelude.{codes};
 ghost use Rattle.eggprocs.specs.Laws.{IsOnlyFor, IsOnlyForEither, IsOnlyByOps, IsOnlyForMasters, SparesOwners};
+ghost use Rattle.eggprocs.specs.Laws.{ChangesOwnInfo, IsOnlyForKnown, IsOnlyWithInfo};
 
 use crate::rights::{AUTO_OP, AUTO_VOICE, OP, VOICE};
 
@@ -43,6 +44,9 @@ pub fn changes_want_a_master()
     ensures minus_host { IsOnlyForMasters (codes "-host") }
     ensures chattr { IsOnlyForMasters (codes "chattr") }
     ensures whois { IsOnlyForMasters (codes "whois") }
+    ensures stick { IsOnlyForMasters (codes "stick") }
+    ensures unstick { IsOnlyForMasters (codes "unstick") }
+    ensures bans { IsOnlyForMasters (codes "bans") }
 {}
 
 /// A law, and no more: who does not have the flag `n` everywhere makes nobody an owner by these, and changes no owner: a
@@ -53,4 +57,19 @@ pub fn changes_of_owners_want_an_owner()
     ensures plus_host { SparesOwners (codes "+host") }
     ensures minus_host { SparesOwners (codes "-host") }
     ensures chattr { SparesOwners (codes "chattr") }
+    ensures info { SparesOwners (codes "info") }
+    ensures stick { SparesOwners (codes "stick") }
+    ensures unstick { SparesOwners (codes "unstick") }
+{}
+
+/// A law, and no more: `info` asks for no change but of the info line of who calls, and for none where the userfile does
+/// not know who calls.
+pub fn info_is_of_who_asks()
+    ensures own { ChangesOwnInfo (codes "info") }
+    ensures known { IsOnlyForKnown (codes "info") }
+{}
+
+/// A law, and no more: `greet` does nothing for who has no info line, as nobody has whom the userfile does not know.
+pub fn greetings_want_an_info()
+    ensures greet { IsOnlyWithInfo (codes "greet") }
 {}

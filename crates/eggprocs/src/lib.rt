@@ -21,6 +21,7 @@
 //! | `invite` | `pub` | `o` | NICK | `INVITE NICK CHANNEL` |
 //! | `ban` | `pub` | `o` | MASK MINUTES COMMENT | the ban in the userfile, `MODE CHANNEL +b MASK`, and a call of `lift` when it ends |
 //! | `unban` | `pub` | `o` | MASK | its end in the userfile, and `MODE CHANNEL -b MASK` |
+//! | `greet` | `join` | | | `PRIVMSG CHANNEL :[NICK] INFO` of who joins and has an info line, whether the bot is an operator or not |
 //!
 //! `lift` is for the timer that `ban` asks for: with the text CHANNEL MASK it asks for `MODE CHANNEL -b MASK`. A restart
 //! loses timers, as any bot's; the userfile's ban ends all the same.
@@ -28,7 +29,7 @@
 //! A ban ends so many minutes after the second that the bot's clock shows. Where no number of minutes below 2^32 follows the
 //! mask, or the clock shows no second yet, it does not end. The comment is what follows, as far as 100 bytes. What lacks its
 //! nick, its text or a hostmask does nothing. Modes and kicks go into the mode queue, topics and invitations into the server
-//! queue.
+//! queue, greetings into the help queue. Who has no info line is not greeted ([`greetings_want_an_info`]).
 //!
 //! Privately, by who has one of the flags `m` and `n` everywhere; anyone else is told so, and gets no change
 //! ([`changes_want_a_master`]). Who has `m` alone makes nobody an owner, who has the flag `n`, and changes no owner
@@ -39,10 +40,20 @@
 //! | `+user`, `-user` | `msg` | HANDLE | that a user is added, or goes |
 //! | `+host`, `-host` | `msg` | HANDLE MASK | that a user gets a hostmask, or loses it |
 //! | `chattr` | `msg` | HANDLE FLAGS | that these are the flags that a user has everywhere; `-` for none |
-//! | `whois` | `msg` | HANDLE | no change: it says the flags that a user has everywhere, and the hostmasks |
+//! | `whois` | `msg` | HANDLE | no change: it says the flags that a user has everywhere, the hostmasks, and the info line if there is one |
+//! | `stick`, `unstick` | `msg` | MASK CHANNEL | that the ban of this mask is sticky, or not: of the channel, or of all channels where none is named |
+//! | `bans` | `msg` | NUMBER or none | no change: it says at most eight bans, from that number on, counted from 1, and which are sticky |
+//!
+//! Privately, by whom the userfile knows; anyone else is told so. No info line is changed but that of who asks
+//! ([`info_is_of_who_asks`]):
+//!
+//! | Proc | Kind | Words | It asks for |
+//! |---|---|---|---|
+//! | `info` | `msg` | TEXT or none | that this is the own info line, or an empty one for the text `none`; without a text it says the own info line |
 //!
 //! Each answers with one NOTICE to the nick, in the help queue: how it is used where a word is missing, the code of the
-//! refusal where the records refuse the change as they are, and else that the change waits for the next pump.
+//! refusal where the records refuse the change as they are, and else that the change waits for the next pump. `bans` has a
+//! NOTICE for each ban.
 //!
 //! To try things out with, whoever calls:
 //!
@@ -67,8 +78,10 @@ mod bans;
 mod basics;
 mod body;
 mod channel;
+mod infos;
 mod laws;
 mod lines;
+mod marks;
 mod pairs;
 mod people;
 mod procs;
@@ -80,7 +93,7 @@ pub use crate::bans::UTIMER_MINUTES;
 pub use crate::body::EggProc;
 pub use crate::laws::{
     changes_of_owners_want_an_owner, changes_want_a_master, commands_want_an_operator,
-    commands_want_flags,
+    commands_want_flags, greetings_want_an_info, info_is_of_who_asks,
 };
 pub use crate::procs::store;
 pub use crate::promise::Ours;

@@ -2,7 +2,7 @@
 ghost use Rattle.std.specs.Prelude.{◌≡◌, ◌++◌, ◌∷◌, [], IfOk};
 ghost use Rattle.std.specs.Option.{option_copied};
 ghost use Rattle.eggprocs.specs.People.{handle_in, makes_owner, is_for_owners};
-ghost use Rattle.eggprocs.specs.People.{told, asked_by_command, asked_by_master, asked_unless, plus_user, minus_user, plus_host, minus_host, chattr, listed, described, asked_by_whois};
+ghost use Rattle.eggprocs.specs.People.{told, asked_by_command, asked_by_master, asked_unless, plus_user, minus_user, plus_host, minus_host, chattr, listed, info_text, described, asked_by_whois};
 ghost use Rattle.eggprocs.specs.Args.{told_of};
 ghost use Rattle.eggprocs.specs.Rights.{standing_of};
 ghost use Rattle.chanstate.specs.Speech.{first_word};
@@ -20,13 +20,13 @@ use std::alloc::Global;
 use userfile::{Change, ChangeFault, Hostmask, User};
 
 // What a stranger is told.
-const FOR_MASTERS: &[u8] = b"only masters and owners may do that";
+pub(crate) const FOR_MASTERS: &[u8] = b"only masters and owners may do that";
 
 // What a master is told who is no owner.
 const FOR_OWNERS: &[u8] = b"only owners may do that";
 
 // Who calls is told something.
-fn told(alloc: Global, call: &Call, words: &[u8]) -> Result<Action, NoMemory>
+pub(crate) fn told(alloc: Global, call: &Call, words: &[u8]) -> Result<Action, NoMemory>
     ensures { IfOk result (λ action. action ≡ told call.now words.now) }
 {
     let line = notice(alloc, nick_of(call), words)?;
@@ -35,7 +35,7 @@ fn told(alloc: Global, call: &Call, words: &[u8]) -> Result<Action, NoMemory>
 }
 
 // Who calls is told something, and that is all.
-fn only_told(alloc: Global, call: &Call, words: &[u8]) -> Result<Actions, NoMemory>
+pub(crate) fn only_told(alloc: Global, call: &Call, words: &[u8]) -> Result<Actions, NoMemory>
     ensures { IfOk result (λ actions. actions ≡ told call.now words.now ∷ []) }
 {
     let action = told(alloc, call, words)?;
@@ -106,7 +106,9 @@ fn makes_owner(change: &Change) -> bool
         | Change::SetChan { .. }
         | Change::SetBot { .. }
         | Change::AddBan { .. }
-        | Change::DelBan { .. } => false,
+        | Change::DelBan { .. }
+        | Change::SetInfo { .. }
+        | Change::SetSticky { .. } => false,
     }
 }
 
@@ -125,13 +127,14 @@ fn handle_in(change: &Change) -> &[u8]
             channel: _,
             flags: _,
         }
-        | Change::SetBot { handle, flags: _ } => handle.as_bytes(),
-        Change::AddBan { .. } | Change::DelBan { .. } => b"",
+        | Change::SetBot { handle, flags: _ }
+        | Change::SetInfo { handle, info: _ } => handle.as_bytes(),
+        Change::AddBan { .. } | Change::DelBan { .. } | Change::SetSticky { .. } => b"",
     }
 }
 
 // A change is asked for, or it is told why the userfile does not take it.
-fn asked_unless(
+pub(crate) fn asked_unless(
     alloc: Global,
     fault: Option<ChangeFault>,
     call: &Call,
@@ -256,7 +259,20 @@ fn described(alloc: Global, user: Option<&User>) -> Result<Text, NoMemory>
     words.extend_from_slice(flags.as_bytes())?;
     words.extend_from_slice(b" and the hostmasks")?;
     words.extend_from_slice(masks.as_bytes())?;
+    words.extend_from_slice(info_text(alloc, user.info.as_bytes())?.as_bytes())?;
     Ok(Text::new(words))
+}
+
+// An info line, where there is one.
+fn info_text(alloc: Global, info: &[u8]) -> Result<Text, NoMemory>
+    ensures { IfOk result (λ text. text ≡ info_text info.now) }
+{
+    if info.is_empty() {
+        return Ok(Text::empty(alloc));
+    }
+    let mut text = Vec::from_slice(alloc, b"; info: ")?;
+    text.extend_from_slice(info)?;
+    Ok(Text::new(text))
 }
 
 // The hostmasks, each after a space.

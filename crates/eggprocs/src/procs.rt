@@ -16,8 +16,15 @@ use std::alloc::Global;
 pub fn store(alloc: Global) -> Result<ProcStore<Ours, EggProc>, NoMemory>
     ensures { IfOk result (λ store. store ≡ map name_of every) }
 {
+    store_of(alloc, &EVERY)
+}
+
+// A store of these procs, in this order.
+fn store_of(alloc: Global, procs: &[Which]) -> Result<ProcStore<Ours, EggProc>, NoMemory>
+    ensures { IfOk result (λ store. store ≡ map name_of procs.now) }
+{
     let mut store = ProcStore::new(alloc);
-    for which in &EVERY {
+    for which in procs {
         add(alloc, &mut store, *which)?;
     }
     Ok(store)

@@ -51,7 +51,7 @@ pub(crate) fn is_join(kind: Kind) -> bool
 }
 
 // Whether a call is for the first word of what is said to the bot.
-fn is_msg(kind: Kind) -> bool
+pub(crate) fn is_msg(kind: Kind) -> bool
     ensures { result ≡ is_msg kind }
 {
     matches!(kind, Kind::Msg)

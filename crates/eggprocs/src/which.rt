@@ -5,7 +5,7 @@ ghost use Rattle.eggprocs.specs.Procs.{name_of, every, code_by};
 use procstore::Code;
 
 /// How many procs there are.
-pub const PROC_COUNT: usize = 23;
+pub const PROC_COUNT: usize = 28;
 
 /// Every proc, in the order in which [`store`](crate::store) adds them.
 pub const EVERY: [Which; PROC_COUNT] = [
@@ -32,6 +32,11 @@ pub const EVERY: [Which; PROC_COUNT] = [
     Which::MinusHost,
     Which::Chattr,
     Which::Whois,
+    Which::Info,
+    Which::Greet,
+    Which::Stick,
+    Which::Unstick,
+    Which::Bans,
 ];
 
 /// A proc of the programs. The crate's first page says what each is for.
@@ -83,6 +88,16 @@ pub enum Which {
     Chattr,
     /// `whois`: says who a user is.
     Whois,
+    /// `info`: says the own info line, or asks for another one.
+    Info,
+    /// `greet`: says the info line of who joins.
+    Greet,
+    /// `stick`: asks that a ban is sticky.
+    Stick,
+    /// `unstick`: the reverse of `stick`.
+    Unstick,
+    /// `bans`: says which bans there are.
+    Bans,
 }
 
 impl Which {
@@ -114,6 +129,11 @@ impl Which {
             Which::MinusHost => b"-host",
             Which::Chattr => b"chattr",
             Which::Whois => b"whois",
+            Which::Info => b"info",
+            Which::Greet => b"greet",
+            Which::Stick => b"stick",
+            Which::Unstick => b"unstick",
+            Which::Bans => b"bans",
         }
     }
 
@@ -145,7 +165,12 @@ impl Which {
             | Which::PlusHost
             | Which::MinusHost
             | Which::Chattr
-            | Which::Whois => Code::Zero,
+            | Which::Whois
+            | Which::Info
+            | Which::Greet
+            | Which::Stick
+            | Which::Unstick
+            | Which::Bans => Code::Zero,
         }
     }
 }

@@ -1,70 +1,59 @@
 -- What the procs of this program promise.
-use Rattle.std.specs.Prelude.{◌≡◌, ℕ, List, [], ◌∷◌, ◌++◌, slice_get, unwrap_or, if◌then◌else◌, codes, Result, Bool, true, false, ◌||◌}
+use Rattle.std.specs.Prelude.{◌≡◌, ℕ, ◌==◌, ◌||◌, List, [], ◌∷◌, length, if◌then◌else◌, codes, Option, Some, None}
 use Rattle.std.specs.Str.{bytes_eq}
-use Rattle.bytetext.specs.declared.memory.NoMemory.{NoMemory}
-use Rattle.flagexpr.specs.Letters.{has_letter}
-use Rattle.userfile.specs.declared.change.Change.TheVariants.{AddUser}
-use Rattle.userfile.specs.declared.flags.PersonFlags.{PersonFlags}
-use Rattle.userfile.specs.Persons.{flags_of}
-use Rattle.outqueue.specs.declared.queue.Queue.TheVariants.{Mode}
+use Rattle.userfile.specs.Persons.{info_of}
+use Rattle.outqueue.specs.declared.queue.Queue.TheVariants.{Mode, Help}
 use Rattle.procstore.specs.declared.action.Action.{Action}
-use Rattle.procstore.specs.declared.action.Action.TheVariants.{Ask, Put}
 use Rattle.procstore.specs.declared.call.Call.{Call}
-use Rattle.procstore.specs.declared.reply.Code.{Code}
-use Rattle.procstore.specs.declared.reply.Code.TheVariants.{Zero, One}
+use Rattle.procstore.specs.declared.reply.Code.TheVariants.{Zero}
 use Rattle.procstore.specs.declared.reply.Reply.{Reply}
-use Rattle.procstore.specs.Promises.{KeepsPromise, Promised, promised}
-use Rattle.procstore.specs.Seen.{Sight, Seen}
+use Rattle.procstore.specs.Promises.{Promised, promised}
+use Rattle.procstore.specs.Seen.{Seen}
+use Rattle.examplebot.specs.Asking.{nick_of, handle_of, channel_of, mask_of, has_o, is_op, second_after, put, put_after, put_later, ban}
 
--- an argument of a call, and the empty text where it has none at this place
-abbrev pub arg_at : Call → ℕ → List ℕ
-arg_at call place = unwrap_or (slice_get call.args place) []
+-- who joins with the flag o gets op
+abbrev pub op : Call → Seen → List Action
+op call seen =
+    if has_o call seen then put Mode (codes "MODE " ∷ channel_of call ∷ codes " +o " ∷ nick_of call ∷ []) ∷ [] else []
 
--- `welcome` answers 0, and asks for a user named as whoever wrote: the nick is the first argument
-abbrev pub welcomed : Call → Reply
-welcomed call = record { code = Zero; actions = Ask (AddUser (arg_at call 0)) ∷ [] }
+-- nobody is banned before the clock's first reading, and else until this second
+abbrev pub banned_until : Option ℕ → Call → List Action
+banned_until None call = []
+banned_until (Some end) call =
+    ban (channel_of call) (mask_of call) end (codes "mind your words") ∷
+    put Mode (codes "MODE " ∷ channel_of call ∷ codes " +b " ∷ mask_of call ∷ []) ∷
+    put Mode (codes "KICK " ∷ channel_of call ∷ codes " " ∷ nick_of call ∷ codes " :mind your words" ∷ []) ∷
+    put_after 600 (codes "MODE " ∷ channel_of call ∷ codes " -b " ∷ mask_of call ∷ []) ∷ []
 
--- `hush` answers 1, and asks for nothing
-abbrev pub hushed : Reply
-hushed = record { code = One; actions = [] }
+-- who says a bad word is banned for 600 seconds, save ops and who has the flag o
+abbrev pub badword : Call → Seen → List Action
+badword call seen = if is_op call seen || has_o call seen then [] else banned_until (second_after 600 seen.second) call
 
--- whether the flag o is among a person's flags, everywhere or on the channel
-abbrev pub has_o : PersonFlags → Bool
-has_o flags = has_letter flags.global 111 || has_letter flags.chan 111
+-- the info line of who joins
+abbrev pub info : Call → Seen → List ℕ
+info call seen = info_of seen.sight.records.users (handle_of call)
 
--- whether who joined has it: the handle and the channel are the third and the fourth argument
-abbrev pub is_op : Call → Sight → Bool
-is_op call sight = has_o (flags_of sight.records.users (arg_at call 2) (arg_at call 3))
+-- who joins with an info line is greeted by it, save the bot
+abbrev pub greet : Call → Seen → List Action
+greet call seen =
+    if length (info call seen) == 0 || bytes_eq (nick_of call) seen.sight.channels.nick then []
+    else put Help (codes "PRIVMSG " ∷ channel_of call ∷ codes " :[" ∷ nick_of call ∷ codes "] " ∷ info call seen ∷ []) ∷ []
 
--- MODE CHANNEL +o NICK
-abbrev pub op_line : List ℕ → List ℕ → List ℕ
-op_line channel nick = codes "MODE " ++ channel ++ codes " +o " ++ nick
+-- ---- by name
 
-abbrev pub asked_by_op : Bool → Call → List Action
-asked_by_op true call = Put (record { queue = Mode; line = op_line (arg_at call 3) (arg_at call 0) }) ∷ []
-asked_by_op false call = []
+-- what a proc of this name asks for
+abbrev pub actions_of : List ℕ → Call → Seen → List Action
+actions_of name call seen =
+    if bytes_eq name (codes "op") then op call seen
+    else if bytes_eq name (codes "badword") then badword call seen
+    else if bytes_eq name (codes "greet") then greet call seen
+    else if bytes_eq name (codes "put_later") then put_later call
+    else []
 
--- `op` answers 0, and has the server give who joined an op, if that is one with the flag o
-abbrev pub opped : Call → Sight → Reply
-opped call sight = record { code = Zero; actions = asked_by_op (is_op call sight) call }
+-- what it answers
+abbrev pub reply_of : List ℕ → Call → Seen → Reply
+reply_of name call seen = record { code = Zero; actions = actions_of name call seen }
 
--- what a proc of this name answers to a call, by the records and channels that it sees: its code and its actions; the store
--- has no others
-abbrev pub reply_of : List ℕ → Call → Sight → Reply
-reply_of name call sight =
-    if bytes_eq name (codes "welcome") then welcomed call
-    else if bytes_eq name (codes "op") then opped call sight
-    else hushed
-
-abbrev pub code_of : List ℕ → Call → Sight → Code
-code_of name call sight = (reply_of name call sight).code
-
-abbrev pub may : List ℕ → Call → Seen → List Action → Type 0
-may name call seen actions = actions ≡ (reply_of name call seen.sight).actions
-
+-- that code, and just these actions
 abbrev pub ours : Promised
-ours = promised code_of may
-
--- a body keeps the promise of this name, or lacks memory
-abbrev pub Keeps : List ℕ → (Call → Seen → Result Reply NoMemory → Type 0) → Type 0
-Keeps name answers = KeepsPromise ours name answers
+ours = promised (λ name call sight. Zero) (λ name call seen actions. actions ≡ actions_of name call seen)

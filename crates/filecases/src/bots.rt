@@ -2,6 +2,7 @@
 ghost use Rattle.std.specs.Prelude.{◌≡◌, IfSome, IfOk};
 ghost use Rattle.botfolder.specs.Folders.{AreCopies, AreReady};
 
+use crate::LAYOUT;
 use crate::seen::{Seen, done, yes};
 use botfolder::{Begun, BotFolder, FolderError, FolderFault, Stopped, read_stopped};
 use bytejournal::Journal;
@@ -175,7 +176,7 @@ fn is_made<R: AllocGlobal + Files<File = File>>(
 ) -> bool {
     match folder.begin(rt) {
         Ok(Begun::Empty(disks)) => {
-            let journal = Journal::create(rt.alloc(), disks.first, disks.second, b"a base");
+            let journal = Journal::create(rt.alloc(), disks.first, disks.second, LAYOUT, b"a base");
             journal.is_ok() && (!is_named || folder.finish(rt).is_ok())
         }
         Ok(Begun::Found(_)) | Err(_) => false,

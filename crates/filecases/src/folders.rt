@@ -1,6 +1,7 @@
 // A journal that is made in a folder, which then gets its name.
 ghost use Rattle.std.specs.Prelude.{◌≡◌, []};
 
+use crate::LAYOUT;
 use crate::names::{is_mode, pair_opened};
 use crate::seen::{Seen, word_of, yes};
 use bytejournal::Journal;
@@ -35,7 +36,7 @@ fn new_journal<R: AllocGlobal + Files<File = File>>(rt: &R) -> Option<Journal<Fi
     let Ok(pair) = Pair::make(rt, "bot/new/first", "bot/new/second") else {
         return None;
     };
-    match Journal::create(rt.alloc(), pair.first, pair.second, b"a base") {
+    match Journal::create(rt.alloc(), pair.first, pair.second, LAYOUT, b"a base") {
         Ok(journal) => Some(journal),
         Err(_) => None,
     }

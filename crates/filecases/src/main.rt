@@ -30,6 +30,9 @@ use std::io;
 use std::io::Write;
 use std::rt::Files;
 
+/// The layout of the journals that are made here, whose texts are read as they are.
+const LAYOUT: u8 = 2;
+
 fn main(rt: HostRuntime) -> anyhow::Result<()> {
     tidy(&rt);
     let mut seen = Seen::new(rt.alloc());

@@ -3,6 +3,7 @@ ghost use Rattle.std.specs.Prelude.{◌<◌};
 ghost use Rattle.storage.specs.State.{IsSettled};
 ghost use Rattle.disks.specs.Memory.{state_of};
 
+use crate::LAYOUT;
 use crate::seen::Seen;
 use bytejournal::{Disks, Journal};
 use disks::{MemDisk, Tear};
@@ -68,7 +69,7 @@ fn next_start(alloc: Global, first: MemDisk, second: MemDisk) -> &'static str
     requires first { IsSettled (state_of first) }
     requires second { IsSettled (state_of second) }
 {
-    match Journal::create(alloc, first, second, b"a base") {
+    match Journal::create(alloc, first, second, LAYOUT, b"a base") {
         Ok(_) => "not stopped",
         Err(returned) => started(alloc, crashed(returned.disks)),
     }
@@ -102,7 +103,7 @@ fn made_anew(alloc: Global, disks: Disks<MemDisk>) -> &'static str
     requires first { IsSettled (state_of disks.first) }
     requires second { IsSettled (state_of disks.second) }
 {
-    match Journal::create(alloc, disks.first, disks.second, b"a base") {
+    match Journal::create(alloc, disks.first, disks.second, LAYOUT, b"a base") {
         Ok(_) => "made anew",
         Err(_) => "refused when it is made anew",
     }

@@ -8,10 +8,9 @@ use Rattle.botjournal.specs.declared.reply.Reply.{Reply}
 use Rattle.botjournal.specs.declared.reply.Answer.TheVariants.{Taken}
 use Rattle.protocol.specs.Notes.Note.{Served}
 use Rattle.protocol.specs.Packets.{Outgoing as Sent, AcceptedChange, own, answer_packet}
-use Rattle.protocol.specs.Packets.Packet.{Hello}
 use Rattle.protocol.specs.Numbers.{Place, item_at, place_of}
 use Rattle.protocol.specs.Bots.{How, Works, Row}
-use Rattle.protocol.specs.HubRules.{Hub, version_of, last_request, is_no_leaf, hello_served, request_placed, next_request, accepts, ask_served, hub_pumped_up, hub_received_up}
+use Rattle.protocol.specs.HubRules.{Hub, version_of, last_request, is_no_leaf, hello_served, hello_met, request_placed, next_request, accepts, ask_served, hub_pumped_up}
 use Rattle.linkcalls.specs.declared.answer.Answer.{Answer}
 use Rattle.linkcalls.specs.declared.error.LinkFault.{LinkFault}
 use Rattle.linkcalls.specs.Calls.{note_of, outgoings_of}
@@ -23,7 +22,7 @@ use Rattle.hublink.proofs.LinkLaws.{meets-answer, place-next}
 
 module _ (old : HubEnd) (leaf version : ℕ) where
   abbrev hello_row : How → Row Hub
-  hello_row how = hub_received_up old.leaves how old.bot (Hello leaf version)
+  hello_row how = hello_met old.leaves how old.bot leaf version
 
   abbrev sends : List Sent
   sends = hello_sends old.bot.kept leaf version (nat_lt version old.bot.kept.floor)

@@ -17,13 +17,10 @@ use Rattle.protocol.specs.Snapshots.{items_of, part_count, part_of}
 use Rattle.linkcalls.specs.declared.answer.Outgoing.{Outgoing}
 use Rattle.linkcalls.specs.Calls.{outgoing_of, outgoings_of}
 use Rattle.linkcalls.specs.Shapes.{HasGoodRecords, AreGood}
+use Rattle.linkcalls.proofs.OutgoingLemmas.{outgoings-append}
 use Rattle.hublink.specs.Link.{told_before, told_accepted, repeated}
 
 -- ---- one after another
-
-pub outgoings-append : (xs ys : List Outgoing) → outgoings_of (xs ++ ys) ≡ outgoings_of xs ++ outgoings_of ys
-outgoings-append [] ys = refl
-outgoings-append (x ∷ xs) ys = ap (λ l. outgoing_of x ∷ l) (outgoings-append xs ys)
 
 pub outgoings-length : (xs : List Outgoing) → length (outgoings_of xs) ≡ length xs
 outgoings-length [] = refl
@@ -109,7 +106,7 @@ parts-length hub leaf first (suc count) = ap suc (parts-length hub leaf (first +
 
 -- the packet has no records
 abbrev IsPlain : Packet → Type 0
-IsPlain (Hello leaf version) = Unit {0}
+IsPlain (Hello layout leaf version) = Unit {0}
 IsPlain (Change number origin request change) = Unit {0}
 IsPlain (Request leaf request change) = Unit {0}
 IsPlain (Accepted leaf request number) = Unit {0}
@@ -159,7 +156,7 @@ good-plain [] plain = tt
 good-plain (out ∷ packets) plain = (one out.packet plain.0, good-plain packets plain.1)
   where
     one : (packet : WirePacket) → IsPlain (from_wire packet) → HasGoodRecords packet
-    one (wire.Hello leaf version) is = tt
+    one (wire.Hello layout leaf version) is = tt
     one (wire.Change number origin request change) is = tt
     one (wire.Request leaf request change) is = tt
     one (wire.Accepted leaf request number) is = tt
@@ -186,7 +183,7 @@ good-take (suc n) (item ∷ items) good = (good.0, good-take n items good.1)
 -- a part of records of good shape
 part-good : (packet : WirePacket) (version part count : ℕ) (records : List Record) → from_wire packet ≡ Part version part count records
     → AllByRecursion IsGoodRecord records → HasGoodRecords packet
-part-good (wire.Hello leaf at) version part count records is good = tt
+part-good (wire.Hello layout leaf at) version part count records is good = tt
 part-good (wire.Change number origin request change) version part count records is good = tt
 part-good (wire.Request leaf request change) version part count records is good = tt
 part-good (wire.Accepted leaf request number) version part count records is good = tt

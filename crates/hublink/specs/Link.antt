@@ -5,12 +5,13 @@ use Rattle.userfile.specs.declared.change.Change.{Change}
 use Rattle.botjournal.specs.declared.reply.Reply.{Reply}
 use Rattle.botjournal.specs.declared.reply.Answer.TheVariants.{Taken}
 use Rattle.protocol.specs.Packets.{Outgoing, AcceptedChange, answer_packet, change_packet, to_each}
-use Rattle.protocol.specs.HubRules.{Hub, HubState, HubRecord, version_of, accepts, hub_folded, changes_from, all_parts}
+use Rattle.protocol.specs.HubRules.{Hub, HubState, HubRecord, Rebase, version_of, accepts, hub_folded, changes_from, all_parts}
 use Rattle.protocol.specs.Journals.{hub_meaning}
 use Rattle.protocol.specs.Bots.{How, Row}
 use Rattle.linkcalls.specs.declared.answer.Answer.{Answer}
 use Rattle.linkcalls.specs.declared.error.LinkFault.{LinkFault}
-use Rattle.linkstate.specs.Kept.{Kept, AreOf}
+use Rattle.linkstate.specs.Records.{HubMayWrite}
+use Rattle.linkstate.specs.Kept.{Kept, AreOf, Renews}
 use Rattle.linkstate.specs.Ends.{End, end_of, Calls as EndCalls, CallsRestart as EndRestarts}
 
 abbrev pub HubEnd : Type 0
@@ -19,6 +20,10 @@ HubEnd = End Hub
 -- bytes of two disks that are a hub's of so many leaves: they mean what it keeps, or that with the record in doubt
 abbrev pub IsOwn : ℕ → Hub → List ℕ → List ℕ → Type 0
 IsOwn leaves hub = AreOf (hub_meaning leaves) hub_folded hub.kept hub.doubt
+
+-- what becomes of a hub that is put anew: its state alone goes into the journal, which has a next generation
+abbrev pub RenewsHub : HubState → HubState → Type 0
+RenewsHub = Renews HubMayWrite hub_folded Rebase
 
 -- a hub's call meets its row
 abbrev pub Calls : HubEnd → (How → Row Hub) → Result Answer (Failure LinkFault) → HubEnd → Type 0

@@ -56,8 +56,9 @@ impl<D: Disk> HubLink<D> {
     ghost use Rattle.linkcalls.specs.Shapes.{GoOut};
     ghost use Rattle.botjournal.specs.Ledger.{AreStill};
     ghost use Rattle.linkstate.specs.Kept.{MayLeave};
-    ghost use Rattle.linkstate.specs.Ends.{Creates, Opens};
-    ghost use Rattle.hublink.specs.Link.{Calls, CallsRestart, with_oldest};
+    ghost use Rattle.linkstate.specs.Opening.{AreCurrent};
+    ghost use Rattle.linkstate.specs.Ends.{Creates, Opens, OpensAtEachMoment};
+    ghost use Rattle.hublink.specs.Link.{Calls, CallsRestart, RenewsHub, with_oldest};
 
     /// Makes a hub without records, for this many leaves, on two disks. What the disks held is lost.
     ///
@@ -87,19 +88,25 @@ impl<D: Disk> HubLink<D> {
         }
     }
 
-    /// Opens a hub with this many leaves on the two disks that it wrote. Nothing is written.
+    /// Opens a hub with this many leaves on the two disks that it wrote. A journal of the present layout stays as it is. One
+    /// of an older layout is put anew before this answers: its state alone, in the next generation, so that the changes so
+    /// far are no longer kept one by one.
     ///
     /// # Errors
-    /// With the disks, which mean what they meant: `DiskFault` where a read failed; `NotAJournal` where they hold no
-    /// journal, or one that means nothing to a hub with so many leaves: another bot's, one with a reply to a leaf above
-    /// the last, with records that no userfile holds, or with an entry that no hub writes there; `NoMemory`.
+    /// With the disks, which mean what they meant, or that put anew: `DiskFault` where a read failed; `NotAJournal` where
+    /// they hold no journal, or one that means nothing to a hub with so many leaves: another bot's, one with a reply to a
+    /// leaf above the last, with records that no userfile holds, or with an entry that no hub writes there; `NoMemory`.
+    /// Then, of an older layout alone, `GenerationsSpent` where there is no next generation, `NoMemory`, or `DiskFault`
+    /// where a disk failed while it was written.
     pub fn open(alloc: Global, first: D, second: D, leaves: u16) -> Result<HubLink<D>, Returned<D>>
         requires first_settled { IsSettled (D.state first) }
         requires second_settled { IsSettled (D.state second) }
         requires few { leaves ≤ MAX_LEAVES }
-        ensures row { Opens D.state first second 0 leaves [] (hub_meaning leaves) result }
-        // Nothing happened to the disks.
-        ensures still { IfOk result (λ link. AreStill (D.state first) (D.state second) link.device) }
+        ensures row { Opens D.state first second 0 leaves [] (hub_meaning leaves) RenewsHub result }
+        // Nothing happened to disks that have the present layout.
+        ensures still { AreCurrent D.state first second → IfOk result (λ link. AreStill (D.state first) (D.state second) link.device) }
+        // At each moment of the call a crash leaves what the disks meant, or that put anew.
+        ensures any_moment { OpensAtEachMoment D.state first second (hub_meaning leaves) RenewsHub result }
     {
         let Ok(waiting) = VecDeque::with_capacity(alloc, MAX_ASKS) else {
             return Err(Returned {

@@ -2,7 +2,7 @@
 use crate::accepting::accept;
 use crate::link::HubLink;
 use crate::packets::{hello_packets, repeat_packets, reply_packet};
-use botjournal::{Answer as Outcome, Reply};
+use botjournal::{Answer as Outcome, LAYOUT, Reply};
 use bytetext::{Failure, Seq, Text, TryCopy};
 use linkcalls::{Answer, LinkError, LinkFault, Note, Packet, text_by};
 use linkstate::HubRecord;
@@ -16,7 +16,7 @@ impl<D: Disk> HubLink<D> {
     ghost use Rattle.protocol.specs.Packets.{from_wire};
     ghost use Rattle.protocol.specs.Packets.Packet.{Hello as hello_packet, Request as request_packet, BotText as text_packet};
     ghost use Rattle.protocol.specs.Numbers.{item_at, place_of};
-    ghost use Rattle.protocol.specs.HubRules.{version_of, is_no_leaf, hub_received, hub_received_up, request_placed, next_request, last_request};
+    ghost use Rattle.protocol.specs.HubRules.{version_of, is_no_leaf, hello_met, hub_received, hub_received_up, request_placed, next_request, last_request};
     ghost use Rattle.protocol.specs.Journals.{is_next_of};
     ghost use Rattle.linkcalls.specs.declared.TheConstants.{MAX_LEAVES};
     ghost use Rattle.linkcalls.specs.Shapes.{GoOut};
@@ -34,7 +34,7 @@ impl<D: Disk> HubLink<D> {
     /// - Any other packet is `Stray`.
     ///
     /// # Errors
-    /// `Down`; `NumbersSpent` for a request at the last version; `NoMemory`, which leaves the hub as it was;
+    /// `Down`; `OtherLayout` for a hello of another layout; `NumbersSpent` for a request at the last version; `NoMemory`, which leaves the hub as it was;
     /// `JournalFault` where a disk failed: the hub is down, shows what it showed, and sends nothing. `Stray`, `Old` and
     /// `Gap`, and what is answered with no packet, take no memory.
     pub fn receive(&mut self, alloc: Global, packet: &Packet) -> Result<Answer, LinkError>
@@ -53,7 +53,11 @@ impl<D: Disk> HubLink<D> {
         ensures packets { GoOut (MAX_LEAVES + 1) result }
     {
         match packet {
-            Packet::Hello { leaf, version } => self.receive_hello(alloc, *leaf, *version),
+            Packet::Hello {
+                layout,
+                leaf,
+                version,
+            } => self.receive_hello(alloc, *layout, *leaf, *version),
             Packet::Request {
                 leaf,
                 request,
@@ -68,8 +72,25 @@ impl<D: Disk> HubLink<D> {
     }
 
     // Answers a leaf's hello.
-    fn receive_hello(&self, alloc: Global, leaf: u16, version: u32) -> Result<Answer, LinkError>
-        ensures row { Calls self.now (λ how. hub_received_up self.now.leaves how self.now.bot (hello_packet leaf version)) result self.now }
+    fn receive_hello(
+        &self,
+        alloc: Global,
+        layout: u8,
+        leaf: u16,
+        version: u32,
+    ) -> Result<Answer, LinkError>
+        ensures row { Calls self.now (λ how. hub_received_up self.now.leaves how self.now.bot (hello_packet layout leaf version)) result self.now }
+        ensures packets { GoOut (MAX_LEAVES + 1) result }
+    {
+        if layout != LAYOUT {
+            return Err(Failure::Refused(LinkFault::OtherLayout));
+        }
+        self.meet_hello(alloc, leaf, version)
+    }
+
+    // Answers a hello of the hub's layout.
+    fn meet_hello(&self, alloc: Global, leaf: u16, version: u32) -> Result<Answer, LinkError>
+        ensures row { Calls self.now (λ how. hello_met self.now.leaves how self.now.bot leaf version) result self.now }
         ensures packets { GoOut (MAX_LEAVES + 1) result }
     {
         if self.is_stray_hello(leaf, version) {

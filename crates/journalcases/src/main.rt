@@ -11,8 +11,9 @@
 //! | `create BASE` | makes a journal on the disks: `ok` or the code |
 //! | `open` | opens the journal on the disks: the base and each entry, or the code |
 //! | `restart` | opens the journal on what a crash leaves of its disks: as `open` |
-//! | `append ENTRY`, `rebase BASE` | `ok` or the code |
+//! | `append ENTRY`, `rebase BASE` | `ok` or the code; `older layout` where nothing may be appended |
 //! | `spent` | whether the generations are: `spent` or `left` |
+//! | `layout` | the number of the journal's layout |
 //! | `bytes` | what the first and the second disk hold |
 //!
 //! A step that takes disks crashes them where a journal has them. Calls are counted from 1, from the step on. TEAR says
@@ -24,8 +25,10 @@
 //! above 1,048,576 bytes; with 3 where reading or writing fails; with 4 where memory runs out. Nothing stands on standard
 //! output then.
 //!
-//! The crate's files `stdin` and `stdout` hold the cases. The bytes and the answers were worked out from the format that
-//! `botjournal` states, by an independent model.
+//! A base or an entry is told as it is written now, whatever layout it was read from.
+//!
+//! The crate's files `stdin` and `stdout` hold the cases. The answers were worked out from the format that `botjournal`
+//! states, by the independent model `trials/journals/model.py`.
 #![tactic(auto)]
 
 mod devices;

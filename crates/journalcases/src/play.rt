@@ -4,7 +4,7 @@ ghost use Rattle.journalcases.specs.Place.{IsReady};
 
 use crate::devices::{bytes, fail, misread, new_disks};
 use crate::place::{Place, disks_of, journal_of};
-use crate::steps::{append, create, open, rebase, restart, spent};
+use crate::steps::{append, create, layout, open, rebase, restart, spent};
 use crate::stop::{CaseError, CaseFault, Stop};
 use crate::words::cut;
 use bytejournal::Disks;
@@ -63,6 +63,7 @@ enum Step {
     Create,
     Disks,
     Fail,
+    Layout,
     Misread,
     Open,
     Rebase,
@@ -70,12 +71,13 @@ enum Step {
     Spent,
 }
 
-const STEPS: [(&[u8], Step); 10] = [
+const STEPS: [(&[u8], Step); 11] = [
     (b"append", Step::Append),
     (b"bytes", Step::Bytes),
     (b"create", Step::Create),
     (b"disks", Step::Disks),
     (b"fail", Step::Fail),
+    (b"layout", Step::Layout),
     (b"misread", Step::Misread),
     (b"open", Step::Open),
     (b"rebase", Step::Rebase),
@@ -97,6 +99,7 @@ fn play(alloc: Global, place: Place, line: &[u8], out: &mut Vec<u8>) -> Result<P
         Step::Create => create(alloc, disks_of(place), rest, out),
         Step::Disks => new_disks(alloc, rest),
         Step::Fail => fail(disks_of(place), rest),
+        Step::Layout => layout(alloc, journal_of(place)?, out),
         Step::Misread => misread(disks_of(place), rest),
         Step::Open => open(alloc, disks_of(place), out),
         Step::Rebase => rebase(alloc, journal_of(place)?, rest, out),

@@ -13,7 +13,7 @@ use crate::devices::put_hex;
 use crate::place::{Place, crashed};
 use crate::stop::CaseError;
 use crate::words::{base_of, entry_of};
-use botjournal::{Base, Entry, Journal, Opened, write_base, write_entry};
+use botjournal::{Base, Entry, Journal, LAYOUT, Opened, write_base, write_entry};
 use bytejournal::{Disks, JournalError, Returned};
 use bytetext::NoMemory;
 use disks::MemDisk;
@@ -78,6 +78,10 @@ pub fn append(
 {
     let mut journal = journal;
     let entry = entry_of(alloc, entry)?;
+    if journal.layout() != LAYOUT {
+        out.extend_from_slice(b"older layout\n")?;
+        return Ok(Place::InUse(journal));
+    }
     let answer = journal.append(alloc, &entry);
     tell(answer, out)?;
     Ok(Place::InUse(journal))
@@ -111,6 +115,20 @@ pub fn spent(journal: Journal<MemDisk>, out: &mut Vec<u8>) -> Result<Place, Case
         b"left\n"
     };
     out.extend_from_slice(answer)?;
+    Ok(Place::InUse(journal))
+}
+
+/// `layout`
+pub fn layout(
+    alloc: Global,
+    journal: Journal<MemDisk>,
+    out: &mut Vec<u8>,
+) -> Result<Place, CaseError>
+    requires { IsSound state_of journal }
+    ensures { IfOk result IsReady }
+{
+    let line = format!(in alloc; "{}\n", journal.layout())?;
+    out.extend_from_slice(line.as_bytes())?;
     Ok(Place::InUse(journal))
 }
 

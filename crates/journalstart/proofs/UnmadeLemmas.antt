@@ -4,7 +4,7 @@ use Rattle.std.specs.Prelude.{if◌then◌else◌}
 use Rattle.std.specs.Str.{bytes_eq}
 use Rattle.std.proofs.lemmas.Bool.{leb-true}
 use Rattle.std.proofs.lemmas.List.{take_at, take-take, take_min, length-take}
-use Rattle.bytejournal.specs.Meaning.{Contents, Held, held, chosen, meaning, layout, from_layout}
+use Rattle.bytejournal.specs.Meaning.{Contents, Held, held, chosen, meaning, letters, from_letters}
 use Rattle.bytejournal.specs.Meaning.Held.{Shut, Broken, Open}
 use Rattle.bytejournal.specs.Recovery.{IsJournal}
 use Rattle.bytejournal.proofs.Recovering.{none_is_not_some}
@@ -12,18 +12,18 @@ use Rattle.journalstart.specs.Unmade.{is_unmade, is_unmade_front}
 
 -- ---- what is read of a disk
 
-pub read_front : (seen buf : List ℕ) (n : ℕ) → n ≡ min 6 (length seen - 0) → take n (take n (drop 0 seen) ++ drop n buf) ≡ take 6 seen
+pub read_front : (seen buf : List ℕ) (n : ℕ) → n ≡ min 5 (length seen - 0) → take n (take n (drop 0 seen) ++ drop n buf) ≡ take 5 seen
 read_front seen buf n is =
-    let same : n ≡ min 6 (length seen) = omega (arith, is) in
+    let same : n ≡ min 5 (length seen) = omega (arith, is) in
     take_at (take n seen) (drop n buf) n (omega (arith, length-take n seen, same))
-    ∙ subst (λ (k : ℕ). take k seen ≡ take 6 seen) (sym same) (take_min 6 seen)
+    ∙ subst (λ (k : ℕ). take k seen ≡ take 5 seen) (sym same) (take_min 5 seen)
 
--- the first six bytes tell
-pub front_tells : (first : List ℕ) → is_unmade_front (take 6 first) ≡ is_unmade_front first
+-- the first five bytes tell
+pub front_tells : (first : List ℕ) → is_unmade_front (take 5 first) ≡ is_unmade_front first
 front_tells [] = refl
 front_tells (gate ∷ []) = refl
 front_tells (gate ∷ next ∷ rest) =
-    ap (λ (l : List ℕ). if gate == 1 then false else if gate == 0 then true else bytes_eq (next ∷ l) layout) (take-take 4 4 rest (omega arith))
+    ap (λ (l : List ℕ). if gate == 1 then false else if gate == 0 then true else bytes_eq (next ∷ l) letters) (take-take 3 3 rest (omega arith))
 
 -- ---- such disks hold no journal
 
@@ -43,7 +43,7 @@ chosen_of_nothing Broken disk a b = refl
 chosen_of_nothing (Open contents) disk a b = absurd (open_is_something contents a)
 
 gate_alone : (gate : ℕ) → IsNothing (held (gate ∷ []))
-gate_alone gate = elim (gate == 1) as (λ (b : Bool). IsNothing (if b then from_layout [] else Shut)) [ true ↦ inr refl | false ↦ inl refl ]
+gate_alone gate = elim (gate == 1) as (λ (b : Bool). IsNothing (if b then from_letters [] else Shut)) [ true ↦ inr refl | false ↦ inl refl ]
 
 not_both : false ≡ true → ⊥
 not_both is = cc
@@ -52,7 +52,7 @@ nothing_at_front : (first : List ℕ) → is_unmade_front first ≡ true → IsN
 nothing_at_front [] is = inl refl
 nothing_at_front (gate ∷ []) is = gate_alone gate
 nothing_at_front (gate ∷ next ∷ rest) is =
-    by_gate (gate == 1) (if gate == 0 then true else bytes_eq (take 5 (next ∷ rest)) layout) (from_layout (next ∷ rest)) is
+    by_gate (gate == 1) (if gate == 0 then true else bytes_eq (take 4 (next ∷ rest)) letters) (from_letters (next ∷ rest)) is
   where
     by_gate : (b c : Bool) (disk : Held) → (if b then false else c) ≡ true → IsNothing (if b then disk else Shut)
     by_gate true c disk is = absurd (not_both is)

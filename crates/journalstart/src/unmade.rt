@@ -7,15 +7,15 @@ ghost use Rattle.journalstart.specs.Unmade.{is_unmade, is_unmade_front};
 
 use storage::{Disk, DiskFault};
 
-/// The letters that stand after a disk's first gate, and the number of the layout.
-const LETTERS: [u8; 5] = [b'E', b'G', b'G', b'J', 1];
+/// The letters that stand after a disk's first gate.
+const LETTERS: [u8; 4] = [b'E', b'G', b'G', b'J'];
 
 /// As many first bytes of the first disk tell.
-const FRONT: usize = 6;
+const FRONT: usize = 5;
 
 /// Whether no journal was ever made on these disks: they are empty, or hold what a `create` on empty disks left that was
 /// stopped. That is a byte at most on the second; and on the first a byte at most, or a closed gate that is 0 or stands
-/// before a journal's letters. Takes no memory.
+/// before a journal's letters, whatever the layout. Takes no memory.
 ///
 /// # Errors
 /// Where the first disk fails.

@@ -14,11 +14,12 @@ use Rattle.protocol.specs.Notes.{Note}
 use Rattle.protocol.specs.Notes.Note.{Accepted, Refused as RefusedFor}
 use Rattle.protocol.specs.Bots.{How, Row, unless_down}
 use Rattle.protocol.specs.HubRules.{text_told}
-use Rattle.protocol.specs.LeafRules.{Leaf, LeafState, LeafRecord, LeafLoose, leaf_asked, leaf_pumped, leaf_pumped_up, leaf_received, leaf_received_up, change_placed, reply_received, part_taken, leaf_compacted, leaf_restarted, leaf_folded}
+use Rattle.protocol.specs.LeafRules.{Leaf, LeafState, LeafRecord, Compact, LeafLoose, leaf_asked, leaf_pumped, leaf_pumped_up, leaf_received, leaf_received_up, change_placed, reply_received, part_taken, leaf_compacted, leaf_restarted, leaf_folded}
 use Rattle.protocol.specs.Journals.{leaf_meaning}
 use Rattle.protocol.specs.Snapshots.{set_for, with_part}
 use Rattle.linkcalls.specs.declared.TheConstants.{MAX_LEAVES}
-use Rattle.linkstate.specs.Kept.{Kept, AreOf}
+use Rattle.linkstate.specs.Records.{LeafMayWrite}
+use Rattle.linkstate.specs.Kept.{Kept, AreOf, Renews}
 use Rattle.linkcalls.specs.declared.answer.Answer.{Answer as Reply}
 use Rattle.linkcalls.specs.declared.error.LinkFault.{LinkFault}
 use Rattle.bytetext.specs.declared.failure.Failure.{Failure}
@@ -30,6 +31,10 @@ LeafEnd = End Leaf
 -- bytes of two disks that are a leaf's of this number: they mean what it keeps, or that with the record in doubt
 abbrev pub IsOwn : ℕ → Leaf → List ℕ → List ℕ → Type 0
 IsOwn number leaf = AreOf (leaf_meaning number) leaf_folded leaf.kept leaf.doubt
+
+-- what becomes of a leaf that is put anew: its state alone goes into the journal, which has a next generation
+abbrev pub RenewsLeaf : LeafState → LeafState → Type 0
+RenewsLeaf = Renews LeafMayWrite leaf_folded Compact
 
 -- a leaf's call meets its row
 abbrev pub Calls : LeafEnd → (How → Row Leaf) → Result Reply (Failure LinkFault) → LeafEnd → Type 0

@@ -1,8 +1,10 @@
 // A leaf's end of the link.
 ghost use Rattle.std.specs.Prelude.{◌≡◌, ◌∷◌, [], IfOk, IfErr};
 ghost use Rattle.bytetext.specs.declared.failure.Failure.TheVariants.{NoMemory as no_memory};
+ghost use Rattle.botjournal.specs.declared.TheConstants.{LAYOUT};
 
 use crate::parts::KeptParts;
+use botjournal::LAYOUT;
 use bytejournal::{Disks, Returned};
 use bytetext::{Failure, NoMemory, Seq, Text, TryCopy, refuse};
 use linkcalls::{
@@ -62,9 +64,10 @@ impl<D: Disk> LeafLink<D> {
     ghost use Rattle.protocol.specs.Network.{new_leaf};
     ghost use Rattle.botjournal.specs.Ledger.{AreStill};
     ghost use Rattle.linkstate.specs.Kept.{MayLeave};
-    ghost use Rattle.linkstate.specs.Ends.{Creates, Opens};
+    ghost use Rattle.linkstate.specs.Opening.{AreCurrent};
+    ghost use Rattle.linkstate.specs.Ends.{Creates, Opens, OpensAtEachMoment};
     ghost use Rattle.linkcalls.specs.Shapes.{GoOut};
-    ghost use Rattle.leaflink.specs.Link.{Calls, CallsRestart, asked, keeps_asks, pumped, pumped_up, compacted, restarted, told};
+    ghost use Rattle.leaflink.specs.Link.{Calls, CallsRestart, RenewsLeaf, asked, keeps_asks, pumped, pumped_up, compacted, restarted, told};
     ghost use Rattle.linkcalls.specs.Texts.{Sends};
 
     /// The leaf of this number, from 1 to the number of leaves, before the first change. What the disks held is lost.
@@ -102,12 +105,15 @@ impl<D: Disk> LeafLink<D> {
         }
     }
 
-    /// The leaf of this number, as its journal on the two disks has it. Nothing is written.
+    /// The leaf of this number, as its journal on the two disks has it. A journal of the present layout stays as it is. One
+    /// of an older layout is put anew before this answers: its state alone, in the next generation, with the request that is
+    /// out.
     ///
     /// # Errors
-    /// With the disks, which hold what they held: `DiskFault` where a read failed; `NotAJournal` where the disks hold no
-    /// journal, or one that no leaf of this number writes; `NoMemory` where room for what they hold, or for the asks, is
-    /// refused.
+    /// With the disks, which mean what they meant, or that put anew: `DiskFault` where a read failed; `NotAJournal` where
+    /// the disks hold no journal, or one that no leaf of this number writes; `NoMemory` where room for what they hold, or
+    /// for the asks, is refused. Then, of an older layout alone, `GenerationsSpent` where there is no next generation,
+    /// `NoMemory`, or `DiskFault` where a disk failed while it was written.
     pub fn open(
         alloc: Global,
         first: D,
@@ -119,9 +125,11 @@ impl<D: Disk> LeafLink<D> {
         requires second_settled { IsSettled (D.state second) }
         requires numbered { (0 < number) × (number ≤ leaves) }
         requires few { leaves ≤ MAX_LEAVES }
-        ensures row { Opens D.state first second number leaves no_loose (leaf_meaning number) result }
-        // Nothing happened to the disks.
-        ensures still { IfOk result (λ link. AreStill (D.state first) (D.state second) link.device) }
+        ensures row { Opens D.state first second number leaves no_loose (leaf_meaning number) RenewsLeaf result }
+        // Nothing happened to disks that have the present layout.
+        ensures still { AreCurrent D.state first second → IfOk result (λ link. AreStill (D.state first) (D.state second) link.device) }
+        // At each moment of the call a crash leaves what the disks meant, or that put anew.
+        ensures any_moment { OpensAtEachMoment D.state first second (leaf_meaning number) RenewsLeaf result }
     {
         let Ok(waiting) = VecDeque::with_capacity(alloc, MAX_ASKS) else {
             return Err(Returned {
@@ -205,9 +213,9 @@ impl<D: Disk> LeafLink<D> {
         Ok(Answer::only(alloc, Note::Queued))
     }
 
-    /// Says hello to the hub, with the version that the leaf is at, and asks it for what is asked here. Where a request
-    /// is out it goes again, and else the oldest ask goes under the next number, once that is journaled: `Sent` with the
-    /// number. Where nothing is asked: `Idle`, and the hello alone.
+    /// Says hello to the hub, with the layout of the journal and the version that the leaf is at, and asks it for what is
+    /// asked here. Where a request is out it goes again, and else the oldest ask goes under the next number, once that is
+    /// journaled: `Sent` with the number. Where nothing is asked: `Idle`, and the hello alone.
     ///
     /// # Errors
     /// `Down`; then `NumbersSpent` after request 4,294,967,295, where the ask still waits; then `NoMemory`; each leaves
@@ -349,7 +357,7 @@ impl<D: Disk> LeafLink<D> {
 fn again(alloc: Global, leaf: u16, state: &LeafState, change: &Change) -> Result<Answer, LinkError>
     ensures told { IfOk result (λ answer. answer ≡ record {
       note = Note.Sent state.now.last;
-      packets = record { to = 0; packet = Packet.Hello leaf state.now.version }
+      packets = record { to = 0; packet = Packet.Hello LAYOUT leaf state.now.version }
           ∷ record { to = 0; packet = Packet.Request leaf state.now.last change.now } ∷ [];
     }) }
     ensures memory { IfErr result (λ error. error ≡ no_memory) }
@@ -364,11 +372,15 @@ fn again(alloc: Global, leaf: u16, state: &LeafState, change: &Change) -> Result
 
 // A hello, to the hub.
 fn hello(leaf: u16, version: u32) -> Outgoing
-    ensures { result ≡ record { to = 0; packet = Packet.Hello leaf version } }
+    ensures { result ≡ record { to = 0; packet = Packet.Hello LAYOUT leaf version } }
 {
     Outgoing {
         to: 0,
-        packet: Packet::Hello { leaf, version },
+        packet: Packet::Hello {
+            layout: LAYOUT,
+            leaf,
+            version,
+        },
     }
 }
 
@@ -380,7 +392,7 @@ fn hello_and_request(
     request: u32,
     change: &Change,
 ) -> Result<Outgoings, NoMemory>
-    ensures { IfOk result (λ packets. packets ≡ record { to = 0; packet = Packet.Hello leaf version }
+    ensures { IfOk result (λ packets. packets ≡ record { to = 0; packet = Packet.Hello LAYOUT leaf version }
         ∷ record { to = 0; packet = Packet.Request leaf request change.now } ∷ []) }
 {
     let asking = Outgoing {

@@ -1,5 +1,5 @@
 //! Tests of the pure parts, of what no clause says and no line of `vectors` shows: each public call once where it does its
-//! work, with whole values. A module is the tests of one library.
+//! work, with whole values. A module is the tests of one library, or of one part of it.
 #![tactic(auto)]
 
 #[cfg(test)]
@@ -8,6 +8,8 @@ mod duplexes;
 mod flags;
 #[cfg(test)]
 mod folding;
+#[cfg(test)]
+mod marks;
 #[cfg(test)]
 mod texts;
 #[cfg(test)]

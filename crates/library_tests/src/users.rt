@@ -33,23 +33,30 @@ fn voiced_on(alloc: Global, channel: &[u8]) -> Option<ChannelEntries> {
 
 // A user of this handle with these masks, and something in each other field.
 fn user_of(alloc: Global, handle: &[u8], masks: &[&[u8]]) -> Option<User> {
+    told_user(alloc, handle, masks, b"likes  tea")
+}
+
+// The same with this info text.
+fn told_user(alloc: Global, handle: &[u8], masks: &[&[u8]], info: &[u8]) -> Option<User> {
     match (
         Text::from_slice(alloc, handle),
         masks_of(alloc, masks),
         voiced_on(alloc, b"#Egg"),
+        Text::from_slice(alloc, info),
     ) {
-        (Ok(handle), Some(masks), Some(channels)) => Some(User {
+        (Ok(handle), Some(masks), Some(channels), Ok(info)) => Some(User {
             handle,
             masks,
             global: letters(b"aoZ"),
             channels,
             bot: letters(b"s"),
+            info,
         }),
-        (_, _, _) => None,
+        (_, _, _, _) => None,
     }
 }
 
-// A ban of this mask on #egg, until second 7.
+// A sticky ban of this mask on #egg, until second 7.
 fn ban_of(alloc: Global, mask: &[u8]) -> Option<Ban> {
     match (
         Text::from_slice(alloc, b"#egg"),
@@ -63,6 +70,7 @@ fn ban_of(alloc: Global, mask: &[u8]) -> Option<Ban> {
             creator,
             expires: 7,
             comment,
+            sticky: true,
         }),
         (_, _, _, _) => None,
     }
@@ -89,6 +97,7 @@ fn is_alice(user: &User) -> bool {
         && matches!(user.channels.as_slice(), [entry] if entry.channel.is_same(b"#Egg") && entry.flags == letters(b"v"))
         && user.global == letters(b"Zoa")
         && user.bot == letters(b"s")
+        && user.info.is_same(b"likes  tea")
 }
 
 // Whether this is the ban with all that was given.
@@ -98,6 +107,7 @@ fn is_the_ban(ban: &Ban) -> bool {
         && ban.creator.is_same(b"bob")
         && ban.expires == 7
         && ban.comment.is_same(b"go  away")
+        && ban.sticky
 }
 
 // Whether the userfile holds Alice and the ban, and answers for them.
@@ -110,10 +120,14 @@ fn is_full(userfile: &Userfile) -> bool {
         && userfile.ban_at(1).is_none()
         && userfile.handle_of(b"x!y@a.NET") == b"Alice".as_slice()
         && userfile.flags_of(b"alice", b"#EGG").chan == letters(b"v")
+        && userfile.info_of(b"aLICE") == b"likes  tea".as_slice()
         && userfile
             .ban_for(b"#Egg", b"x!y@bad.net", 6)
             .is_some_and(is_the_ban)
 }
+
+// One byte more than an info text has.
+pub(crate) const EIGHTY_ONE: [u8; 81] = [b'x'; 81];
 
 // The userfile of just these users and bans, or the code of the refusal.
 fn gathered(
@@ -194,23 +208,50 @@ fn records_that_do_not_stand_together_are_refused(rt: HostRuntime) {
     assert!(rt; refusal(alloc, single(alloc, &[b"*!*@a.net", b"*!*@A.NET"])) == "U5");
     assert!(rt; refusal(alloc, single(alloc, &SEVENTEEN[1..])) == "ok");
     assert!(rt; refusal(alloc, single(alloc, &SEVENTEEN)) == "U11");
+    assert!(rt;
+        refusal(
+            alloc,
+            one(alloc, told_user(alloc, b"al", &ALICES, &EIGHTY_ONE[1..]))
+        ) == "ok"
+    );
+    assert!(rt;
+        refusal(
+            alloc,
+            one(alloc, told_user(alloc, b"al", &ALICES, &EIGHTY_ONE))
+        ) == "unfit"
+    );
+    assert!(rt;
+        refusal(
+            alloc,
+            one(alloc, told_user(alloc, b"al", &ALICES, b"two\nlines"))
+        ) == "unfit"
+    );
     assert!(rt; ban_refusal(alloc, b"*!*@a.net", b"*!*@b.net") == "ok");
     assert!(rt; ban_refusal(alloc, b"*!*@a.net", b"*!*@A.net") == "U8");
 }
 
-// What the empty userfile says to a change.
-fn answer_to(alloc: Global, change: Option<Change>) -> &'static str {
+// What a userfile says to a change.
+pub(crate) fn answer(
+    alloc: Global,
+    userfile: &mut Userfile,
+    change: Option<Change>,
+) -> &'static str {
     let Some(change) = change else {
         return "not made";
     };
-    match Userfile::new(alloc).apply(alloc, &change) {
+    match userfile.apply(alloc, &change) {
         Ok(()) => "ok",
         Err(ChangeError::Refused(fault)) => fault.code(),
         Err(ChangeError::NoMemory) => "memory",
     }
 }
 
-fn adding(alloc: Global, handle: &[u8]) -> Option<Change> {
+// What the empty userfile says to a change.
+fn answer_to(alloc: Global, change: Option<Change>) -> &'static str {
+    answer(alloc, &mut Userfile::new(alloc), change)
+}
+
+pub(crate) fn adding(alloc: Global, handle: &[u8]) -> Option<Change> {
     let handle = Text::from_slice(alloc, handle).ok()?;
     Some(Change::AddUser { handle })
 }

@@ -8,7 +8,7 @@ use Rattle.linkcalls.specs.declared.error.LinkFault.TheVariants as fault
 use Rattle.protocol.specs.Packets.{Outgoing as Sent, from_wire}
 use Rattle.protocol.specs.Notes.{Note as Meaning, LinkFault as Fault}
 use Rattle.protocol.specs.Notes.Note.{Queued, Idle, Sent as RequestSent, Accepted, Refused, Served, Old, Repeat, Gap, Early, Applied, Kept, Installed, Compacted, Relayed, Text, Stray, Restarted}
-use Rattle.protocol.specs.Notes.LinkFault.{Down, BadChange, AsksFull, Diverged, NumbersSpent, JournalFault, BadBotText, DiskFault}
+use Rattle.protocol.specs.Notes.LinkFault.{Down, BadChange, AsksFull, Diverged, NumbersSpent, JournalFault, BadBotText, DiskFault, OtherLayout}
 
 -- what a note tells
 abbrev pub note_of : Note → Meaning
@@ -50,3 +50,4 @@ IsFault fault.JournalFault said = said ≡ Err JournalFault
 IsFault fault.BadBotText said = said ≡ Err BadBotText
 IsFault fault.TextsFull said = ⊥
 IsFault fault.DiskFault said = said ≡ Err DiskFault
+IsFault fault.OtherLayout said = said ≡ Err OtherLayout

@@ -1,7 +1,7 @@
 -- The letter and number of each refusal by a link.
 use Rattle.std.specs.Prelude.{ℕ, List, codes}
 use Rattle.linkcalls.specs.declared.error.LinkFault.{LinkFault}
-use Rattle.linkcalls.specs.declared.error.LinkFault.TheVariants.{Down, BadChange, AsksFull, Diverged, NumbersSpent, JournalFault, BadBotText, TextsFull, DiskFault}
+use Rattle.linkcalls.specs.declared.error.LinkFault.TheVariants.{Down, BadChange, AsksFull, Diverged, NumbersSpent, JournalFault, BadBotText, TextsFull, DiskFault, OtherLayout}
 use Rattle.userfile.specs.Codes.{fault_code}
 
 abbrev pub link_code : LinkFault → List ℕ
@@ -14,3 +14,4 @@ link_code JournalFault = codes "S5"
 link_code BadBotText = codes "S7"
 link_code TextsFull = codes "S6"
 link_code DiskFault = codes "J1"
+link_code OtherLayout = codes "S8"

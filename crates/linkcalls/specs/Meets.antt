@@ -5,11 +5,11 @@ use Rattle.bytetext.specs.declared.failure.Failure.TheVariants.{Refused as refus
 use Rattle.botjournal.specs.Ledger.{Device, Failed}
 use Rattle.protocol.specs.Notes.{Note as Meaning, LinkFault as Fault}
 use Rattle.protocol.specs.Notes.Note.{Queued, Idle, Sent, Accepted, Refused, Served, Old, Repeat, Gap, Early, Applied, Kept, Installed, Compacted, Relayed, Text, Stray, Restarted}
-use Rattle.protocol.specs.Notes.LinkFault.{Diverged as Apart, JournalFault as NotKept, Down as IsDown, BadChange as BadAsk, AsksFull as NoRoom, NumbersSpent as NoNumber, BadBotText as BadText, DiskFault as NotRead}
+use Rattle.protocol.specs.Notes.LinkFault.{Diverged as Apart, JournalFault as NotKept, Down as IsDown, BadChange as BadAsk, AsksFull as NoRoom, NumbersSpent as NoNumber, BadBotText as BadText, DiskFault as NotRead, OtherLayout as OtherBot}
 use Rattle.protocol.specs.Bots.{How, Works, Fails, Counts, Row}
 use Rattle.linkcalls.specs.declared.answer.Answer.{Answer}
 use Rattle.linkcalls.specs.declared.error.LinkFault.{LinkFault}
-use Rattle.linkcalls.specs.declared.error.LinkFault.TheVariants.{Down, BadChange, AsksFull, Diverged, NumbersSpent, JournalFault, BadBotText, TextsFull, DiskFault}
+use Rattle.linkcalls.specs.declared.error.LinkFault.TheVariants.{Down, BadChange, AsksFull, Diverged, NumbersSpent, JournalFault, BadBotText, TextsFull, DiskFault, OtherLayout}
 use Rattle.linkcalls.specs.Calls.{note_of, outgoings_of, IsFault}
 
 -- what the devices did in a call that is refused: they failed where it tells so, and nowhere else
@@ -23,6 +23,7 @@ how_of JournalFault = Fails
 how_of BadBotText = Works
 how_of TextsFull = Works
 how_of DiskFault = Fails
+how_of OtherLayout = Works
 
 -- where they failed, a disk has failed once more than before
 abbrev pub HasFailed : How → Device → Device → Type 0
@@ -72,6 +73,7 @@ module _ {S : Type 0} where
   TakesMemory row (Err NotKept) = ⊥
   TakesMemory row (Err BadText) = ⊥
   TakesMemory row (Err NotRead) = ⊥
+  TakesMemory row (Err OtherBot) = ⊥
 
 -- A call that is no restart, by cases on its answer. It gives what its row says where the devices work, or, where it tells that
 -- one failed, what its row says of that; and one did fail. It is out of memory only where its row takes some, and is then as it

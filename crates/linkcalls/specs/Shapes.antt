@@ -11,7 +11,7 @@ use Rattle.linkcalls.specs.declared.error.LinkFault.{LinkFault}
 
 -- each record of a part has a spelling; no other packet has records
 abbrev pub HasGoodRecords : WirePacket → Type 0
-HasGoodRecords (wire.Hello leaf version) = Unit {0}
+HasGoodRecords (wire.Hello layout leaf version) = Unit {0}
 HasGoodRecords (wire.Change number origin request change) = Unit {0}
 HasGoodRecords (wire.Request leaf request change) = Unit {0}
 HasGoodRecords (wire.Accepted leaf request number) = Unit {0}

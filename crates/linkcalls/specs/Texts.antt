@@ -9,7 +9,7 @@ use Rattle.protocol.specs.HubRules.{is_bad_text}
 use Rattle.linkcalls.specs.Calls.{IsFault, outgoing_of}
 use Rattle.linkcalls.specs.declared.answer.Outgoing.{Outgoing}
 use Rattle.linkcalls.specs.declared.error.LinkFault.{LinkFault}
-use Rattle.linkcalls.specs.declared.error.LinkFault.TheVariants.{Down, BadChange, AsksFull, Diverged, NumbersSpent, JournalFault, BadBotText, TextsFull, DiskFault}
+use Rattle.linkcalls.specs.declared.error.LinkFault.TheVariants.{Down, BadChange, AsksFull, Diverged, NumbersSpent, JournalFault, BadBotText, TextsFull, DiskFault, OtherLayout}
 use Rattle.linkcalls.specs.declared.TheConstants.{MAX_TEXTS}
 
 -- what stands against a text of this bot to another, where its step has sent so many
@@ -35,6 +35,7 @@ module _ {S : Type 0} (row : Row S) (sent : ℕ) where
   TextRefused JournalFault = IsFault JournalFault row.told
   TextRefused BadBotText = IsFault BadBotText row.told
   TextRefused DiskFault = IsFault DiskFault row.told
+  TextRefused OtherLayout = IsFault OtherLayout row.told
 
   -- A text that is to go out, by cases on the answer: its row says what goes. It is out of memory only where it goes.
   abbrev pub Sends : Result Outgoing (Failure LinkFault) → Type 0

@@ -19,6 +19,9 @@ pub enum LinkFault {
     /// S1: 64 asks wait here.
     #[error("too many asks wait here: pump the bot first")]
     AsksFull,
+    /// S8: a leaf's hello tells another layout than the hub's.
+    #[error("the other bot has another layout: run one version of the program on all bots")]
+    OtherLayout,
     /// S3: the hub's next change does not apply to the leaf's records, or its parts are no userfile.
     #[error("the leaf's records have diverged from the hub's: make the leaf anew")]
     Diverged,
@@ -48,6 +51,7 @@ impl LinkFault {
             LinkFault::Down => "S2",
             LinkFault::BadChange(fault) => fault.code(),
             LinkFault::AsksFull => "S1",
+            LinkFault::OtherLayout => "S8",
             LinkFault::Diverged => "S3",
             LinkFault::NumbersSpent => "S4",
             LinkFault::JournalFault => "S5",

@@ -110,12 +110,46 @@ pub fn hold(
     Ok(see(alloc, net, bot, 0)?)
 }
 
+/// `stop B FIRST SECOND DISK CALL TEAR`
+pub fn stop(
+    alloc: Global,
+    net: &mut Net,
+    bot: u16,
+    rest: &[u8],
+    out: &mut Vec<u8>,
+) -> Result<(), CaseError> {
+    let (first, rest) = cut(rest);
+    let (second, rest) = cut(rest);
+    let (disk, rest) = cut(rest);
+    let (call, tear) = cut(rest);
+    let (call, tear) = (call_of(call)?, tear_of(tear)?);
+    let mut disks = disks_with(alloc, first, second)?;
+    fail(&mut disks, disk, call, tear)?;
+    open(alloc, net, bot, disks, out)?;
+    Ok(see(alloc, net, bot, 0)?)
+}
+
+/// `again B`
+pub fn again(alloc: Global, net: &mut Net, bot: u16, out: &mut Vec<u8>) -> Result<(), CaseError> {
+    let before = version_of(net, bot);
+    let disks = taken(alloc, net, bot);
+    open(alloc, net, bot, disks, out)?;
+    Ok(see(alloc, net, bot, before)?)
+}
+
 // Two disks that hold the bytes of two words.
 fn held(alloc: Global, rest: &[u8]) -> Result<Disks<MemDisk>, CaseError>
     ensures first { IfOk result (λ disks. IsSettled (state_of disks.first)) }
     ensures second { IfOk result (λ disks. IsSettled (state_of disks.second)) }
 {
     let (first, second) = cut(rest);
+    disks_with(alloc, first, second)
+}
+
+fn disks_with(alloc: Global, first: &[u8], second: &[u8]) -> Result<Disks<MemDisk>, CaseError>
+    ensures first { IfOk result (λ disks. IsSettled (state_of disks.first)) }
+    ensures second { IfOk result (λ disks. IsSettled (state_of disks.second)) }
+{
     let first = disk_of(alloc, first)?;
     let second = disk_of(alloc, second)?;
     Ok(Disks { first, second })

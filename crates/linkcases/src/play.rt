@@ -4,7 +4,7 @@ ghost use Rattle.std.specs.List.{AllByRecursion};
 ghost use Rattle.sharewire.specs.Frames.{IsGoodPacket};
 
 use crate::calls::{Call, make};
-use crate::devices::{hold, plan, plan_read};
+use crate::devices::{again, hold, plan, plan_read, stop};
 use crate::net::{Good, Leaves, Net, Place};
 use crate::print::{put, put_number, records_text};
 use crate::stop::{CaseError, NO_STEP, Stop};
@@ -61,6 +61,7 @@ enum Step {
 // What a step does with a bot.
 #[derive(Clone, Copy)]
 enum AtBot {
+    Again,
     Ask,
     Compact,
     Give,
@@ -70,9 +71,11 @@ enum AtBot {
     Pump,
     Restart,
     Show,
+    Stop,
 }
 
-const STEPS: [(&[u8], Step); 12] = [
+const STEPS: [(&[u8], Step); 14] = [
+    (b"again", Step::AtBot(AtBot::Again)),
     (b"ask", Step::AtBot(AtBot::Ask)),
     (b"check", Step::Check),
     (b"compact", Step::AtBot(AtBot::Compact)),
@@ -85,6 +88,7 @@ const STEPS: [(&[u8], Step); 12] = [
     (b"pump", Step::AtBot(AtBot::Pump)),
     (b"restart", Step::AtBot(AtBot::Restart)),
     (b"show", Step::AtBot(AtBot::Show)),
+    (b"stop", Step::AtBot(AtBot::Stop)),
 ];
 
 fn play(alloc: Global, net: &mut Net, line: &[u8], out: &mut Vec<u8>) -> Result<(), CaseError> {
@@ -114,6 +118,7 @@ fn play_at(
     out: &mut Vec<u8>,
 ) -> Result<(), CaseError> {
     match step {
+        AtBot::Again => again(alloc, net, bot, out),
         AtBot::Ask => ask(alloc, net, bot, rest, out),
         AtBot::Compact => make(alloc, net, bot, Call::Compact, out),
         AtBot::Give => give(alloc, net, bot, rest, out),
@@ -123,6 +128,7 @@ fn play_at(
         AtBot::Pump => make(alloc, net, bot, Call::Pump, out),
         AtBot::Restart => make(alloc, net, bot, Call::Restart, out),
         AtBot::Show => show(alloc, net, bot, out),
+        AtBot::Stop => stop(alloc, net, bot, rest, out),
     }
 }
 

@@ -107,7 +107,7 @@ pub fn put_packet(out: &mut Vec<u8>, packet: &Packet) -> Result<(), NoMemory> {
     }
 }
 
-/// The records, a line for each user and each ban.
+/// The records, a line for each user and each ban, and one more for an info and for a mark.
 pub fn records_text(alloc: Global, userfile: &Userfile) -> Result<Vec<u8>, NoMemory> {
     let mut out = Vec::new(alloc);
     for place in 0..userfile.user_count() {
@@ -123,7 +123,7 @@ pub fn records_text(alloc: Global, userfile: &Userfile) -> Result<Vec<u8>, NoMem
     Ok(out)
 }
 
-// user H G F MASK..
+// user H G F MASK.., info H TEXT
 fn put_user(alloc: Global, out: &mut Vec<u8>, user: &User) -> Result<(), NoMemory> {
     put(out, b" user ")?;
     put(out, user.handle.as_bytes())?;
@@ -136,20 +136,20 @@ fn put_user(alloc: Global, out: &mut Vec<u8>, user: &User) -> Result<(), NoMemor
         put_word(out, entry.channel.as_bytes())?;
         put_word(out, entry.flags.text(alloc)?.as_bytes())?;
     }
+    put(out, b"\n")?;
+    if user.info.is_empty() {
+        return Ok(());
+    }
+    put(out, b" info")?;
+    put_word(out, user.handle.as_bytes())?;
+    put_word(out, user.info.as_bytes())?;
     put(out, b"\n")
 }
 
-// ban C M H E COMMENT
+// ban C M H E COMMENT, sticky C M
 fn put_ban(out: &mut Vec<u8>, ban: &Ban) -> Result<(), NoMemory> {
-    put(out, b" ban ")?;
-    put(
-        out,
-        if ban.channel.is_empty() {
-            b"*"
-        } else {
-            ban.channel.as_bytes()
-        },
-    )?;
+    put(out, b" ban")?;
+    put_channel(out, ban)?;
     put_word(out, ban.mask.as_bytes())?;
     put_word(out, ban.creator.as_bytes())?;
     put(out, b" ")?;
@@ -157,5 +157,24 @@ fn put_ban(out: &mut Vec<u8>, ban: &Ban) -> Result<(), NoMemory> {
     if !ban.comment.is_empty() {
         put_word(out, ban.comment.as_bytes())?;
     }
+    put(out, b"\n")?;
+    if !ban.sticky {
+        return Ok(());
+    }
+    put(out, b" sticky")?;
+    put_channel(out, ban)?;
+    put_word(out, ban.mask.as_bytes())?;
     put(out, b"\n")
+}
+
+// The channel of a ban, or `*` of a global one.
+fn put_channel(out: &mut Vec<u8>, ban: &Ban) -> Result<(), NoMemory> {
+    put_word(
+        out,
+        if ban.channel.is_empty() {
+            b"*"
+        } else {
+            ban.channel.as_bytes()
+        },
+    )
 }

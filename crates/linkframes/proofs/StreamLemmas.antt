@@ -14,7 +14,7 @@ use Rattle.linkframes.specs.Streams.{IsRead}
 
 -- a packet that has a frame has records of good shape
 good_records : (packet : Packet) → IsGoodPacket packet → HasGoodRecords packet
-good_records (Hello leaf version) good = tt
+good_records (Hello layout leaf version) good = tt
 good_records (Change n origin request change) good = tt
 good_records (Part version part count records) good = good.1.1.1.1
 good_records (Request leaf request change) good = tt

@@ -21,8 +21,8 @@ pub fn frame_of(alloc: Global, packet: &Packet) -> Result<Option<Vec<u8>>, NoMem
     Ok(Some(write_packet(alloc, packet)?))
 }
 
-// Whether a packet can be written: its change is of good shape, its records are few, and its text is one that may be
-// told.
+// Whether a packet can be written: its layout is not 0, its change is of good shape, its records are few, and its text is
+// one that may be told.
 fn has_frame(packet: &Packet) -> bool
     requires good { HasGoodRecords packet.now }
     ensures { result ≡ true → CanBeWritten packet.now }
@@ -31,6 +31,7 @@ fn has_frame(packet: &Packet) -> bool
         Packet::Change { change, .. } | Packet::Request { change, .. } => shape(change).is_none(),
         Packet::Part { records, .. } => records.len() <= MAX_PART_RECORDS,
         Packet::BotText { text, .. } => is_bot_text(text.as_bytes()),
-        Packet::Hello { .. } | Packet::Accepted { .. } | Packet::Refused { .. } => true,
+        Packet::Hello { layout, .. } => *layout > 0,
+        Packet::Accepted { .. } | Packet::Refused { .. } => true,
     }
 }

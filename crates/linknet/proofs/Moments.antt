@@ -43,7 +43,7 @@ module _ (net : Net) (h : History) (st : Stands net h) (sound : IsSound h) where
   many = omega (arith, leaf_ends-length net.leaves, st.length)
 
   shaped : (packet : Packet) → WasSent h packet → IsShaped packet
-  shaped (Hello leaf version) sent = tt
+  shaped (Hello layout leaf version) sent = tt
   shaped (Change number origin request change) sent = tt
   shaped (Request leaf request change) sent = tt
   shaped (Accepted leaf request number) sent = tt

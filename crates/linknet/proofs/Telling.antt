@@ -3,6 +3,7 @@ use Rattle.std.proofs.Common.{◌≡◌, ℕ, zero, suc, ◌+◌, ◌==◌, nat_
 use Rattle.userfile.specs.Apply.{bad_shape, refusal}
 use Rattle.userfile.specs.declared.change.Change.{Change as UserChange}
 use Rattle.userfile.specs.declared.error.ChangeFault.{ChangeFault}
+use Rattle.botjournal.specs.declared.TheConstants.{LAYOUT}
 use Rattle.botjournal.specs.declared.reply.Reply.{Reply}
 use Rattle.botjournal.specs.declared.reply.Answer.TheVariants.{Taken}
 use Rattle.protocol.specs.Numbers.{last_number, item_at, Place, Below, Same, Next, Above, place_of}
@@ -10,10 +11,11 @@ use Rattle.protocol.specs.Packets.{Packet, Outgoing, AcceptedChange, own, change
 use Rattle.protocol.specs.Packets.Packet.{Hello, Change, Request, Accepted as accepted_packet, Refused as refused_packet, BotText, Part}
 use Rattle.protocol.specs.Notes.{Note, LinkFault}
 use Rattle.protocol.specs.Notes.Note.{Queued, Idle, Sent, Accepted, Refused, Served, Old, Repeat, Gap, Early, Applied, Kept, Installed, Compacted, Relayed, Text, Stray, Restarted}
-use Rattle.protocol.specs.Notes.LinkFault.{AsksFull, Down, NumbersSpent, BadBotText}
+use Rattle.protocol.specs.Notes.LinkFault.{AsksFull, Down, NumbersSpent, BadBotText, OtherLayout}
 use Rattle.protocol.specs.Bots.{How, Works, Fails, Counts, Row, noted, refused, unless_down, journals}
-use Rattle.protocol.specs.HubRules.{Accept, Settle, Rebase, Hub, version_of, last_request, hub_folded, is_no_leaf, ask_taken, hub_asked, is_bad_text, text_told, accepts, ask_served, hub_pumped_up, hub_pumped, replied, next_request, repeats, request_placed, request_of, hello_served, text_passed, hub_received_up, hub_received, hub_compacted, hub_restarted}
+use Rattle.protocol.specs.HubRules.{Accept, Settle, Rebase, Hub, version_of, last_request, hub_folded, is_no_leaf, ask_taken, hub_asked, is_bad_text, text_told, accepts, ask_served, hub_pumped_up, hub_pumped, replied, next_request, repeats, request_placed, request_of, hello_served, hello_met, text_passed, hub_received_up, hub_received, hub_compacted, hub_restarted}
 use Rattle.protocol.specs.Network.{Event, Ask, Pump, Tell, Compact, Restart, hub_event}
+use Rattle.protocol.proofs.Moves.{one_more}
 
 -- what is told between two versions is so
 abbrev pub IsSo : ℕ → ℕ → Result Note LinkFault → Type 0
@@ -39,9 +41,6 @@ IsSo before after (Err fault) = Unit {0}
 
 abbrev pub Tells : Hub → Row Hub → Type 0
 Tells w row = IsSo (version_of w.kept) (version_of row.after.kept) row.told
-
-one_more : (w : Hub) (e : AcceptedChange) → version_of (hub_folded w.kept (Accept e)) ≡ version_of w.kept + 1
-one_more w e = omega (arith, length-append w.kept.tail (e ∷ []))
 
 module _ (leaves : ℕ) (how : How) (w : Hub) where
   tells-accepts : (e : AcceptedChange) (first : List Outgoing) (waiting : List UserChange)
@@ -161,6 +160,10 @@ module _ (leaves : ℕ) (how : How) (w : Hub) where
       greeted leaf v true = tt
       greeted leaf v false = hello leaf v (nat_lt v w.kept.floor)
 
+      met : (leaf v : ℕ) (b : Bool) → Tells w (if b then hello_met leaves how w leaf v else refused OtherLayout w)
+      met leaf v true = greeted leaf v (is_no_leaf leaves leaf || nat_lt (version_of w.kept) v)
+      met leaf v false = tt
+
       asked : (leaf r : ℕ) (c : UserChange) (b : Bool)
           → Tells w (if b then noted Stray w else request_of leaves how w leaf r c (item_at w.kept.replies leaf))
       asked leaf r c true = tt
@@ -176,7 +179,7 @@ module _ (leaves : ℕ) (how : How) (w : Hub) where
       texts from to text false = passed from to text
 
       at : (p : Packet) → Tells w (hub_received_up leaves how w p)
-      at (Hello leaf v) = greeted leaf v (is_no_leaf leaves leaf || nat_lt (version_of w.kept) v)
+      at (Hello layout leaf v) = met leaf v (layout == LAYOUT)
       at (Request leaf r c) = asked leaf r c (r == 0)
       at (BotText from to text) = texts from to text (nat_lt leaves from || nat_lt leaves to)
       at (Change n o r c) = tt

@@ -39,7 +39,7 @@ pub record IsMoment (ends : List End) (packets : List Sent) (h : History) : Type
 
 -- each record of a part is of good shape
 abbrev pub IsShaped : Packet → Type 0
-IsShaped (Hello leaf version) = Unit {0}
+IsShaped (Hello layout leaf version) = Unit {0}
 IsShaped (Change number origin request change) = Unit {0}
 IsShaped (Request leaf request change) = Unit {0}
 IsShaped (accepted_packet leaf request number) = Unit {0}

@@ -1,5 +1,5 @@
 -- What the journal of an end says of its state.
-use Rattle.std.proofs.Common.{◌≡◌, ◌≢◌, ◌-◌, ◌^◌, ℕ, true, nat_lt, Some, arith, ltb-true}
+use Rattle.std.proofs.Common.{◌≡◌, ◌≢◌, ◌<◌, ◌-◌, ◌^◌, ℕ, Bool, true, false, nat_lt, Some, refl, arith, ltb, ltb-true, ltb-false, lt-ltb}
 use Rattle.std.specs.List.{AllByRecursion}
 use Rattle.botjournal.specs.Bases.{IsGoodBase, IsGoodOut}
 use Rattle.botjournal.specs.Entries.{IsGoodEntry}
@@ -14,6 +14,15 @@ use Rattle.linkstate.specs.Reading.{if-some, read-well}
 -- the journal has generations left where the state has
 pub never-spent : (kept generation : ℕ) → kept ≡ generation → nat_lt kept last_number ≡ true → generation ≢ 2 ^ 32 - 1
 never-spent kept generation same left = λ spent. omega (arith, ltb-true kept last_number left, same, spent)
+
+-- and the other way
+pub has-next : (kept generation seen : ℕ) → kept ≡ generation → seen ≡ kept → seen < 2 ^ 32 → generation ≢ 2 ^ 32 - 1
+    → nat_lt kept last_number ≡ true
+has-next kept generation seen same is fits left = lt-ltb kept last_number (by (ltb kept last_number) refl)
+  where
+    by : (b : Bool) → ltb kept last_number ≡ b → kept < last_number
+    by true below = ltb-true kept last_number below
+    by false above = absurd (left (omega (arith, ltb-false kept last_number above, same, is, fits)))
 
 -- the change that is out has a spelling where the journal's base and entries have one
 leaf-out : (leaf : LeafState) (entry : Entry) (found : LeafRecord) → IsGoodEntry entry → leaf_record leaf entry ≡ Some found

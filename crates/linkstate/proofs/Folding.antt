@@ -119,17 +119,17 @@ started true start kept rest is = ap rest is
 started false start kept rest is = absurd (cc)
 
 -- a journal that means nothing to the hub that its base makes
-pub hub-failed : (leaves generation : ℕ) (base : Base) (entries : List Entry) (hub last : HubState) (error : Failure StateFault)
+pub hub-failed : (leaves layout generation : ℕ) (base : Base) (entries : List Entry) (hub last : HubState) (error : Failure StateFault)
     → hub_on leaves generation base ≡ Some hub → TakesAll hub_record hub_folded hub entries (Err error) last
-    → Reads (hub_meaning leaves (record { generation = generation; base = base; entries = entries })) (Err error)
-hub-failed leaves generation base entries hub last NoMemory on took = tt
-hub-failed leaves generation base entries hub last (Refused fault) on took =
+    → Reads (hub_meaning leaves (record { layout = layout; generation = generation; base = base; entries = entries })) (Err error)
+hub-failed leaves layout generation base entries hub last NoMemory on took = tt
+hub-failed leaves layout generation base entries hub last (Refused fault) on took =
     started (is_hub_base leaves base) (hub_of leaves generation base) hub (λ start. reads hub_record hub_folded start entries) on ∙ took
 
-pub hub-read : (leaves generation : ℕ) (base : Base) (entries : List Entry) (hub last : HubState) → hub_on leaves generation base ≡ Some hub
+pub hub-read : (leaves layout generation : ℕ) (base : Base) (entries : List Entry) (hub last : HubState) → hub_on leaves generation base ≡ Some hub
     → reads hub_record hub_folded (Some hub) entries ≡ Some last
-    → hub_meaning leaves (record { generation = generation; base = base; entries = entries }) ≡ Some last
-hub-read leaves generation base entries hub last on took =
+    → hub_meaning leaves (record { layout = layout; generation = generation; base = base; entries = entries }) ≡ Some last
+hub-read leaves layout generation base entries hub last on took =
     started (is_hub_base leaves base) (hub_of leaves generation base) hub (λ start. reads hub_record hub_folded start entries) on ∙ took
 
 -- a new hub
@@ -151,15 +151,15 @@ leaf_on-is number generation base held out bot sound same =
     ∙ ap (λ o. Some (record { version = base.version; records = held; last = base.last_request; out = o; generation = generation })) (sym same))
 
 -- a journal that means nothing to the leaf that its base makes
-pub leaf-failed : (number generation : ℕ) (base : Base) (entries : List Entry) (leaf last : LeafState) (error : Failure StateFault)
+pub leaf-failed : (number layout generation : ℕ) (base : Base) (entries : List Entry) (leaf last : LeafState) (error : Failure StateFault)
     → leaf_on number generation base ≡ Some leaf → TakesAll leaf_record leaf_folded leaf entries (Err error) last
-    → Reads (leaf_meaning number (record { generation = generation; base = base; entries = entries })) (Err error)
-leaf-failed number generation base entries leaf last NoMemory on took = tt
-leaf-failed number generation base entries leaf last (Refused fault) on took =
+    → Reads (leaf_meaning number (record { layout = layout; generation = generation; base = base; entries = entries })) (Err error)
+leaf-failed number layout generation base entries leaf last NoMemory on took = tt
+leaf-failed number layout generation base entries leaf last (Refused fault) on took =
     started (is_leaf_base number base) (leaf_of generation base) leaf (λ start. reads leaf_record leaf_folded start entries) on ∙ took
 
-pub leaf-read : (number generation : ℕ) (base : Base) (entries : List Entry) (leaf last : LeafState) → leaf_on number generation base ≡ Some leaf
+pub leaf-read : (number layout generation : ℕ) (base : Base) (entries : List Entry) (leaf last : LeafState) → leaf_on number generation base ≡ Some leaf
     → reads leaf_record leaf_folded (Some leaf) entries ≡ Some last
-    → leaf_meaning number (record { generation = generation; base = base; entries = entries }) ≡ Some last
-leaf-read number generation base entries leaf last on took =
+    → leaf_meaning number (record { layout = layout; generation = generation; base = base; entries = entries }) ≡ Some last
+leaf-read number layout generation base entries leaf last on took =
     started (is_leaf_base number base) (leaf_of generation base) leaf (λ start. reads leaf_record leaf_folded start entries) on ∙ took

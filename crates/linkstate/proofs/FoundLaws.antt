@@ -12,11 +12,11 @@ certain-counted account certain = ap (λ d. written_if d account.contents) certa
 
 -- what is found is what the journal then holds
 pub found-is : (contents : Contents) (generation : ℕ) (found : Found) → generation ≡ contents.generation → IsFound found contents
-    → contents_in generation found ≡ contents
+    → contents_in contents.layout generation found ≡ contents
 found-is contents generation found at is =
-    ap (λ n. (let c : Contents = record { generation = n; base = found.base; entries = found.entries } in c)) at
-    ∙ ap (λ b. (let c : Contents = record { generation = contents.generation; base = b; entries = found.entries } in c)) is.0
-    ∙ ap (λ l. (let c : Contents = record { generation = contents.generation; base = contents.base; entries = l } in c)) is.1
+    ap (λ n. (let c : Contents = record { layout = contents.layout; generation = n; base = found.base; entries = found.entries } in c)) at
+    ∙ ap (λ b. (let c : Contents = record { layout = contents.layout; generation = contents.generation; base = b; entries = found.entries } in c)) is.0
+    ∙ ap (λ l. (let c : Contents = record { layout = contents.layout; generation = contents.generation; base = contents.base; entries = l } in c)) is.1
 
 -- disks that were taken out of a journal at rest mean what they meant
 pub rested-mean : (account : Account) (before : Option Contents) (x y : List ℕ) → account ≡ settled account.contents

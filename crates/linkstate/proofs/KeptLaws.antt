@@ -1,13 +1,33 @@
 -- What a journal that is found or handed back means, whichever end's it is.
 use Rattle.std.proofs.Common.{◌≡◌, ◌⊎◌, ℕ, Bool, true, false, List, Option, None, Some, refl, sym, ap, subst, ◌∙◌, inl, inr, arith}
 use Rattle.storage.specs.Laws.{only_now}
+use Rattle.botjournal.specs.declared.TheConstants.{LAYOUT}
 use Rattle.botjournal.specs.Contents.{Contents, meaning}
 use Rattle.botjournal.specs.Journal.{IsEither}
 use Rattle.botjournal.specs.declared.found.Found.{Found}
-use Rattle.botjournal.specs.Ledger.{Account, Device, Ledger, Pending, IsFound, AtEachMoment, Leaves, settled, written, counted as contents_counted}
+use Rattle.botjournal.specs.Ledger.{Account, Device, Ledger, Pending, IsFound, Adding, Rebasing, AtEachMoment, Leaves, settled, written, written_if, counted as contents_counted}
 use Rattle.linkstate.specs.States.{contents_in}
-use Rattle.linkstate.specs.Kept.{MeansEither, IsUp, Stands, AreOf, LeavesOwn, LeavesWritten}
+use Rattle.linkstate.specs.Kept.{IsCurrent, MeansEither, IsUp, Stands, AreOf, LeavesOwn, LeavesWritten}
 use Rattle.linkstate.proofs.FoundLaws.{certain-counted, found-is}
+
+-- ---- the layout
+
+-- what is in doubt changes no layout, save to the present one
+pub counted-current : (account : Account) → account.contents.layout ≡ LAYOUT → (contents_counted account).layout ≡ LAYOUT
+counted-current account current = by account.doubt
+  where
+    by : (doubt : Option Pending) → (written_if doubt account.contents).layout ≡ LAYOUT
+    by None = current
+    by (Some (Adding entry)) = current
+    by (Some (Rebasing base)) = refl
+
+pub current-left : (account : Account) (x y : List ℕ) → account.contents.layout ≡ LAYOUT
+    → IsEither (Some account.contents) (Some (contents_counted account)) x y → IsCurrent (meaning x y)
+current-left account x y current either = by either.means
+  where
+    by : (meaning x y ≡ Some account.contents) ⊎ (meaning x y ≡ Some (contents_counted account)) → IsCurrent (meaning x y)
+    by (inl e) = subst (λ (o : Option Contents). IsCurrent o) (sym e) current
+    by (inr e) = subst (λ (o : Option Contents). IsCurrent o) (sym e) (counted-current account current)
 
 module _ {S R : Type 0} (state_of : Contents → Option S) (folded : S → R → S) where
   -- ---- what is found
@@ -27,9 +47,10 @@ module _ {S R : Type 0} (state_of : Contents → Option S) (folded : S → R →
   -- what was read is what the contents mean
   pub found-meaning : (generation : ℕ) (found : Found) (account : Account) (means : Option S) → account ≡ settled account.contents
       → (account.down ≡ false → generation ≡ account.contents.generation) → IsFound found account.contents
-      → state_of (contents_in generation found) ≡ means → state_of account.contents ≡ means
+      → ((layout : ℕ) → state_of (contents_in layout generation found) ≡ means) → state_of account.contents ≡ means
   found-meaning generation found account means rests at is read =
-      ap state_of (sym (found-is account.contents generation found (at (ap (λ (a : Account). a.down) rests)) is)) ∙ read
+      ap state_of (sym (found-is account.contents generation found (at (ap (λ (a : Account). a.down) rests)) is))
+      ∙ read account.contents.layout
 
   -- ---- what is handed back
 

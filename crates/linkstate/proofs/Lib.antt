@@ -5,3 +5,4 @@ pub mod Goodness
 pub mod HubStates
 pub mod EndStates
 pub mod KeptLaws
+pub mod AnewLaws

@@ -10,7 +10,7 @@ use Rattle.linkcalls.specs.declared.answer.Answer.{Answer}
 use Rattle.linkcalls.specs.declared.error.LinkFault.{LinkFault}
 use Rattle.linkcalls.specs.Meets.{Meets, Restarts}
 use Rattle.linkstate.specs.Kept.{Kept}
-use Rattle.linkstate.specs.Opening.{Makes, Finds}
+use Rattle.linkstate.specs.Opening.{Makes, Finds, FindsAtEachMoment}
 
 -- an end: its number, which is 0 at the hub, in a net of so many leaves; the protocol's bot; and its two disks
 pub record End (B : Type 0) : Type 0 where
@@ -66,7 +66,13 @@ module _ {D S L R : Type 0} (disk : D → State) (first second : D) (number leav
   abbrev pub Creates : S → Result (End (Bot S L R)) (Returned D) → Type 0
   Creates start result = Makes disk first second (λ end. end.device) (resting number leaves loose) start result
 
-  -- Finding one whose journal's contents mean what they do.
-  abbrev pub Opens : (Contents → Option S) → Result (End (Bot S L R)) (Returned D) → Type 0
-  Opens state_of result =
-      Finds disk first second (λ end. end.device) (resting number leaves loose) state_of (λ end. end.bot.kept) result
+  -- Finding one whose journal's contents mean what they do, and are put anew so where they have an older layout.
+  abbrev pub Opens : (Contents → Option S) → (S → S → Type 0) → Result (End (Bot S L R)) (Returned D) → Type 0
+  Opens state_of Renews result =
+      Finds disk first second (λ end. end.device) (resting number leaves loose) state_of Renews (λ end. end.bot.kept) result
+
+-- At each moment of finding one a crash leaves what the disks mean, or that put anew.
+abbrev pub OpensAtEachMoment : {D S L R : Type 0} → (D → State) → D → D → (Contents → Option S) → (S → S → Type 0)
+    → Result (End (Bot S L R)) (Returned D) → Type 0
+OpensAtEachMoment disk first second state_of Renews result =
+    FindsAtEachMoment disk first second (λ end. end.device) state_of Renews result

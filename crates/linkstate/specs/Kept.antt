@@ -4,6 +4,7 @@ use Rattle.bytetext.specs.declared.failure.Failure.{Failure}
 use Rattle.bytetext.specs.declared.failure.Failure.TheVariants.{Refused, NoMemory}
 use Rattle.storage.specs.State.{State, may_leave}
 use Rattle.storage.specs.declared.disk.DiskFault.{DiskFault}
+use Rattle.botjournal.specs.declared.TheConstants.{LAYOUT}
 use Rattle.botjournal.specs.Contents.{Contents, meaning}
 use Rattle.botjournal.specs.Ledger.{Ledger, Pending, Account, Device, Failed, AtEachMoment, LeavesEither, Writes, FailsAt, counted as contents_counted}
 use Rattle.protocol.specs.Bots.{counted}
@@ -30,6 +31,15 @@ abbrev pub LeavesWritten : Pending → Ledger → Ledger → Type 0
 LeavesWritten pending old new = (new ≡ old) ⊎ LeavesEither pending old new
 
 -- ---- how a journal stands to the state
+
+-- these contents have the present layout, where there are any
+abbrev pub IsCurrent : Option Contents → Type 0
+IsCurrent None = Unit {0}
+IsCurrent (Some contents) = contents.layout ≡ LAYOUT
+
+-- whatever a crash leaves on the disks has the present layout
+abbrev pub LeavesCurrent : State → State → Type 0
+LeavesCurrent first second = (x y : List ℕ) → may_leave first x → may_leave second y → IsCurrent (meaning x y)
 
 module _ {S R : Type 0} (state_of : Contents → Option S) (folded : S → R → S) where
   -- the contents mean the state, or that with the record in doubt counted
@@ -66,6 +76,12 @@ module _ {S R : Type 0} (state_of : Contents → Option S) (folded : S → R →
   abbrev pub LeavesOwn : S → Option R → Device → Device → Type 0
   LeavesOwn kept doubt before now = AtEachMoment before now (AreOf kept doubt)
 
+-- ---- putting the state alone into its journal
+
+-- what becomes of a state by the record that puts it alone into its journal, which it may take
+abbrev pub Renews : {S R : Type 0} → (S → R → Type 0) → (S → R → S) → R → S → S → Type 0
+Renews may folded renewal before kept = may before renewal × (kept ≡ folded before renewal)
+
 -- ---- what the calls answer
 
 module _ {S R : Type 0} (folded : S → R → S) where
@@ -76,7 +92,8 @@ module _ {S R : Type 0} (folded : S → R → S) where
       × (new ≡ record old { down = true; doubt = Some entry; device = new.device }) × Failed old.device new.device
   Journals entry old (Err NoMemory) new = new ≡ old
 
-  -- A restart, by cases on the answer: the record in doubt doesn't count, or does; else the end is down.
+  -- A restart, by cases on the answer: the record in doubt doesn't count, or does; else the end is down. What it finds has the present
+  -- layout, as all has that a crash leaves of an end: nothing is put anew.
   abbrev pub Restarts : Kept S R → Result (Unit {0}) (Failure LinkFault) → Kept S R → Type 0
   Restarts old (Ok _) new =
       (new ≡ record old { down = false; doubt = None; device = new.device })

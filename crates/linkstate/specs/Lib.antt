@@ -1,6 +1,7 @@
 pub mod States
 pub mod Kept
 pub mod Opening
+pub mod Anew
 pub mod Ends
 pub mod Records
 pub mod HubRecords

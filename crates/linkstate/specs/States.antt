@@ -46,9 +46,10 @@ empty_base bot = record { bot = bot; version = 0; records = []; replies = []; la
 abbrev pub sound_records : List UserfileRecord → Option Records
 sound_records items = record_if (stand_together (records_from items)) (records_from items)
 
--- what was found in a journal of this generation
-abbrev pub contents_in : ℕ → Found → Contents
-contents_in generation found = record { generation = generation; base = found.base; entries = found.entries }
+-- what was found in a journal of this layout and generation
+abbrev pub contents_in : ℕ → ℕ → Found → Contents
+contents_in layout generation found =
+    record { layout = layout; generation = generation; base = found.base; entries = found.entries }
 
 -- a hub on a base alone, where the base is a hub's
 abbrev pub hub_on : ℕ → ℕ → Base → Option HubState

@@ -1,6 +1,7 @@
 // The next change that a hub accepts, made in memory alone or after its entry in a journal.
 ghost use Rattle.std.specs.Prelude.{◌≡◌, ◌++◌, ◌∷◌, [], false, None, IfOk, OnOk, OnErr};
 ghost use Rattle.userfile.specs.Apply.{refusal, changed, bad_shape};
+ghost use Rattle.botjournal.specs.declared.TheConstants.{LAYOUT};
 ghost use Rattle.botjournal.specs.Ledger.{Adding};
 ghost use Rattle.botjournal.specs.Entries.{IsGoodEntry};
 ghost use Rattle.botjournal.specs.declared.entry.Entry.TheVariants.{Accepted};
@@ -64,6 +65,7 @@ pub(crate) fn keep_next<D: Disk>(
     kept: AcceptedChange,
 ) -> Result<(), LedgerError>
     requires up { ledger.old.account.down ≡ false }
+    requires current { ledger.old.account.contents.layout ≡ LAYOUT }
     requires good { IsGoodEntry entry.now }
     requires taken { refusal userfile.old kept.change ≡ None }
     ensures row { WritesAny ledger.old (Adding entry.now) result ledger.new }

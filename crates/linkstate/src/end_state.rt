@@ -1,6 +1,7 @@
 // What an end of the link keeps, as the journal that it is kept in sees it.
-ghost use Rattle.std.specs.Prelude.{◌≡◌, ℕ, Option, Some, false, IfOk, OnOk, OnErr};
+ghost use Rattle.std.specs.Prelude.{◌≡◌, ◌≢◌, ◌-◌, ◌^◌, ℕ, Option, Some, false, IfOk, OnOk, OnErr};
 ghost use Rattle.std.specs.List.{AllByRecursion};
+ghost use Rattle.botjournal.specs.declared.TheConstants.{LAYOUT};
 ghost use Rattle.botjournal.specs.Bases.{IsGoodBase};
 ghost use Rattle.botjournal.specs.Entries.{IsGoodEntry};
 ghost use Rattle.botjournal.specs.Contents.{Contents, new_contents};
@@ -45,6 +46,9 @@ pub trait EndState: Drop + Sized {
     /// The state once a record is kept.
     ghost folded: { Self → Self.Record → Self };
 
+    /// The record that puts the state alone into the journal.
+    ghost renewal: { Self.Record };
+
     /// Which bot the journal is of.
     fn bot(who: u16) -> u16
         ensures { result ≡ bot who };
@@ -75,7 +79,8 @@ pub trait EndState: Drop + Sized {
         requires end { is_end who }
         requires good { IsGoodBase base.now }
         requires spelled { AllByRecursion IsGoodEntry entries.now }
-        ensures reads { Reads (meaning who (record { generation = generation; base = base.now; entries = entries.now })) result }
+        // In whichever layout they stood.
+        ensures reads { (layout : ℕ) → Reads (meaning who (record { layout = layout; generation = generation; base = base.now; entries = entries.now })) result }
         ensures state { IfOk result (λ kept. is_state who kept) };
 
     /// Journals a record, and then makes the state of it. All memory is taken before the first device call.
@@ -90,6 +95,7 @@ pub trait EndState: Drop + Sized {
         entry: Self::Record,
     ) -> Result<(), LedgerError>
         requires up { ledger.old.account.down ≡ false }
+        requires current { ledger.old.account.contents.layout ≡ LAYOUT }
         requires end { is_end who }
         requires state { is_state who self.old }
         requires means { meaning who ledger.old.account.contents ≡ Some self.old }
@@ -99,9 +105,33 @@ pub trait EndState: Drop + Sized {
         ensures folds { OnOk result (self.new ≡ folded self.old entry) }
         ensures stays { OnErr result (self.new ≡ self.old) };
 
+    /// Puts the state alone into its journal, of whichever layout that is, in the next generation and the present layout.
+    ///
+    /// # Errors
+    /// `NoMemory`, where nothing was written, or `DiskFault`; each leaves the state as it was.
+    fn renew<D: Disk>(
+        &mut self,
+        alloc: Global,
+        who: u16,
+        ledger: &mut Ledger<D>,
+    ) -> Result<(), LedgerError>
+        requires up { ledger.old.account.down ≡ false }
+        requires end { is_end who }
+        requires state { is_state who self.old }
+        requires means { meaning who ledger.old.account.contents ≡ Some self.old }
+        requires left { ledger.old.account.contents.generation ≢ 2 ^ 32 - 1 }
+        ensures may { may self.old renewal }
+        ensures row { WritesAny ledger.old (pending who self.old renewal) result ledger.new }
+        ensures any_moment { LeavesWritten (pending who self.old renewal) ledger.old ledger.new }
+        ensures folds { OnOk result (self.new ≡ folded self.old renewal) }
+        ensures stays { OnErr result (self.new ≡ self.old) };
+
     // What a record makes of the contents means what it makes of the state, which stays one.
     ghost writes: { (who : ℕ) (contents : Contents) (kept : Self) (entry : Self.Record) → is_end who → is_state who kept
         → may kept entry → meaning who contents ≡ Some kept → meaning who (written (pending who kept entry) contents) ≡ Some (folded kept entry) };
+
+    // What is put into the journal has the present layout.
+    ghost renews_layout: { (who : ℕ) (contents : Contents) (kept : Self) → (written (pending who kept renewal) contents).layout ≡ LAYOUT };
 
     ghost stays_state: { (who : ℕ) (kept : Self) (entry : Self.Record) → is_state who kept → may kept entry
         → is_state who (folded kept entry) };

@@ -82,7 +82,9 @@ pub fn know_change(change: &Change)
         | Change::DelUser { .. }
         | Change::AddHost { .. }
         | Change::DelHost { .. }
-        | Change::DelBan { .. } => {}
+        | Change::DelBan { .. }
+        | Change::SetInfo { .. }
+        | Change::SetSticky { .. } => {}
         Change::SetGlobal { flags, .. }
         | Change::SetChan { flags, .. }
         | Change::SetBot { flags, .. } => {

@@ -67,6 +67,7 @@ impl HubState {
     ghost use Rattle.userfile.specs.Apply.{refusal};
     ghost use Rattle.usercodec.specs.Records.{IsGoodRecord};
     ghost use Rattle.botjournal.specs.Bases.{AreListed, IsGoodBase};
+    ghost use Rattle.botjournal.specs.declared.TheConstants.{LAYOUT};
     ghost use Rattle.botjournal.specs.Ledger.{Adding, Rebasing};
     ghost use Rattle.botjournal.specs.declared.entry.Entry.TheVariants.{Accepted, Settled};
     ghost use Rattle.protocol.specs.Numbers.{last_number, item_at};
@@ -112,7 +113,8 @@ impl HubState {
         entries: &[Entry],
     ) -> Result<HubState, StateError>
         requires good { IsGoodBase base.now }
-        ensures reads { Reads (hub_meaning leaves (record { generation = generation; base = base.now; entries = entries.now })) result }
+        // In whichever layout they stood.
+        ensures reads { (layout : _) → Reads (hub_meaning leaves (record { layout = layout; generation = generation; base = base.now; entries = entries.now })) result }
         ensures foreign { is_hubs leaves base.now ≡ false → result ≡ Err (Refused NotAJournal) }
         // Each leaf has a place for its reply, and each reply is at its leaf's.
         ensures state { IfOk result (λ hub. IsHubState leaves hub) }
@@ -278,6 +280,7 @@ impl HubState {
         entry: AcceptedChange,
     ) -> Result<(), LedgerError>
         requires up { ledger.old.account.down ≡ false }
+        requires current { ledger.old.account.contents.layout ≡ LAYOUT }
         requires taken { refusal self.old.records entry.change ≡ None }
         requires numbered { nat_lt (version_of self.old) last_number ≡ true }
         requires next { is_next self.old.replies entry.origin entry.request ≡ true }
@@ -316,6 +319,7 @@ impl HubState {
         fault: ChangeFault,
     ) -> Result<(), LedgerError>
         requires up { ledger.old.account.down ≡ false }
+        requires current { ledger.old.account.contents.layout ≡ LAYOUT }
         requires next { is_next_of (item_at self.old.replies leaf) request ≡ true }
         ensures row { WritesAny ledger.old (Adding (Settled leaf request fault)) result ledger.new }
         ensures any_moment { LeavesWritten (Adding (Settled leaf request fault)) ledger.old ledger.new }

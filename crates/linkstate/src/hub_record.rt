@@ -70,7 +70,8 @@ impl EndState for HubState {
     type Record = HubRecord;
 
     ghost use Rattle.std.specs.Prelude.{◌≤◌};
-    ghost use Rattle.protocol.specs.HubRules.{hub_folded};
+    ghost use Rattle.std.proofs.Common.{refl};
+    ghost use Rattle.protocol.specs.HubRules.{hub_folded, Rebase};
     ghost use Rattle.protocol.specs.Journals.{hub_meaning, IsHubState};
     ghost use Rattle.linkcalls.specs.declared.TheConstants.{MAX_LEAVES};
     ghost use Rattle.linkstate.specs.Records.{start_hub, hub_pending, HubMayWrite};
@@ -91,6 +92,8 @@ impl EndState for HubState {
     ghost pending = { λ _. hub_pending };
 
     ghost folded = { hub_folded };
+
+    ghost renewal = { Rebase };
 
     fn bot(_leaves: u16) -> u16 {
         0
@@ -127,7 +130,19 @@ impl EndState for HubState {
         }
     }
 
+    fn renew<D: Disk>(
+        &mut self,
+        alloc: Global,
+        _leaves: u16,
+        ledger: &mut Ledger<D>,
+    ) -> Result<(), LedgerError> {
+        let _generation = self.generation();
+        self.rebase(alloc, ledger)
+    }
+
     ghost writes = { hub_writes };
+
+    ghost renews_layout = { λ _ _ _. refl };
 
     ghost stays_state = { hub_stays };
 }

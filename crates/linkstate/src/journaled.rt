@@ -1,6 +1,7 @@
 // What goes into a journal that takes records.
 ghost use Rattle.std.specs.Prelude.{◌≡◌, ◌≢◌, ◌-◌, ◌^◌, false, None, OnOk, OnErr};
 ghost use Rattle.userfile.specs.Apply.{refusal, changed};
+ghost use Rattle.botjournal.specs.declared.TheConstants.{LAYOUT};
 ghost use Rattle.botjournal.specs.Bases.{IsGoodBase};
 ghost use Rattle.botjournal.specs.Entries.{IsGoodEntry};
 ghost use Rattle.botjournal.specs.Ledger.{Adding, Rebasing};
@@ -19,6 +20,7 @@ pub(crate) fn entry_journaled<D: Disk>(
     entry: &Entry,
 ) -> Result<(), LedgerError>
     requires up { ledger.old.account.down ≡ false }
+    requires current { ledger.old.account.contents.layout ≡ LAYOUT }
     requires good { IsGoodEntry entry.now }
     ensures row { WritesAny ledger.old (Adding entry.now) result ledger.new }
     ensures any_moment { LeavesWritten (Adding entry.now) ledger.old ledger.new }
@@ -60,6 +62,7 @@ pub(crate) fn change_journaled<D: Disk>(
     entry: &Entry,
 ) -> Result<(), LedgerError>
     requires up { ledger.old.account.down ≡ false }
+    requires current { ledger.old.account.contents.layout ≡ LAYOUT }
     requires good { IsGoodEntry entry.now }
     requires taken { refusal userfile.old change.now ≡ None }
     ensures row { WritesAny ledger.old (Adding entry.now) result ledger.new }

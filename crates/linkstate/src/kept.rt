@@ -2,15 +2,17 @@
 ghost use Rattle.std.specs.Prelude.{◌≡◌, None, Some, false, IfOk};
 ghost use Rattle.storage.specs.State.{IsSettled};
 ghost use Rattle.botjournal.specs.Bases.{IsGoodBase};
-ghost use Rattle.botjournal.specs.Ledger.{IsGoodFound, AreStill, Reopens};
+ghost use Rattle.botjournal.specs.declared.TheConstants.{LAYOUT};
+ghost use Rattle.botjournal.specs.Ledger.{IsGoodFound, AreStill, Reopens, settled};
 ghost use Rattle.linkstate.specs.States.{Reads, contents_in, empty_base};
-ghost use Rattle.linkstate.specs.Kept.{Journals, Restarts, LeavesOwn, MayLeave};
-ghost use Rattle.linkstate.specs.Opening.{Makes, Finds, at_rest};
+ghost use Rattle.linkstate.specs.Kept.{Journals, Restarts, Renews, LeavesOwn, MayLeave, LeavesCurrent};
+ghost use Rattle.linkstate.specs.Opening.{Makes, Finds, FindsAtEachMoment, AreCurrent, at_rest};
+ghost use Rattle.linkstate.specs.Anew.{PutsAnew, PutsAnewAtEachMoment, journal_error};
 
 use crate::end_state::EndState;
 use crate::fault::StateError;
-use botjournal::{Base, Found, Ledger};
-use bytejournal::{Disks, JournalFault, Returned};
+use botjournal::{Base, Found, LAYOUT, Ledger, LedgerError};
+use bytejournal::{Disks, JournalError, JournalFault, Returned};
 use bytetext::{Failure, Seq};
 use linkcalls::{LinkError, LinkFault};
 use std::alloc::Global;
@@ -47,7 +49,8 @@ impl<S: EndState, D: Disk> Model for Kept<S, D> {
 
     ghost Value = { Kept S S.Record };
 
-    ghost use Rattle.std.specs.Prelude.{option_map};
+    ghost use Rattle.std.specs.Prelude.{◌≡◌, option_map};
+    ghost use Rattle.botjournal.specs.declared.TheConstants.{LAYOUT};
     ghost use Rattle.linkstate.specs.Kept.{Stands};
 
     ghost view = { λ k. record {
@@ -58,8 +61,10 @@ impl<S: EndState, D: Disk> Model for Kept<S, D> {
       device = k.ledger.device;
     } };
 
+    // The journal has the present layout, so that a record may be added to it, and a restart finds no other.
     ghost invariant = { λ k. S.is_end k.who × S.is_state k.who k.state
-        × Stands (S.meaning k.who) S.folded k.state k.down (option_map (λ d. d.value) k.doubt) k.ledger.account };
+        × Stands (S.meaning k.who) S.folded k.state k.down (option_map (λ d. d.value) k.doubt) k.ledger.account
+        × (k.ledger.account.contents.layout ≡ LAYOUT) };
 }
 
 impl<S: EndState, D: Disk> Kept<S, D> {
@@ -91,36 +96,89 @@ impl<S: EndState, D: Disk> Kept<S, D> {
         }
     }
 
-    /// The end whose journal the disks hold. Nothing is written.
+    /// The end whose journal the disks hold. Where that has the present layout nothing is written. Where it has an older
+    /// one the state alone is put into it, in its next generation, before the end answers.
     ///
     /// # Errors
-    /// With the disks: `DiskFault`; `NotAJournal` where they hold none, or another end's; `NoMemory`.
+    /// With the disks: of the reading `DiskFault`; `NotAJournal` where they hold none, or another end's; `NoMemory`. Then of
+    /// an older journal `GenerationsSpent` where it has no next generation, `NoMemory` or `DiskFault`.
     pub fn open(alloc: Global, first: D, second: D, who: u16) -> Result<Kept<S, D>, Returned<D>>
         requires first_settled { IsSettled (D.state first) }
         requires second_settled { IsSettled (D.state second) }
         requires end { S.is_end who }
-        ensures row { Finds D.state first second (λ k. k.device) (at_rest who) (S.meaning who) (λ k. k.state) result }
-        // Nothing happened to the disks.
-        ensures still { IfOk result (λ k. AreStill (D.state first) (D.state second) k.device) }
+        ensures row { Finds D.state first second (λ k. k.device) (at_rest who) (S.meaning who) (Renews S.may S.folded S.renewal) (λ k. k.state) result }
+        // Nothing happened to disks that have the present layout.
+        ensures still { AreCurrent D.state first second → IfOk result (λ k. AreStill (D.state first) (D.state second) k.device) }
+        // At each moment of the call a crash leaves what the disks meant, or that put anew.
+        ensures any_moment { FindsAtEachMoment D.state first second (λ k. k.device) (S.meaning who) (Renews S.may S.folded S.renewal) result }
     {
         let (ledger, found) = match Ledger::open(alloc, first, second) {
             Ok(opened) => opened,
             Err(returned) => return Err(returned),
         };
         match state_in(alloc, who, ledger.generation(), &found) {
-            Ok(state) => Ok(Kept {
-                who,
-                state,
-                ledger,
-                down: false,
-                doubt: None,
-            }),
+            Ok(state) => {
+                if ledger.layout() == LAYOUT {
+                    return Ok(Kept::up(who, state, ledger));
+                }
+                Kept::put_anew(alloc, who, state, ledger)
+            }
             Err(Failure::Refused(_)) => Err(Returned {
                 error: Failure::Refused(JournalFault::NotAJournal),
                 disks: ledger.into_disks(),
             }),
             Err(Failure::NoMemory) => Err(Returned {
                 error: Failure::NoMemory,
+                disks: ledger.into_disks(),
+            }),
+        }
+    }
+
+    // An end whose journal takes records and means its state.
+    fn up(who: u16, state: S, ledger: Ledger<D>) -> Kept<S, D>
+        requires end { S.is_end who }
+        requires state { S.is_state who state }
+        requires rests { ledger.account ≡ settled ledger.account.contents }
+        requires means { S.meaning who ledger.account.contents ≡ Some state }
+        requires current { ledger.account.contents.layout ≡ LAYOUT }
+        ensures { result ≡ at_rest who state ledger.device }
+    {
+        Kept {
+            who,
+            state,
+            ledger,
+            down: false,
+            doubt: None,
+        }
+    }
+
+    // An end on an older journal, into which its state alone is put.
+    fn put_anew(
+        alloc: Global,
+        who: u16,
+        state: S,
+        ledger: Ledger<D>,
+    ) -> Result<Kept<S, D>, Returned<D>>
+        requires end { S.is_end who }
+        requires state { S.is_state who state }
+        requires rests { ledger.account ≡ settled ledger.account.contents }
+        requires means { S.meaning who ledger.account.contents ≡ Some state }
+        ensures row { PutsAnew D.state (S.may state S.renewal) (at_rest who (S.folded state S.renewal)) (λ k. k.device) ledger result }
+        ensures any_moment { PutsAnewAtEachMoment D.state (S.may state S.renewal) (S.pending who state S.renewal) (λ k. k.device) ledger result }
+    {
+        let mut state = state;
+        let mut ledger = ledger;
+        ledger.know_disks();
+        if ledger.generations_spent() {
+            return Err(Returned {
+                error: Failure::Refused(JournalFault::GenerationsSpent),
+                disks: ledger.into_disks(),
+            });
+        }
+        match state.renew(alloc, who, &mut ledger) {
+            Ok(()) => Ok(Kept::up(who, state, ledger)),
+            Err(error) => Err(Returned {
+                error: journal_error(error),
                 disks: ledger.into_disks(),
             }),
         }
@@ -213,6 +271,7 @@ impl<S: EndState, D: Disk> Kept<S, D> {
     pub fn know_disks(&self)
         // What is the end's, with the record in doubt or without it.
         ensures left { MayLeave (S.meaning self.now.who) S.folded self.now.state self.now.doubt self.now.device.first self.now.device.second }
+        ensures current { LeavesCurrent self.now.device.first self.now.device.second }
         // Nothing is in doubt of an end that takes records.
         ensures certain { self.now.down ≡ false → self.now.doubt ≡ None }
     {
@@ -223,6 +282,7 @@ impl<S: EndState, D: Disk> Kept<S, D> {
     pub fn into_disks(self) -> Disks<D>
         // Whatever a crash leaves on them is the end's, with the record in doubt or without it.
         ensures left { MayLeave (S.meaning self.who) S.folded self.state self.doubt (D.state result.first) (D.state result.second) }
+        ensures current { LeavesCurrent (D.state result.first) (D.state result.second) }
     {
         let Kept {
             who: _,
@@ -259,7 +319,7 @@ fn state_in<S: EndState>(
 ) -> Result<S, StateError>
     requires end { S.is_end who }
     requires good { IsGoodFound found.now }
-    ensures reads { Reads (S.meaning who (contents_in generation found.now)) result }
+    ensures reads { (layout : _) → Reads (S.meaning who (contents_in layout generation found.now)) result }
     ensures state { IfOk result (λ kept. S.is_state who kept) }
 {
     S::read(
@@ -269,4 +329,14 @@ fn state_in<S: EndState>(
         &found.base,
         found.entries.as_slice(),
     )
+}
+
+// What a journal is refused for that could not be put anew.
+fn journal_error(error: LedgerError) -> JournalError
+    ensures { result ≡ journal_error error }
+{
+    match error {
+        Failure::Refused(_) => Failure::Refused(JournalFault::DiskFault),
+        Failure::NoMemory => Failure::NoMemory,
+    }
 }

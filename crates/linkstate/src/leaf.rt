@@ -59,6 +59,7 @@ impl LeafState {
     ghost use Rattle.std.specs.List.{AllByRecursion};
     ghost use Rattle.botjournal.specs.Bases.{IsGoodBase, IsGoodOut};
     ghost use Rattle.botjournal.specs.Entries.{IsGoodEntry};
+    ghost use Rattle.botjournal.specs.declared.TheConstants.{LAYOUT};
     ghost use Rattle.botjournal.specs.Ledger.{Adding, Rebasing};
     ghost use Rattle.botjournal.specs.declared.entry.Entry.TheVariants.{Applied, ReqOut, ReqDone};
     ghost use Rattle.protocol.specs.Numbers.{last_number};
@@ -97,7 +98,8 @@ impl LeafState {
         entries: &[Entry],
     ) -> Result<LeafState, StateError>
         requires good { IsGoodBase base.now }
-        ensures reads { Reads (leaf_meaning number (record { generation = generation; base = base.now; entries = entries.now })) result }
+        // In whichever layout they stood.
+        ensures reads { (layout : _) → Reads (leaf_meaning number (record { layout = layout; generation = generation; base = base.now; entries = entries.now })) result }
         ensures foreign { base.now.bot ≢ number → result ≡ Err (Refused NotAJournal) }
         ensures good { IfOk result (λ leaf. AllByRecursion IsGoodEntry entries.now → IsGoodOut leaf.out) }
     {
@@ -265,6 +267,7 @@ impl LeafState {
         change: &Change,
     ) -> Result<(), LedgerError>
         requires up { ledger.old.account.down ≡ false }
+        requires current { ledger.old.account.contents.layout ≡ LAYOUT }
         requires numbered { nat_lt self.old.version last_number ≡ true }
         requires taken { refusal self.old.records change.now ≡ None }
         ensures row { WritesAny ledger.old (Adding (Applied (self.old.version + 1) change.now)) result ledger.new }
@@ -295,6 +298,7 @@ impl LeafState {
         change: Change,
     ) -> Result<(), LedgerError>
         requires up { ledger.old.account.down ≡ false }
+        requires current { ledger.old.account.contents.layout ≡ LAYOUT }
         requires numbered { nat_lt self.old.last last_number ≡ true }
         requires good { IsGoodChange change }
         ensures row { WritesAny ledger.old (Adding (ReqOut (self.old.last + 1) change)) result ledger.new }
@@ -323,6 +327,7 @@ impl LeafState {
         ledger: &mut Ledger<D>,
     ) -> Result<(), LedgerError>
         requires up { ledger.old.account.down ≡ false }
+        requires current { ledger.old.account.contents.layout ≡ LAYOUT }
         ensures row { WritesAny ledger.old (Adding (ReqDone self.old.last)) result ledger.new }
         ensures any_moment { LeavesWritten (Adding (ReqDone self.old.last)) ledger.old ledger.new }
         ensures done { OnOk result (self.new ≡ leaf_folded self.old Done) }

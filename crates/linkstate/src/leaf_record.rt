@@ -87,7 +87,8 @@ impl EndState for LeafState {
     type Record = LeafRecord;
 
     ghost use Rattle.std.specs.Prelude.{◌<◌};
-    ghost use Rattle.protocol.specs.LeafRules.{leaf_folded};
+    ghost use Rattle.std.proofs.Common.{refl};
+    ghost use Rattle.protocol.specs.LeafRules.{leaf_folded, Compact};
     ghost use Rattle.protocol.specs.Journals.{leaf_meaning};
     ghost use Rattle.linkstate.specs.Records.{start_leaf, IsLeafState, leaf_pending, LeafMayWrite};
     ghost use Rattle.linkstate.specs.EndLaws.{leaf_writes, leaf_stays};
@@ -107,6 +108,8 @@ impl EndState for LeafState {
     ghost pending = { leaf_pending };
 
     ghost folded = { leaf_folded };
+
+    ghost renewal = { Compact };
 
     fn bot(number: u16) -> u16 {
         number
@@ -152,7 +155,19 @@ impl EndState for LeafState {
         }
     }
 
+    fn renew<D: Disk>(
+        &mut self,
+        alloc: Global,
+        number: u16,
+        ledger: &mut Ledger<D>,
+    ) -> Result<(), LedgerError> {
+        let _generation = self.generation();
+        self.compact(alloc, number, ledger)
+    }
+
     ghost writes = { leaf_writes };
+
+    ghost renews_layout = { λ _ _ _. refl };
 
     ghost stays_state = { leaf_stays };
 }

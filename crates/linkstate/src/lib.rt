@@ -3,7 +3,8 @@
 //! A [`HubState`] is what a hub keeps: the userfile, the changes accepted since the journal's base ([`AcceptedChange`]),
 //! and the last reply to each leaf. A [`LeafState`] is what a leaf keeps: the userfile at its version, the number of its
 //! last request, and the change that is out. Both are plain values in memory. A [`Kept`] is either of them in the journal
-//! that it is kept in: what it keeps next is journaled first. No packet is here.
+//! that it is kept in: what it keeps next is journaled first. A journal of an older layout is put anew where a [`Kept`] is
+//! opened on it, before that answers: the state alone, in the next generation. No packet is here.
 //!
 //! Each is read from a journal's base and entries, one entry after another by `take`, which folds in what a link writes
 //! in that state and refuses all else. The contracts say so in the words of `protocol`: what `read` answers is what the

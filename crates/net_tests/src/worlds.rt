@@ -1,6 +1,7 @@
 // All bots and their packets: `botworld`.
 use crate::nets::{new_bots, no_procs};
 use botcore::Event;
+use botjournal::LAYOUT;
 use botworld::{Outcome, Step, Transcript, World};
 use bytetext::TryCopy;
 use disks::MemDisk;
@@ -30,6 +31,7 @@ fn a_world_has_a_hub_and_all_leaves_of_it(rt: HostRuntime) {
 // A packet that nobody sent.
 fn made_up() -> Packet {
     Packet::Hello {
+        layout: LAYOUT,
         leaf: 1,
         version: 0,
     }

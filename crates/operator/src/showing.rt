@@ -47,10 +47,12 @@ fn asked<R: AllocGlobal + Net + Clock>(rt: &R, folder: &str) -> Result<Vec<u8>, 
     }
 }
 
-/// The version and the records of the bot whose journal these are copies of.
+/// The version and the records of the bot whose journal these are copies of. One of an older layout is put anew in the
+/// copies, which changes neither.
 ///
 /// # Errors
 /// `Unread` where they hold no journal of a bot; `NoMemory` where memory is refused.
+#[tactic(auto, using(crate::proofs::Shown::is_shown))]
 pub fn records_of(alloc: Global, copies: Stopped) -> Result<Vec<u8>, AskError>
     requires copies { AreCopies copies }
     ensures shown { IfOk result (λ text. IsShown copies.first.content copies.second.content text.items) }

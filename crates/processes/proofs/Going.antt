@@ -1,34 +1,37 @@
 -- Each deed leads to processes that stand for what history grew into.
-use Rattle.std.proofs.Common.{◌≡◌, inl, inr, ℕ, List, [], ◌++◌, length, slice_get, slice_set, Some, refl, ap, sym}
+use Rattle.std.proofs.Common.{◌≡◌, inl, inr, ℕ, ◌+◌, List, [], ◌++◌, length, slice_get, slice_set, Some, refl, ap, sym}
 use Rattle.std.proofs.Common.{subst, ◌∙◌, arith}
 use Rattle.std.proofs.lemmas.List.{append-nil}
 use Rattle.procstore.specs.Promises.{Promised}
-use Rattle.botjournal.specs.Contents.{meaning}
+use Rattle.botjournal.specs.Contents.{Contents, meaning}
 use Rattle.protocol.specs.Packets.{Sent as LinkSent, from_wire}
 use Rattle.protocol.specs.Bots.{How, Works, Fails, Counts, Row}
 use Rattle.protocol.specs.Network.{posted as link_posted}
 use Rattle.protocol.specs.Network.Event.{Pump as pumps, Compact as compacts, Restart as restarts}
 use Rattle.protocol.specs.History.{History}
+use Rattle.protocol.proofs.Growing.{Grows-trans}
 use Rattle.linkcalls.specs.Calls.{outgoings_of}
 use Rattle.linknet.specs.Ends.{End as LinkEnd, end_received}
 use Rattle.linknet.specs.Nets.{IsMoment, RowFollows}
 use Rattle.linknet.proofs.Goes.{received_goes}
-use Rattle.botlink.specs.Links.{BotEnd, did, took}
-use Rattle.botlink.specs.Links.{end_meaning}
+use Rattle.linkstate.specs.Opening.{ArePutAnew}
+use Rattle.botlink.specs.Links.{BotEnd, did, took, end_meaning, compacted, RenewsEnd}
 use Rattle.botcore.specs.declared.event.Event.{Event}
 use Rattle.botcore.specs.declared.event.Event.TheVariants.{Connect, Line, Ask, Pump, Receive, Clock, Bind, Unbind}
 use Rattle.botcore.specs.declared.event.Event.TheVariants.{Compact, Restart}
 use Rattle.botcore.specs.Bots.{Bot}
 use Rattle.botworld.specs.declared.sent.Sent.{Sent}
 use Rattle.botworld.specs.Net.{posted}
+use Rattle.botworld.proofs.Lists.{slice_get-set-same}
 use Rattle.botworld.proofs.Shown.{all_sent-posted}
-use Rattle.botworld.proofs.BotEnds.{IsAmong as IsBotAmong, did_row}
+use Rattle.botworld.proofs.BotEnds.{IsAmong as IsBotAmong, did_row, set-set}
 use Rattle.botworld.proofs.BotSteps.{WasSentTo, bot_goes}
 use Rattle.processes.specs.Deeds.{Process, Runs, Ended, Net, Step, Doing, Nothing, Telling, Deed, Made, Died, Opened}
-use Rattle.processes.specs.Deeds.{Unopened, with_process, after_deed, WasTold, WasDoing, with_end, LeavesIn, IsOpened}
+use Rattle.processes.specs.Deeds.{Unopened, with_process, after_deed, WasTold, WasDoing, with_end, LeavesIn, IsOpened, IsUnopened}
 use Rattle.processes.specs.Deeds.{Makes, Happens}
 use Rattle.processes.specs.Standing.{HasEnd, IsAt, AreAmong, Stands, Reaches}
 use Rattle.processes.proofs.Lists.{AreAmong-out, AreAmong-more, AreAmong-at}
+use Rattle.processes.proofs.Resting.{rests_anew}
 use Rattle.processes.proofs.Standing.{moves, keeps_end}
 
 -- ---- a packet that was told was sent
@@ -96,6 +99,24 @@ module _ (w : Net) (h : History) (st : Stands w h) where
       (subst (λ (ps : List Sent). AreAmong ps (st.packets ++ link_posted place row.sends)) (sym (append-nil w.packets))
       (AreAmong-more w.packets st.packets (link_posted place row.sends) st.told))
 
+  -- two rows were made, one after the other
+  rows_go : (place : ℕ) (old : BotEnd) → slice_get st.ends place ≡ Some old.end → (one two : Row LinkEnd)
+      → (goes : RowFollows h st.ends st.packets place one)
+      → RowFollows goes.after (slice_set st.ends place one.after) (st.packets ++ link_posted place one.sends) place two
+      → (process : Process) (new : BotEnd) → two.after ≡ new.end → new.number ≡ place → new.leaves ≡ h.count
+      → HasEnd new process
+      → Reaches h (with_process w place process [])
+  rows_go place old at one two goes more process new same number leaves has =
+      let sent = st.packets ++ link_posted place one.sends in
+      let packets = sent ++ link_posted place two.sends in
+      moves w h st place old at process (w.packets ++ []) packets new more.after
+      (subst (λ (es : List LinkEnd). IsMoment es packets more.after)
+      (set-set st.ends place one.after two.after ∙ ap (slice_set st.ends place) same) more.moment)
+      (Grows-trans h goes.after more.after goes.grows more.grows) (more.count ∙ goes.count) number leaves has
+      (subst (λ (ps : List Sent). AreAmong ps packets) (sym (append-nil w.packets))
+      (AreAmong-more w.packets sent (link_posted place two.sends)
+      (AreAmong-more w.packets st.packets (link_posted place one.sends) st.told)))
+
   module _ (place : ℕ) (was : Bot) (among : IsBotAmong h st.ends st.packets place was.link)
       (first second : List ℕ) where
     -- the call was to journal nothing
@@ -138,28 +159,93 @@ module _ (w : Net) (h : History) (st : Stands w h) where
 
   -- ---- an opening
 
-  -- the bot that was opened has the end that its disks mean
-  opens_end : (place : ℕ) (first second : List ℕ) (is : IsAt h st.ends place (Ended first second)) (after : Bot)
-      → IsOpened place (length w.processes) first second after → (how : How)
-      → end_meaning is.link.number is.link.leaves is.has.contents ≡ Some (did is.link restarts how).after
-      → Reaches h (after_deed w (Opened place after))
-  opens_end place first second is after o how means =
-      let b = is.link in
-      let among : IsBotAmong h st.ends st.packets place b =
-      record { sound = st.moment; at = is.at; number = is.number; leaves = is.leaves } in
-      let contents : Some is.has.contents ≡ Some o.contents = sym is.has.found ∙ o.found in
-      let same_contents : is.has.contents ≡ o.contents = cc in
-      let leaves : after.config.leaves ≡ h.count = omega (arith, o.leaves, st.many) in
-      let meant : Some (did b restarts how).after ≡ Some after.link.end =
-      sym means
-      ∙ ap (end_meaning b.number b.leaves) same_contents
-      ∙ ap (λ n. end_meaning n b.leaves o.contents) (is.number ∙ sym o.number)
-      ∙ ap (λ n. end_meaning after.config.number n o.contents) (is.leaves ∙ sym leaves)
-      ∙ o.means in
-      let same : (did b restarts how).after ≡ after.link.end = cc in
-      row_goes place b is.at (did b restarts how) (did_row h st.ends st.packets place b among restarts how)
-      (Runs after) after.link same
-      (ap (λ (l : BotEnd). l.number) o.link ∙ o.number) (ap (λ (l : BotEnd). l.leaves) o.link ∙ leaves) refl
+  module _ (place : ℕ) (first second : List ℕ) (is : IsAt h st.ends place (Ended first second)) (how : How)
+      (means : end_meaning is.link.number is.link.leaves is.has.contents ≡ Some (did is.link restarts how).after) where
+    -- the bytes are found as a restart finds them
+    restarted_goes : RowFollows h st.ends st.packets place (did is.link restarts how)
+    restarted_goes =
+        did_row h st.ends st.packets place is.link
+        (record { sound = st.moment; at = is.at; number = is.number; leaves = is.leaves }) restarts how
+
+    abbrev reopened : BotEnd
+    reopened = with_end is.link (did is.link restarts how).after
+
+    -- and then put anew as a compaction does it
+    abbrev anew : LinkEnd
+    anew = (did reopened compacts Works).after
+
+    compacted_goes : RowFollows restarted_goes.after (slice_set st.ends place reopened.end)
+        (st.packets ++ link_posted place (did is.link restarts how).sends) place (did reopened compacts Works)
+    compacted_goes =
+        did_row restarted_goes.after (slice_set st.ends place reopened.end)
+        (st.packets ++ link_posted place (did is.link restarts how).sends) place reopened
+        (record {
+          sound = restarted_goes.moment;
+          at = slice_get-set-same st.ends place is.link.end reopened.end is.at;
+          number = is.number;
+          leaves = is.leaves ∙ sym restarted_goes.count;
+        }) compacts Works
+
+    -- what the bytes mean to a bot of this number
+    module _ (number leaves : ℕ) (same_number : number ≡ place) (many : leaves + 1 ≡ length w.processes) where
+      same_leaves : leaves ≡ h.count
+      same_leaves = omega (arith, many, st.many)
+
+      meant : (contents : Contents) (before : LinkEnd) → meaning first second ≡ Some contents
+          → end_meaning number leaves contents ≡ Some before → reopened.end ≡ before
+      meant contents before found end =
+          let both : Some is.has.contents ≡ Some contents = sym is.has.found ∙ found in
+          let same : is.has.contents ≡ contents = cc in
+          let ends : Some reopened.end ≡ Some before =
+          sym means
+          ∙ ap (end_meaning is.link.number is.link.leaves) same
+          ∙ ap (λ n. end_meaning n is.link.leaves contents) (is.number ∙ sym same_number)
+          ∙ ap (λ n. end_meaning number n contents) (is.leaves ∙ sym same_leaves)
+          ∙ end in
+          cc
+
+      renewed : (before kept : LinkEnd) → reopened.end ≡ before → kept ≡ compacted number leaves before → anew ≡ kept
+      renewed before kept same renews =
+          ap (λ n. compacted n is.link.leaves reopened.end) (is.number ∙ sym same_number)
+          ∙ ap (λ n. compacted number n reopened.end) (is.leaves ∙ sym same_leaves)
+          ∙ ap (compacted number leaves) same ∙ sym renews
+
+    -- the bot that was opened has the end that its disks mean, or that put anew
+    opens_end : (after : Bot) → IsOpened place (length w.processes) first second after
+        → Reaches h (after_deed w (Opened place after))
+    opens_end after o =
+        let found = meant after.config.number after.config.leaves o.number o.leaves o.kept.contents o.kept.before o.kept.found
+        o.kept.means in
+        let number = ap (λ (l : BotEnd). l.number) o.link ∙ o.number in
+        let leaves = ap (λ (l : BotEnd). l.leaves) o.link
+        ∙ same_leaves after.config.number after.config.leaves o.number o.leaves in
+        elim o.kept.keeps [
+          | inl same ↦ row_goes place is.link is.at (did is.link restarts how) restarted_goes (Runs after) after.link
+              (found ∙ sym same.1) number leaves refl
+          | inr older ↦ rows_go place is.link is.at (did is.link restarts how) (did reopened compacts Works) restarted_goes
+              compacted_goes (Runs after) after.link
+              (renewed after.config.number after.config.leaves o.number o.leaves o.kept.before after.link.end found older.1)
+              number leaves refl
+        ]
+
+    -- bytes that were put anew mean what a restart of that end finds
+    unopens_end : (x y : List ℕ) (leaves : ℕ) → leaves + 1 ≡ length w.processes → (how ≡ Fails → ⊥)
+        → (put : ArePutAnew (end_meaning place leaves) (RenewsEnd place leaves) (meaning first second) (meaning x y))
+        → Reaches h (after_deed w (Unopened place x y))
+    unopens_end x y leaves many works put =
+        let found = meant place leaves refl many put.contents put.before put.was put.means in
+        let same = renewed place leaves refl many put.before put.kept found put.renews in
+        rows_go place is.link is.at (did is.link restarts how) (did reopened compacts Works) restarted_goes compacted_goes
+        (Ended x y) (with_end is.link anew) refl is.number is.leaves
+        (record {
+          contents = put.anew;
+          found = put.found;
+          means = inl (
+              ap (λ n. end_meaning n is.link.leaves put.anew) is.number
+              ∙ ap (λ n. end_meaning place n put.anew) (is.leaves ∙ sym (same_leaves place leaves refl many))
+              ∙ put.means_anew ∙ ap (λ (e : LinkEnd). Some e) (sym same)
+              ∙ ap (λ (e : LinkEnd). Some e) (sym (rests_anew is.link.leaves is.link.number how is.link.end works)));
+        })
 
   opened_goes : (place : ℕ) (first second : List ℕ) → slice_get w.processes place ≡ Some (Ended first second)
       → (after : Bot)
@@ -167,17 +253,23 @@ module _ (w : Net) (h : History) (st : Stands w h) where
   opened_goes place first second at after o =
       let is = st.each place (Ended first second) at in
       elim is.has.means [
-        | inl works ↦ opens_end place first second is after o Works works
-        | inr counts ↦ opens_end place first second is after o Counts counts
+        | inl works ↦ opens_end place first second is Works works after o
+        | inr counts ↦ opens_end place first second is Counts counts after o
       ]
 
   unopened_goes : (place : ℕ) (x y first second : List ℕ) → slice_get w.processes place ≡ Some (Ended x y)
-      → meaning first second ≡ meaning x y
+      → IsUnopened place (length w.processes) x y first second
       → Reaches h (after_deed w (Unopened place first second))
-  unopened_goes place x y first second at same =
+  unopened_goes place x y first second at u =
       let is = st.each place (Ended x y) at in
-      keeps_end w h st place is.link is.at (Ended first second) is.link refl is.number is.leaves
-      (record { contents = is.has.contents; found = same ∙ is.has.found; means = is.has.means })
+      elim u.left [
+        | inl same ↦ keeps_end w h st place is.link is.at (Ended first second) is.link refl is.number is.leaves
+            (record { contents = is.has.contents; found = same ∙ is.has.found; means = is.has.means })
+        | inr put ↦ elim is.has.means [
+          | inl works ↦ unopens_end place x y is Works works first second u.leaves u.many (λ no. cc) put
+          | inr counts ↦ unopens_end place x y is Counts counts first second u.leaves u.many (λ no. cc) put
+        ]
+      ]
 
   -- ---- any deed
 

@@ -1,20 +1,11 @@
 -- Lists of processes and of packets.
-use Rattle.std.proofs.Common.{◌≡◌, ℕ, zero, suc, List, [], ◌∷◌, ◌++◌, slice_get, slice_set, Some, refl, ap, subst}
+use Rattle.std.proofs.Common.{◌≡◌, ℕ, zero, suc, List, [], ◌∷◌, ◌++◌, Some, refl, ap, subst}
 use Rattle.protocol.specs.Packets.{Sent as LinkSent}
 use Rattle.protocol.proofs.Lists.{item_at-more}
 use Rattle.botworld.specs.declared.sent.Sent.{Sent}
 use Rattle.botworld.specs.Net.{packet_at}
 use Rattle.botworld.specs.Network.{sent_as, all_sent}
 use Rattle.processes.specs.Standing.{IsAmong, AreAmong}
-
--- what stands elsewhere stays
-pub get-set-other : {X : Type 0} (xs : List X) (i j : ℕ) (y : X) → (j ≡ i → ⊥)
-    → slice_get (slice_set xs i y) j ≡ slice_get xs j
-get-set-other [] i j y apart = refl
-get-set-other (z ∷ xs) zero zero y apart = absurd (apart refl)
-get-set-other (z ∷ xs) zero (suc j) y apart = refl
-get-set-other (z ∷ xs) (suc i) zero y apart = refl
-get-set-other (z ∷ xs) (suc i) (suc j) y apart = get-set-other xs i j y (λ e. apart (ap suc e))
 
 -- ---- packets among packets
 

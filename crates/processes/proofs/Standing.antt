@@ -9,11 +9,11 @@ use Rattle.linknet.specs.Ends.{End as LinkEnd}
 use Rattle.linknet.specs.Nets.{IsMoment}
 use Rattle.botlink.specs.Links.{BotEnd}
 use Rattle.botworld.specs.declared.sent.Sent.{Sent}
-use Rattle.botworld.proofs.Lists.{slice_get-set}
-use Rattle.botworld.proofs.BotEnds.{set-same, get-set}
+use Rattle.botworld.proofs.Lists.{slice_get-set, slice_get-set-same}
+use Rattle.botworld.proofs.BotEnds.{set-same}
 use Rattle.processes.specs.Deeds.{Process, Net}
 use Rattle.processes.specs.Standing.{HasEnd, IsAt, AreAmong, Stands, Reaches}
-use Rattle.processes.proofs.Lists.{get-set-other}
+use Rattle.protocol.proofs.Lists.{slice_set-other}
 
 module _ (w : Net) (h : History) (st : Stands w h) (place : ℕ) (old : BotEnd)
     (at : slice_get st.ends place ≡ Some old.end) where
@@ -34,14 +34,14 @@ module _ (w : Net) (h : History) (st : Stands w h) (place : ℕ) (old : BotEnd)
       each = λ i p e. elim (slice_get-set w.processes place i process p e) [
         | inl here ↦ subst (λ (q : Process). IsAt after (slice_set st.ends place new.end) i q) here.1 (record {
           link = new;
-          at = ap (slice_get (slice_set st.ends place new.end)) here.0 ∙ get-set st.ends place old.end new.end at;
+          at = ap (slice_get (slice_set st.ends place new.end)) here.0 ∙ slice_get-set-same st.ends place old.end new.end at;
           number = number ∙ sym here.0;
           leaves = leaves ∙ sym count;
           has = has;
         })
         | inr other ↦ let was = st.each i p other.1 in record {
           link = was.link;
-          at = get-set-other st.ends place i new.end other.0 ∙ was.at;
+          at = slice_set-other st.ends place i new.end other.0 ∙ was.at;
           number = was.number;
           leaves = was.leaves ∙ sym count;
           has = was.has;

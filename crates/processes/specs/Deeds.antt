@@ -4,11 +4,12 @@ use Rattle.userfile.specs.Records.{Records}
 use Rattle.sharewire.specs.declared.packet.Packet.{Packet}
 use Rattle.procstore.specs.Promises.{Promised}
 use Rattle.storage.specs.State.{moment, left_since}
-use Rattle.botjournal.specs.Contents.{Contents, meaning}
+use Rattle.botjournal.specs.Contents.{meaning}
 use Rattle.protocol.specs.Bots.{Fails}
 use Rattle.protocol.specs.Network.Event.{Pump as pumps, Compact as compacts}
 use Rattle.linknet.specs.Ends.{End}
-use Rattle.botlink.specs.Links.{BotEnd, did, took, end_meaning, AreOf}
+use Rattle.botlink.specs.Links.{BotEnd, did, took, AreOf}
+use Rattle.botlink.specs.Opening.{IsKeptOf, IsLeft}
 use Rattle.botcore.specs.declared.event.Event.{Event}
 use Rattle.botcore.specs.declared.event.Event.TheVariants.{Connect, Line, Ask, Pump, Receive, Clock, Bind, Unbind}
 use Rattle.botcore.specs.declared.event.Event.TheVariants.{Compact, Restart}
@@ -120,14 +121,12 @@ pub record CrashesIn (was after : BotEnd) (first second : List ℕ) : Type 0 whe
   pub first_left : left_since after.device.first (moment was.device.first) first
   pub second_left : left_since after.device.second (moment was.device.second) second
 
--- The bot of this number, of so many, keeps what these bytes mean. Its binds, channels, clock, timers and queues are
--- new.
+-- The bot of this number, of so many, keeps what these bytes mean, or where they have an older layout what a compaction
+-- makes of it. Its binds, channels, clock, timers and queues are new.
 pub record IsOpened (bot bots : ℕ) (first second : List ℕ) (after : Bot) : Type 0 where
   pub number : after.config.number ≡ bot
   pub leaves : after.config.leaves + 1 ≡ bots
-  pub contents : Contents
-  pub found : meaning first second ≡ Some contents
-  pub means : end_meaning after.config.number after.config.leaves contents ≡ Some after.link.end
+  pub kept : IsKeptOf after.config.number after.config.leaves (meaning first second) after.link.end
   pub link : after.link ≡ record {
     number = after.config.number;
     leaves = after.config.leaves;
@@ -135,6 +134,13 @@ pub record IsOpened (bot bots : ℕ) (first second : List ℕ) (after : Bot) : T
     device = after.link.device;
   }
   pub anew : after ≡ begun after.config after.link
+
+-- These bytes mean what a bot of this number, of so many, was to be opened on, or where that has an older layout the same put
+-- anew in the present one.
+pub record IsUnopened (bot bots : ℕ) (x y first second : List ℕ) : Type 0 where
+  pub leaves : ℕ
+  pub many : leaves + 1 ≡ bots
+  pub left : IsLeft bot leaves (meaning x y) first second
 
 module _ (promised : Promised) where
   -- the bot runs, a packet that it takes was told to it, and the step is one that a bot takes
@@ -156,7 +162,7 @@ module _ (promised : Promised) where
   Happens w (Opened bot after) = (first second : List ℕ) × (slice_get w.processes bot ≡ Some (Ended first second))
       × IsOpened bot (length w.processes) first second after
   Happens w (Unopened bot first second) = (x y : List ℕ) × (slice_get w.processes bot ≡ Some (Ended x y))
-      × (meaning first second ≡ meaning x y)
+      × IsUnopened bot (length w.processes) x y first second
 
   -- each of these deeds happens where those before it have led
   abbrev pub Run : Net → List Deed → Type 0

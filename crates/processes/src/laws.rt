@@ -1,16 +1,17 @@
 // What holds of any deeds of bots in processes of their own.
 ghost use Rattle.std.specs.Prelude.{◌≡◌, ◌⊎◌, ◌≤◌, ◌+◌, ◌++◌, ℕ, suc, true, List, slice_get, Some, Ok};
 ghost use Rattle.protocol.specs.History.{History, start};
-ghost use Rattle.storage.specs.State.{may_leave};
+ghost use Rattle.storage.specs.State.{may_leave, moment, left_since};
+ghost use Rattle.botjournal.specs.Ledger.{Device};
 ghost use Rattle.botlink.specs.Links.{BotEnd, MayLeave};
 ghost use Rattle.botcore.specs.declared.config.Config.{Config};
 ghost use Rattle.botcore.specs.Bots.{Bot};
 ghost use Rattle.botcore.specs.declared.event.Event.{Event};
 ghost use Rattle.botcore.specs.declared.report.Report.{Report};
-ghost use Rattle.botcore.specs.Making.{Finds};
+ghost use Rattle.botcore.specs.Making.{Finds, LeavesFound};
 ghost use Rattle.botcore.specs.Steps.{TakesStep};
 ghost use Rattle.botworld.specs.Calling.{Calling, IsAlike, IsAlikeButChannels, IgnoresChannels};
-ghost use Rattle.processes.specs.Deeds.{Net, Step, Deed, Made, Nothing, Telling, IsOpened, CrashesIn, LeavesIn, Run, IsFirst, net_after};
+ghost use Rattle.processes.specs.Deeds.{Net, Step, Deed, Made, Nothing, Telling, IsOpened, IsUnopened, CrashesIn, LeavesIn, Run, IsFirst, net_after};
 ghost use Rattle.processes.specs.Deeds.{shown_version, shown_records};
 ghost use Rattle.processes.specs.Standing.{Stands, Reaches};
 ghost use Rattle.processes.specs.Promises.{Once, calling_of};
@@ -51,9 +52,14 @@ pub fn laws_of_processes<P: Promise, D: Disk>()
         → (i j one other : ℕ) (s t : Step) (a b : Calling)
         → slice_get deeds i ≡ Some (Made one s) → slice_get deeds j ≡ Some (Made other t) → s.names ≡ t.names
         → calling_of s ≡ Some a → calling_of t ≡ Some b → IsAlikeButChannels a b → a.calls ≡ b.calls }
-    // A bot that `Bot::open` found is opened on what its disks held.
+    // A bot that `Bot::open` found is opened on what its disks held, or on that put anew.
     ensures opened { (config : Config) (first second : D) (bot : Bot) → Finds D.state config first second (Ok bot)
         → IsOpened config.number (config.leaves + 1) (D.state first).seen (D.state second).seen bot }
+    // What a crash at any moment of `Bot::open` leaves on its disks is what one may leave that dies while it opens the bot:
+    // `Bot::open` says of each device up to which it came that it leaves what was found.
+    ensures unopened { (config : Config) (first second : D) (now : Device) → LeavesFound D.state config first second now
+        → (x y : List ℕ) → left_since now.first (moment (D.state first)) x → left_since now.second (moment (D.state second)) y
+        → IsUnopened config.number (config.leaves + 1) (D.state first).seen (D.state second).seen x y }
     // What a crash leaves on the disks of a bot that `Bot::into_disks` took apart is what one leaves that dies outside
     // a call.
     ensures stopped { (first second : D) (link : BotEnd) → MayLeave (D.state first) (D.state second) link → (x y : List ℕ)

@@ -16,8 +16,10 @@
 //!   was journaling (`LeavesIn`). `botjournal` proves this of each of its calls; of a whole call of a bot nothing is
 //!   proved, since the values that its clauses speak of name no disk.
 //!
-//! Of the other deeds a bot's own calls say enough: an opening is one that `Bot::open`
-//! found (`opened`), and a process that ends between two calls leaves what `Bot::into_disks` says (`stopped`).
+//! Of the other deeds a bot's own calls say enough: an opening is one that `Bot::open` found (`opened`), one in which the
+//! process dies leaves what `Bot::open` says of each of its moments (`unopened`), and a process that ends between two calls
+//! leaves what `Bot::into_disks` says (`stopped`). An opening of a journal of an older layout is two steps of history: the
+//! restart that finds what was kept, and the compaction by which it is put anew.
 #![tactic(auto)]
 
 mod laws;

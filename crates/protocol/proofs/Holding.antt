@@ -8,7 +8,7 @@ use Rattle.usercodec.specs.Records.{HasShape}
 use Rattle.botjournal.specs.declared.reply.Answer.TheVariants.{Taken, Refused as refused_request}
 use Rattle.protocol.specs.Numbers.{item_at}
 use Rattle.protocol.specs.Packets.{Packet}
-use Rattle.protocol.specs.Packets.Packet.{Change, Request, Accepted, Refused, Part}
+use Rattle.protocol.specs.Packets.Packet.{Hello, Change, Request, Accepted, Refused, Part}
 use Rattle.protocol.specs.HubRules.{version_of}
 use Rattle.protocol.specs.LeafRules.{Leaf}
 use Rattle.protocol.specs.History.{History, asked_of, records_of, Grows}
@@ -83,6 +83,7 @@ module _ (w : Net) (s : History) (st : Stands w s) (sound : IsSound s) where
     one_change = λ i r a b x y.
         let both : Some a ≡ Some b = sym (so (Request i r a) x) ∙ so (Request i r b) y in cc;
     changes = λ n o r c sent. so (Change n o r c) sent;
+    layouts = λ layout leaf v sent. so (Hello layout leaf v) sent;
     parts = λ v i k items sent. let t = so (Part v i k items) sent in (t.many, t.these);
     shapes = λ v i k items sent.
         let t = so (Part v i k items) sent in

@@ -1,10 +1,11 @@
 -- Each row of the hub keeps what holds.
-use Rattle.std.proofs.Common.{◌≡◌, inl, inr, ℕ, zero, suc, ◌+◌, ◌-◌, ◌≤◌, ◌==◌, nat_lt, Bool, true, false, ◌||◌, if◌then◌else◌, List, [], ◌∷◌, ◌++◌, length, take, drop, slice_get, Option, None, Some, Result, Ok, Err, refl, ap, sym, ◌∙◌, arith, length-drop, ltb-false, drop-drop}
+use Rattle.std.proofs.Common.{◌≡◌, inl, inr, ℕ, zero, suc, ◌+◌, ◌-◌, ◌≤◌, ◌==◌, nat_lt, Bool, true, false, ◌||◌, if◌then◌else◌, List, [], ◌∷◌, ◌++◌, length, take, drop, slice_get, Option, None, Some, Result, Ok, Err, refl, ap, sym, subst, ◌∙◌, arith, length-drop, ltb-false, eq-eqb, drop-drop}
 use Rattle.std.proofs.lemmas.List.{drop-append-le, drop_all}
 use Rattle.userfile.specs.Records.{Records}
 use Rattle.userfile.specs.Apply.{bad_shape, refusal, changed}
 use Rattle.userfile.specs.declared.change.Change.{Change as UserChange}
 use Rattle.userfile.specs.declared.error.ChangeFault.{ChangeFault}
+use Rattle.botjournal.specs.declared.TheConstants.{LAYOUT}
 use Rattle.botjournal.specs.declared.reply.Reply.{Reply}
 use Rattle.botjournal.specs.declared.reply.Answer.{Answer}
 use Rattle.botjournal.specs.declared.reply.Answer.TheVariants.{Taken, Refused as refused_request}
@@ -13,10 +14,10 @@ use Rattle.protocol.specs.Packets.{Packet, Outgoing, AcceptedChange, own, change
 use Rattle.protocol.specs.Packets.Packet.{Hello, Change, Request, Accepted as accepted_packet, Refused as refused_packet, BotText, Part}
 use Rattle.protocol.specs.Notes.{Note, LinkFault}
 use Rattle.protocol.specs.Notes.Note.{Queued, Idle, Accepted, Refused, Old, Repeat, Compacted, Relayed, Text, Stray}
-use Rattle.protocol.specs.Notes.LinkFault.{BadChange, AsksFull, NumbersSpent, BadBotText}
+use Rattle.protocol.specs.Notes.LinkFault.{BadChange, AsksFull, NumbersSpent, BadBotText, OtherLayout}
 use Rattle.protocol.specs.Bots.{How, Row, noted, refused, unless_down, journals}
 use Rattle.protocol.specs.Snapshots.{part_count, part_of}
-use Rattle.protocol.specs.HubRules.{HubState, HubRecord, Accept, Settle, Rebase, Hub, version_of, last_request, next_number, with_reply, hub_folded, changes_from, parts_from, is_no_leaf, ask_taken, hub_asked, is_bad_text, text_told, accepts, ask_served, hub_pumped_up, hub_pumped, next_request, repeats, request_placed, request_of, hello_served, text_passed, hub_received_up, hub_received, hub_compacted, hub_restarted}
+use Rattle.protocol.specs.HubRules.{HubState, HubRecord, Accept, Settle, Rebase, Hub, version_of, last_request, next_number, with_reply, hub_folded, changes_from, parts_from, is_no_leaf, ask_taken, hub_asked, is_bad_text, text_told, accepts, ask_served, hub_pumped_up, hub_pumped, next_request, repeats, request_placed, request_of, hello_served, hello_met, text_passed, hub_received_up, hub_received, hub_compacted, hub_restarted}
 use Rattle.protocol.specs.History.{PastHub, HubPast, records_of, with_answer, hub_grown, HubGrows}
 use Rattle.protocol.specs.Truth.{IsTrue, IsLastAnswer, HubSays, AllOutgoing}
 use Rattle.protocol.specs.Soundness.{HubHolds, HubFits, HubSound}
@@ -253,6 +254,13 @@ module _ (asked : ℕ → List UserChange) (w : Hub) (h : HubPast) (st : BotStan
       hello i v true = hub_stays (Ok Stray) [] tt tt
       hello i v false = hellos i v (nat_lt v w.kept.floor) refl
 
+      -- a true hello has the layout of the hub
+      met : (layout i v : ℕ) → layout ≡ LAYOUT
+          → HubGoes asked h (if layout == LAYOUT then hello_met leaves how w i v else refused OtherLayout w)
+      met layout i v same =
+          subst (λ (b : Bool). HubGoes asked h (if b then hello_met leaves how w i v else refused OtherLayout w)) (sym (eq-eqb layout LAYOUT same))
+          (hello i v (is_no_leaf leaves i || nat_lt (version_of w.kept) v))
+
       request_to : h.down ≡ false → (k r : ℕ) (c : UserChange) → item_at (asked (suc k)) r ≡ Some c → (o : Option (Option Reply))
           → slice_get w.kept.replies k ≡ o
           → HubGoes asked h (request_of leaves how w (suc k) r c o)
@@ -275,7 +283,7 @@ module _ (asked : ℕ → List UserChange) (w : Hub) (h : HubPast) (st : BotStan
       texts from to text false = passes from to text
 
       at : h.down ≡ false → (p : Packet) → IsTrue h.kept asked p → HubGoes asked h (hub_received_up leaves how w p)
-      at up (Hello i v) t = hello i v (is_no_leaf leaves i || nat_lt (version_of w.kept) v)
+      at up (Hello layout i v) t = met layout i v t
       at up (Request i r c) t = request up i r c t (r == 0)
       at up (BotText from to text) t = texts from to text (nat_lt leaves from || nat_lt leaves to)
       at up (Change n o r c) t = hub_stays (Ok Stray) [] tt tt

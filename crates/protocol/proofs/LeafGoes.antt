@@ -124,8 +124,8 @@ module _ (g : PastHub) (asked : ℕ → List UserChange) (hub : HubHolds asked g
       at up (Some c) e waiting =
           let out : item_at l.kept.asked (length l.kept.asked) ≡ Some c =
           (subst (λ o. IsAnswered o l.kept.asked (g.answers i)) (sym e) sound.kept.answered).1 in
-          leaf_stays _ _ tt ((refl, st.kept.version), ((refl, rw st.kept.last out), tt))
-      at up None e [] = leaf_stays _ _ tt ((refl, st.kept.version), tt)
+          leaf_stays _ _ tt ((refl, (refl, st.kept.version)), ((refl, rw st.kept.last out), tt))
+      at up None e [] = leaf_stays _ _ tt ((refl, (refl, st.kept.version)), tt)
       at up None e (c ∷ rest) = by (nat_lt w.kept.last last_number)
         where
           by : (b : Bool) → LeafGoes g i l (
@@ -134,7 +134,7 @@ module _ (g : PastHub) (asked : ℕ → List UserChange) (hub : HubHolds asked g
               else refused NumbersSpent w)
           by true =
               leaf_writes (Out c) _ _ _ up (sym e) tt true_parts
-              ((refl, st.kept.version), ((refl, rw st.kept.last (item_at-end l.kept.asked c)), tt))
+              ((refl, (refl, st.kept.version)), ((refl, rw st.kept.last (item_at-end l.kept.asked c)), tt))
           by false = leaf_stays (Err NumbersSpent) [] tt tt
 
   pub leaf_compacts : LeafGoes g i l (leaf_compacted leaves i how w)
@@ -249,7 +249,7 @@ module _ (g : PastHub) (asked : ℕ → List UserChange) (hub : HubHolds asked g
       texts from text false = leaf_stays (Ok (Text from text)) [] tt tt
 
       at : l.down ≡ false → (p : Packet) → IsTrue g asked p → LeafGoes g i l (leaf_received_up leaves i how w p)
-      at up (Hello leaf v) t = leaf_stays (Ok Stray) [] tt tt
+      at up (Hello layout leaf v) t = leaf_stays (Ok Stray) [] tt tt
       at up (Request leaf r c) t = leaf_stays (Ok Stray) [] tt tt
       at up (Change n o r c) t = changes up n _ t _ refl
       at up (accepted_packet leaf r n) t = replied up leaf r (Taken n) t

@@ -113,7 +113,7 @@ slice_set-same [] i x y e = cc
 slice_set-same (z ∷ xs) zero x y e = cc
 slice_set-same (z ∷ xs) (suc i) x y e = slice_set-same xs i x y e
 
-slice_set-other : {X : Type 0} (xs : List X) (i j : ℕ) (x : X) → (j ≡ i → ⊥) → slice_get (slice_set xs i x) j ≡ slice_get xs j
+pub slice_set-other : {X : Type 0} (xs : List X) (i j : ℕ) (x : X) → (j ≡ i → ⊥) → slice_get (slice_set xs i x) j ≡ slice_get xs j
 slice_set-other [] i j x other = refl
 slice_set-other (z ∷ xs) zero zero x other = absurd (other refl)
 slice_set-other (z ∷ xs) zero (suc j) x other = refl

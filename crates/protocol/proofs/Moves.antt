@@ -6,14 +6,15 @@ use Rattle.userfile.specs.declared.change.Change.{Change as UserChange}
 use Rattle.userfile.specs.declared.error.ChangeFault.{ChangeFault}
 use Rattle.botjournal.specs.declared.reply.Reply.{Reply}
 use Rattle.botjournal.specs.declared.reply.Answer.TheVariants.{Taken}
+use Rattle.botjournal.specs.declared.TheConstants.{LAYOUT}
 use Rattle.protocol.specs.Numbers.{last_number, item_at, Place, Below, Same, Next, Above, place_of}
 use Rattle.protocol.specs.Packets.{Packet, Outgoing, Sent, AcceptedChange, own, change_packet, to_each}
 use Rattle.protocol.specs.Packets.Packet.{Hello, Change, Request, Accepted as accepted_packet, Refused as refused_packet, BotText, Part}
 use Rattle.protocol.specs.Notes.{Note}
 use Rattle.protocol.specs.Notes.Note.{Queued, Accepted, Applied, Compacted, Relayed, Stray, Restarted}
-use Rattle.protocol.specs.Notes.LinkFault.{AsksFull, Down, NumbersSpent, BadBotText}
+use Rattle.protocol.specs.Notes.LinkFault.{AsksFull, Down, NumbersSpent, BadBotText, OtherLayout}
 use Rattle.protocol.specs.Bots.{How, Works, Fails, Counts, Row, noted, refused, unless_down, journals, counted, reopened}
-use Rattle.protocol.specs.HubRules.{HubRecord, Accept, Settle, Rebase, Hub, version_of, last_request, hub_folded, is_no_leaf, ask_taken, hub_asked, is_bad_text, text_told, accepts, ask_served, hub_pumped_up, hub_pumped, replied, next_request, repeats, request_placed, request_of, hello_served, text_passed, hub_received_up, hub_received, hub_compacted, hub_restarted}
+use Rattle.protocol.specs.HubRules.{HubRecord, Accept, Settle, Rebase, Hub, version_of, last_request, hub_folded, is_no_leaf, ask_taken, hub_asked, is_bad_text, text_told, accepts, ask_served, hub_pumped_up, hub_pumped, replied, next_request, repeats, request_placed, request_of, hello_served, hello_met, text_passed, hub_received_up, hub_received, hub_compacted, hub_restarted}
 use Rattle.protocol.specs.LeafRules.{Apply, Leaf, leaf_folded, next_applied, change_placed, leaf_received_up, leaf_received}
 use Rattle.protocol.specs.Network.{Net, Event, Ask, Pump, Tell, Compact, Restart, Step, At, Deliver, Report, Course, Makes, LacksMemory, hub_stepped, leaf_met, at_bot, hub_event, leaf_event, delivered, happened, stepped}
 use Rattle.protocol.specs.Claims.{MovesAsTold}
@@ -27,7 +28,7 @@ Moves w row =
     ⊎ ((version_of row.after.kept ≡ version_of w.kept + 1)
     × ((row.told ≡ Ok (Accepted (version_of w.kept + 1))) ⊎ (row.told ≡ Ok (Restarted (version_of w.kept + 1)))))
 
-one_more : (w : Hub) (e : AcceptedChange) → version_of (hub_folded w.kept (Accept e)) ≡ version_of w.kept + 1
+pub one_more : (w : Hub) (e : AcceptedChange) → version_of (hub_folded w.kept (Accept e)) ≡ version_of w.kept + 1
 one_more w e = omega (arith, length-append w.kept.tail (e ∷ []))
 
 rebased_stays : (w : Hub) → version_of (hub_folded w.kept Rebase) ≡ version_of w.kept
@@ -153,6 +154,10 @@ module _ (leaves : ℕ) (how : How) (w : Hub) where
       greeted leaf v true = inl refl
       greeted leaf v false = hello leaf v (nat_lt v w.kept.floor)
 
+      met : (leaf v : ℕ) (b : Bool) → Moves w (if b then hello_met leaves how w leaf v else refused OtherLayout w)
+      met leaf v true = greeted leaf v (is_no_leaf leaves leaf || nat_lt (version_of w.kept) v)
+      met leaf v false = inl refl
+
       asked : (leaf r : ℕ) (c : UserChange) (b : Bool)
           → Moves w (if b then noted Stray w else request_of leaves how w leaf r c (item_at w.kept.replies leaf))
       asked leaf r c true = inl refl
@@ -168,7 +173,7 @@ module _ (leaves : ℕ) (how : How) (w : Hub) where
       texts from to text false = passed from to text
 
       at : (p : Packet) → Moves w (hub_received_up leaves how w p)
-      at (Hello leaf v) = greeted leaf v (is_no_leaf leaves leaf || nat_lt (version_of w.kept) v)
+      at (Hello layout leaf v) = met leaf v (layout == LAYOUT)
       at (Request leaf r c) = asked leaf r c (r == 0)
       at (BotText from to text) = texts from to text (nat_lt leaves from || nat_lt leaves to)
       at (Change n o r c) = inl refl

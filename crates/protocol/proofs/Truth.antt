@@ -73,7 +73,7 @@ KeepsTrueParts-more h h' loose grows t set e = IsTrueSet-more h.accepted h'.acce
 
 pub IsTrue-more : (h h' : PastHub) (asked asked' : ℕ → List UserChange) → HubGrows h h' → AllExtend asked asked' → (p : Packet)
     → IsTrue h asked p → IsTrue h' asked' p
-IsTrue-more h h' asked asked' grows more (Hello leaf version) t = tt
+IsTrue-more h h' asked asked' grows more (Hello layout leaf version) t = t
 IsTrue-more h h' asked asked' grows more (Change n o r c) t = item_at-more _ _ n _ grows.accepted t
 IsTrue-more h h' asked asked' grows more (Request i r c) t = item_at-more _ _ r c (more i) t
 IsTrue-more h h' asked asked' grows more (Accepted i r n) t = item_at-more _ _ r (Taken n) (grows.answers i) t
@@ -85,7 +85,7 @@ IsTrue-more h h' asked asked' grows more (Part v i k items) t = IsPart-more h.ac
 
 -- what the hub says is true
 pub HubSays-true : (h : PastHub) (asked : ℕ → List UserChange) (p : Packet) → HubSays h p → IsTrue h asked p
-HubSays-true h asked (Hello leaf version) t = absurd t
+HubSays-true h asked (Hello layout leaf version) t = absurd t
 HubSays-true h asked (Change n o r c) t = t
 HubSays-true h asked (Request i r c) t = absurd t
 HubSays-true h asked (Accepted i r n) t = t.1
@@ -96,7 +96,7 @@ HubSays-true h asked (Part v i k items) t = t
 -- what a leaf says is true
 pub LeafSays-true : (h : PastHub) (asked : ℕ → List UserChange) (number : ℕ) (l : PastLeaf) → asked number ≡ l.asked
     → (p : Packet) → LeafSays number l p → IsTrue h asked p
-LeafSays-true h asked number l is (Hello leaf version) t = tt
+LeafSays-true h asked number l is (Hello layout leaf version) t = t.0
 LeafSays-true h asked number l is (Change n o r c) t = absurd t
 LeafSays-true h asked number l is (Request i r c) t = rw (t.0, is) t.1
 LeafSays-true h asked number l is (Accepted i r n) t = absurd t
@@ -106,7 +106,7 @@ LeafSays-true h asked number l is (Part v i k items) t = absurd t
 
 -- an answer of the hub is its kept one
 pub HubSays-kept : (h : PastHub) (p : Packet) → HubSays h p → IsKeptAnswer h p
-HubSays-kept h (Hello leaf version) t = tt
+HubSays-kept h (Hello layout leaf version) t = tt
 HubSays-kept h (Change n o r c) t = tt
 HubSays-kept h (Request i r c) t = tt
 HubSays-kept h (Accepted i r n) t = t
@@ -116,7 +116,7 @@ HubSays-kept h (Part v i k items) t = tt
 
 -- and a leaf gives none
 pub LeafSays-kept : (h : PastHub) (number : ℕ) (l : PastLeaf) (p : Packet) → LeafSays number l p → IsKeptAnswer h p
-LeafSays-kept h number l (Hello leaf version) t = tt
+LeafSays-kept h number l (Hello layout leaf version) t = tt
 LeafSays-kept h number l (Change n o r c) t = tt
 LeafSays-kept h number l (Request i r c) t = tt
 LeafSays-kept h number l (Accepted i r n) t = absurd t

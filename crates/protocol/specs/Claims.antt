@@ -7,9 +7,10 @@ use Rattle.userfile.specs.declared.change.Change.{Change as UserChange}
 use Rattle.userfile.specs.declared.error.ChangeFault.{ChangeFault}
 use Rattle.usercodec.specs.declared.records.Record.{Record}
 use Rattle.usercodec.specs.Records.{HasShape}
+use Rattle.botjournal.specs.declared.TheConstants.{LAYOUT}
 use Rattle.protocol.specs.Numbers.{item_at}
 use Rattle.protocol.specs.Packets.{Packet, Sent, AcceptedChange}
-use Rattle.protocol.specs.Packets.Packet.{Change, Request, Accepted, Refused, Part}
+use Rattle.protocol.specs.Packets.Packet.{Hello, Change, Request, Accepted, Refused, Part}
 use Rattle.protocol.specs.Notes.{Note, LinkFault}
 use Rattle.protocol.specs.Snapshots.{part_count, part_of}
 use Rattle.protocol.specs.HubRules.{version_of}
@@ -65,6 +66,8 @@ pub record Holds (net : Net) (h : History) : Type 0 where
   pub one_change : (leaf request : ℕ) (a b : UserChange) → WasSent h (Request leaf request a) → WasSent h (Request leaf request b) → a ≡ b
   -- each change that was sent is the accepted one of its number
   pub changes : (n origin request : ℕ) (change : UserChange) → WasSent h (Change n origin request change) → WasTaken h n origin request change
+  -- each hello that was sent has the layout of all bots
+  pub layouts : (layout leaf version : ℕ) → WasSent h (Hello layout leaf version) → layout ≡ LAYOUT
   -- each part that was sent is one of the records at its version, and each of its records is of good shape
   pub parts : (version part count : ℕ) (items : List Record) → WasSent h (Part version part count items)
       → (count ≡ part_count (records_of h.hub.kept.accepted version)) × (items ≡ part_of (records_of h.hub.kept.accepted version) part)
@@ -72,7 +75,7 @@ pub record Holds (net : Net) (h : History) : Type 0 where
 
 -- ---- of each step
 
--- a request is never early, and no leaf ever diverges
+-- a request is never early, no leaf ever diverges, and no hello has another layout
 abbrev pub IsFineNote : Note → Type 0
 IsFineNote Note.Queued = Unit {0}
 IsFineNote Note.Idle = Unit {0}
@@ -102,6 +105,7 @@ IsFineFault LinkFault.NumbersSpent = Unit {0}
 IsFineFault LinkFault.JournalFault = Unit {0}
 IsFineFault LinkFault.BadBotText = Unit {0}
 IsFineFault LinkFault.DiskFault = Unit {0}
+IsFineFault LinkFault.OtherLayout = ⊥
 
 abbrev pub IsFine : Result Note LinkFault → Type 0
 IsFine (Ok note) = IsFineNote note

@@ -5,6 +5,7 @@ use Rattle.userfile.specs.Apply.{bad_shape, refusal, changed}
 use Rattle.userfile.specs.declared.change.Change.{Change as UserChange}
 use Rattle.userfile.specs.declared.error.ChangeFault.{ChangeFault}
 use Rattle.sharewire.specs.Texts.{is_bot_text}
+use Rattle.botjournal.specs.declared.TheConstants.{LAYOUT}
 use Rattle.botjournal.specs.declared.reply.Reply.{Reply}
 use Rattle.botjournal.specs.declared.reply.Answer.{Answer}
 use Rattle.botjournal.specs.declared.reply.Answer.TheVariants.{Taken, Refused as refused_request}
@@ -12,7 +13,7 @@ use Rattle.protocol.specs.Numbers.{last_number, item_at, Place, Below, Same, Nex
 use Rattle.protocol.specs.Packets.{Packet, Outgoing, AcceptedChange, own, change_packet, answer_packet, to_each, numbered_from}
 use Rattle.protocol.specs.Packets.Packet.{Hello, Change, Request, Accepted as accepted_packet, Refused as refused_packet, BotText, Part}
 use Rattle.protocol.specs.Notes.Note.{Queued, Idle, Accepted, Refused, Served, Old, Repeat, Gap, Compacted, Relayed, Text, Stray}
-use Rattle.protocol.specs.Notes.LinkFault.{BadChange, AsksFull, NumbersSpent, BadBotText}
+use Rattle.protocol.specs.Notes.LinkFault.{BadChange, AsksFull, NumbersSpent, BadBotText, OtherLayout}
 use Rattle.protocol.specs.Bots.{How, Row, noted, refused, Bot, unless_down, journals, restarted}
 use Rattle.protocol.specs.Snapshots.{part_count, part_of}
 
@@ -175,10 +176,14 @@ module _ (leaves : ℕ) (how : How) (old : Hub) where
   text_passed from (suc to) text =
       record { told = Ok Relayed; sends = record { to = suc to; packet = BotText from (suc to) text } ∷ []; after = old }
 
-  abbrev pub hub_received_up : Packet → Row Hub
-  hub_received_up (Hello leaf version) =
+  -- a hello of a leaf of the net, at a version that the hub has reached
+  abbrev pub hello_met : ℕ → ℕ → Row Hub
+  hello_met leaf version =
       if is_no_leaf leaves leaf || nat_lt (version_of old.kept) version then noted Stray old
       else hello_served leaf version (nat_lt version old.kept.floor)
+
+  abbrev pub hub_received_up : Packet → Row Hub
+  hub_received_up (Hello layout leaf version) = if layout == LAYOUT then hello_met leaf version else refused OtherLayout old
   hub_received_up (Request leaf request change) =
       if request == 0 then noted Stray old else request_of leaf request change (item_at old.kept.replies leaf)
   hub_received_up (BotText from to text) =

@@ -6,6 +6,7 @@ use Rattle.userfile.specs.Together.{records_fault}
 use Rattle.userfile.specs.declared.change.Change.{Change as UserChange}
 use Rattle.userfile.specs.declared.error.ChangeFault.{ChangeFault}
 use Rattle.usercodec.specs.declared.records.Record.{Record}
+use Rattle.botjournal.specs.declared.TheConstants.{LAYOUT}
 use Rattle.botjournal.specs.declared.reply.Answer.{Answer}
 use Rattle.botjournal.specs.declared.reply.Answer.TheVariants.{Taken, Refused as refused_request}
 use Rattle.protocol.specs.Numbers.{last_number, Place, Below, Same, Next, Above, place_of}
@@ -66,9 +67,9 @@ leaf_asked old change =
     (record old { loose = record old.loose { waiting = old.loose.waiting ++ change ∷ [] } }) (length old.loose.waiting) (bad_shape change))
 
 module _ (leaves number : ℕ) (how : How) (old : Leaf) where
-  -- the leaf tells the hub its version
+  -- the leaf tells the hub its layout and its version
   abbrev pub hello : Outgoing
-  hello = record { to = 0; packet = Hello number old.kept.version }
+  hello = record { to = 0; packet = Hello LAYOUT number old.kept.version }
 
   -- the leaf asks the hub for a change
   abbrev pub asking : ℕ → UserChange → Outgoing
@@ -146,7 +147,7 @@ module _ (leaves number : ℕ) (how : How) (old : Leaf) where
       else if nat_le version old.kept.version || is_behind version old.loose.parts then noted Old old
       else part_taken part (with_part (set_for old.loose.parts version count) part items)
   leaf_received_up (BotText from to text) = if nat_lt leaves from || not (to == number) then noted Stray old else noted (Text from text) old
-  leaf_received_up (Hello leaf version) = noted Stray old
+  leaf_received_up (Hello layout leaf version) = noted Stray old
   leaf_received_up (Request leaf request change) = noted Stray old
 
   abbrev pub leaf_received : Packet → Row Leaf

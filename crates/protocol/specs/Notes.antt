@@ -49,6 +49,8 @@ pub data LinkFault : Type 0 where
   AsksFull : LinkFault
   -- S2: a device failed, and the bot waits for a restart
   Down : LinkFault
+  -- S8: the other bot's journal has another layout
+  OtherLayout : LinkFault
   -- S3: the records are not the hub's
   Diverged : LinkFault
   -- S4: the version, the request number or the generation is the last

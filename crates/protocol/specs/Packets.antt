@@ -10,8 +10,8 @@ use Rattle.sharewire.specs.declared.packet.Packet.TheVariants as wire
 
 -- a packet of the link
 pub data Packet : Type 0 where
-  -- a leaf, and the version that it is at
-  Hello : (leaf version : ℕ) → Packet
+  -- the layout that a leaf's journal has, the leaf, and the version that it is at
+  Hello : (layout leaf version : ℕ) → Packet
   -- the accepted change of this number, the bot that asked for it and that bot's request number, 0 and 0 for the hub's own
   Change : (number origin request : ℕ) → UserChange → Packet
   -- a leaf asks for a change, under its own number
@@ -27,7 +27,7 @@ pub data Packet : Type 0 where
 
 -- the packet that has this frame
 abbrev pub from_wire : WirePacket → Packet
-from_wire (wire.Hello leaf version) = Hello leaf version
+from_wire (wire.Hello layout leaf version) = Hello layout leaf version
 from_wire (wire.Change number origin request change) = Change number origin request change
 from_wire (wire.Request leaf request change) = Request leaf request change
 from_wire (wire.Accepted leaf request number) = Accepted leaf request number

@@ -2,6 +2,7 @@
 use Rattle.std.specs.Prelude.{◌≡◌, ℕ, ◌≤◌, List, [], ◌∷◌, length, Some}
 use Rattle.userfile.specs.declared.change.Change.{Change as UserChange}
 use Rattle.usercodec.specs.declared.records.Record.{Record}
+use Rattle.botjournal.specs.declared.TheConstants.{LAYOUT}
 use Rattle.botjournal.specs.declared.reply.Answer.{Answer}
 use Rattle.botjournal.specs.declared.reply.Answer.TheVariants.{Taken, Refused as refused_request}
 use Rattle.protocol.specs.Numbers.{item_at}
@@ -21,9 +22,9 @@ pub record IsPart (accepted : List AcceptedChange) (version part count : ℕ) (i
   pub many : count ≡ part_count (records_of accepted version)
   pub these : items ≡ part_of (records_of accepted version) part
 
--- what a packet says is so; a hello and a text say nothing of history
+-- what a packet says is so: a hello has the layout of all bots; its version and a text say nothing of history
 abbrev pub IsTrue : PastHub → (ℕ → List UserChange) → Packet → Type 0
-IsTrue hub asked (Hello leaf version) = Unit {0}
+IsTrue hub asked (Hello layout leaf version) = layout ≡ LAYOUT
 IsTrue hub asked (Change number origin request change) = IsAccepted hub.accepted number origin request change
 IsTrue hub asked (Request leaf request change) = item_at (asked leaf) request ≡ Some change
 IsTrue hub asked (Accepted leaf request number) = item_at (hub.answers leaf) request ≡ Some (Taken number)
@@ -37,7 +38,7 @@ IsLastAnswer hub leaf request answer = (request ≡ length (hub.answers leaf)) �
 
 -- what the hub says in a step: an answer is always the last one to its leaf
 abbrev pub HubSays : PastHub → Packet → Type 0
-HubSays hub (Hello leaf version) = ⊥
+HubSays hub (Hello layout leaf version) = ⊥
 HubSays hub (Change number origin request change) = IsAccepted hub.accepted number origin request change
 HubSays hub (Request leaf request change) = ⊥
 HubSays hub (Accepted leaf request number) = IsLastAnswer hub leaf request (Taken number)
@@ -45,9 +46,9 @@ HubSays hub (Refused leaf request fault) = IsLastAnswer hub leaf request (refuse
 HubSays hub (BotText from to text) = Unit {0}
 HubSays hub (Part version part count items) = IsPart hub.accepted version part count items
 
--- what a leaf says in a step: its version, its requests, and texts
+-- what a leaf says in a step: its layout and version, its requests, and texts
 abbrev pub LeafSays : ℕ → PastLeaf → Packet → Type 0
-LeafSays number leaf (Hello from version) = (from ≡ number) × (version ≡ leaf.version)
+LeafSays number leaf (Hello layout from version) = (layout ≡ LAYOUT) × ((from ≡ number) × (version ≡ leaf.version))
 LeafSays number leaf (Change n origin request change) = ⊥
 LeafSays number leaf (Request from request change) = (from ≡ number) × (item_at leaf.asked request ≡ Some change)
 LeafSays number leaf (Accepted to request n) = ⊥
@@ -57,7 +58,7 @@ LeafSays number leaf (Part version part count items) = ⊥
 
 -- an answer that is sent is the one that the hub keeps, the last one to its leaf
 abbrev pub IsKeptAnswer : PastHub → Packet → Type 0
-IsKeptAnswer hub (Hello leaf version) = Unit {0}
+IsKeptAnswer hub (Hello layout leaf version) = Unit {0}
 IsKeptAnswer hub (Change number origin request change) = Unit {0}
 IsKeptAnswer hub (Request leaf request change) = Unit {0}
 IsKeptAnswer hub (Accepted leaf request number) = IsLastAnswer hub leaf request (Taken number)

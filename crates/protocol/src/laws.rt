@@ -28,13 +28,13 @@ pub fn laws_of_the_link()
         → shown_version (net_after (new_net count) first) bot ≡ Some before
         → shown_version (net_after (new_net count) (first ++ more)) bot ≡ Some after
         → before ≤ after }
-    // No request comes early, and no leaf's records diverge.
+    // No request comes early, no leaf's records diverge, and no hello has another layout than the bots'.
     ensures fine { (count : ℕ) (made : List Made) (course : Course) (step : Step)
         → IsFineOutcome (stepped course (net_after (new_net count) made) step).outcome }
     // A run is a history of which all that `Holds` says is so at each moment: a request is accepted at most once, its
     // change is the one that was asked, it is told under its number and never as refused; each change that was sent is
-    // the accepted one; each part is one of the records at its version. No step takes back what was accepted, answered,
-    // asked or sent, and each answer that it sends is the last one to its leaf.
+    // the accepted one; each hello has the bots' layout; each part is one of the records at its version. No step takes back
+    // what was accepted, answered, asked or sent, and each answer that it sends is the last one to its leaf.
     ensures runs { (count : ℕ) (made : List Made) → Ends (new_net count) (start count) made }
     // The hub's version moves where a step tells that a change was accepted, or that a restart found one, and nowhere else.
     ensures moves { (course : Course) (net : Net) (step : Step) → MovesAsTold net (stepped course net step) }

@@ -7,7 +7,7 @@ use Rattle.userfile.specs.declared.user.User.{User}
 use Rattle.userfile.specs.declared.ban.Ban.{Ban}
 use Rattle.botworld.specs.declared.sent.Sent.{Sent}
 use Rattle.botworld.specs.Net.{packet_at}
-use Rattle.replay.specs.Text.{found_line, sent_lines, user_lines, ban_line}
+use Rattle.replay.specs.Text.{found_line, sent_lines, user_lines, ban_lines}
 use Rattle.replay.specs.Users.{found_user, found_ban}
 
 -- the next packet's line is added
@@ -50,17 +50,17 @@ users-more bot users place before after all within added e =
     ∙ e
 
 found_ban-drop : (bot : ℕ) (bans : List Ban) (place : ℕ) → place < length bans
-    → flat_map (ban_line bot) (drop place bans) ≡ found_ban bot (slice_get bans place) ++ flat_map (ban_line bot) (drop (suc place) bans)
+    → flat_map (ban_lines bot) (drop place bans) ≡ found_ban bot (slice_get bans place) ++ flat_map (ban_lines bot) (drop (suc place) bans)
 found_ban-drop bot [] place h = absurd (omega arith)
 found_ban-drop bot (b ∷ bs) zero h = refl
 found_ban-drop bot (b ∷ bs) (suc place) h = found_ban-drop bot bs place (omega arith)
 
 pub bans-more : (bot : ℕ) (bans : List Ban) (place : ℕ) (before after all : List ℕ) → place < length bans
     → after ≡ before ++ found_ban bot (slice_get bans place)
-    → before ++ flat_map (ban_line bot) (drop place bans) ≡ all → after ++ flat_map (ban_line bot) (drop (place + 1) bans) ≡ all
+    → before ++ flat_map (ban_lines bot) (drop place bans) ≡ all → after ++ flat_map (ban_lines bot) (drop (place + 1) bans) ≡ all
 bans-more bot bans place before after all within added e =
-    ap (λ a. a ++ flat_map (ban_line bot) (drop (place + 1) bans)) added
+    ap (λ a. a ++ flat_map (ban_lines bot) (drop (place + 1) bans)) added
     ∙ append_assoc before _ _
-    ∙ ap (λ n. before ++ (found_ban bot (slice_get bans place) ++ flat_map (ban_line bot) (drop n bans))) (add-one place)
+    ∙ ap (λ n. before ++ (found_ban bot (slice_get bans place) ++ flat_map (ban_lines bot) (drop n bans))) (add-one place)
     ∙ ap (λ l. before ++ l) (sym (found_ban-drop bot bans place within))
     ∙ e

@@ -1,5 +1,5 @@
 -- The text of a transcript, line by line.
-use Rattle.std.specs.Prelude.{ℕ, zero, suc, ◌+◌, List, [], ◌∷◌, ◌++◌, length, Option, None, Some, codes, decimal}
+use Rattle.std.specs.Prelude.{ℕ, zero, suc, ◌+◌, List, [], ◌∷◌, ◌++◌, length, Option, None, Some, if◌then◌else◌, codes, decimal}
 use Rattle.std.specs.List.{flat_map}
 use Rattle.flagexpr.specs.Letters.{spelling}
 use Rattle.ircline.specs.Codes.{code_of as line_code}
@@ -87,7 +87,7 @@ end_line bot ended_no_memory told = []
 
 -- KIND DETAIL
 abbrev pub packet_text : Packet → List ℕ
-packet_text (Hello leaf version) = codes "Hello " ++ decimal version
+packet_text (Hello layout leaf version) = codes "Hello " ++ decimal version
 packet_text (change_packet number origin request change) = codes "Change " ++ decimal number
 packet_text (Request leaf request change) = codes "Request " ++ decimal request
 packet_text (accepted_packet leaf request number) = codes "Accepted " ++ decimal request ++ codes " " ++ decimal number
@@ -133,9 +133,16 @@ host_line bot handle mask = decimal bot ++ codes " host " ++ handle ++ codes " "
 abbrev pub chan_line : ℕ → List ℕ → ChannelFlags → List ℕ
 chan_line bot handle entry = decimal bot ++ codes " chan " ++ handle ++ codes " " ++ entry.channel ++ codes " " ++ spelling entry.flags ++ 10 ∷ []
 
--- a user, then the hostmasks and then the flags on channels, each in order
+-- B info H TEXT, where there is an info
+abbrev pub info_line : ℕ → List ℕ → List ℕ → List ℕ
+info_line bot handle [] = []
+info_line bot handle (b ∷ bs) = decimal bot ++ codes " info " ++ handle ++ codes " " ++ (b ∷ bs) ++ 10 ∷ []
+
+-- a user and the info, then the hostmasks and then the flags on channels, each in order
 abbrev pub user_lines : ℕ → User → List ℕ
-user_lines bot user = user_line bot user ++ flat_map (host_line bot user.handle) user.masks ++ flat_map (chan_line bot user.handle) user.channels
+user_lines bot user =
+    user_line bot user ++ info_line bot user.handle user.info ++ flat_map (host_line bot user.handle) user.masks
+    ++ flat_map (chan_line bot user.handle) user.channels
 
 -- * for a ban of all channels
 abbrev pub channel_text : List ℕ → List ℕ
@@ -153,6 +160,14 @@ ban_line bot ban =
     decimal bot ++ codes " ban " ++ channel_text ban.channel ++ codes " " ++ ban.mask ++ codes " " ++ ban.creator ++ codes " " ++ decimal ban.expires ++
     comment_text ban.comment ++ 10 ∷ []
 
+-- B sticky C M
+abbrev pub sticky_line : ℕ → Ban → List ℕ
+sticky_line bot ban = decimal bot ++ codes " sticky " ++ channel_text ban.channel ++ codes " " ++ ban.mask ++ 10 ∷ []
+
+-- a ban, and that it is sticky where it is
+abbrev pub ban_lines : ℕ → Ban → List ℕ
+ban_lines bot ban = ban_line bot ban ++ (if ban.sticky then sticky_line bot ban else [])
+
 -- B version V users U bans N
 abbrev pub version_line : ℕ → ℕ → ℕ → ℕ → List ℕ
 version_line bot version users bans = decimal bot ++ codes " version " ++ decimal version ++ codes " users " ++ decimal users ++ codes " bans " ++ decimal
@@ -161,6 +176,6 @@ version_line bot version users bans = decimal bot ++ codes " version " ++ decima
 -- a bot's version and records, or that there is no such bot
 abbrev pub shown_text : ℕ → Option ℕ → Option Records → List ℕ
 shown_text bot (Some version) (Some records) =
-    version_line bot version (length records.users) (length records.bans) ++ flat_map (user_lines bot) records.users ++ flat_map (ban_line bot) records.bans
+    version_line bot version (length records.users) (length records.bans) ++ flat_map (user_lines bot) records.users ++ flat_map (ban_lines bot) records.bans
 shown_text bot (Some version) None = codes "world O2" ++ 10 ∷ []
 shown_text bot None records = codes "world O2" ++ 10 ∷ []

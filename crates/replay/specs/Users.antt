@@ -2,7 +2,7 @@
 use Rattle.std.specs.Prelude.{ℕ, List, [], Option, None, Some}
 use Rattle.userfile.specs.declared.user.User.{User}
 use Rattle.userfile.specs.declared.ban.Ban.{Ban}
-use Rattle.replay.specs.Text.{user_lines, ban_line}
+use Rattle.replay.specs.Text.{user_lines, ban_lines}
 
 abbrev pub found_user : ℕ → Option User → List ℕ
 found_user bot None = []
@@ -10,4 +10,4 @@ found_user bot (Some user) = user_lines bot user
 
 abbrev pub found_ban : ℕ → Option Ban → List ℕ
 found_ban bot None = []
-found_ban bot (Some ban) = ban_line bot ban
+found_ban bot (Some ban) = ban_lines bot ban

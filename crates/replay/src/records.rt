@@ -1,8 +1,8 @@
 // The lines of one user, and of one ban.
-ghost use Rattle.std.specs.Prelude.{◌≡◌, ◌++◌, OnOk};
+ghost use Rattle.std.specs.Prelude.{◌≡◌, ◌++◌, [], if◌then◌else◌, OnOk};
 ghost use Rattle.std.specs.List.{flat_map};
 ghost use Rattle.flagexpr.specs.Letters.{spelling};
-ghost use Rattle.replay.specs.Text.{user_line, user_lines, host_line, chan_line, ban_line, channel_text, comment_text};
+ghost use Rattle.replay.specs.Text.{user_line, user_lines, info_line, host_line, chan_line, ban_line, ban_lines, sticky_line, channel_text, comment_text};
 
 use crate::print::{put, put_number};
 use bytetext::NoMemory;
@@ -10,13 +10,14 @@ use flagexpr::Flags;
 use std::alloc::Global;
 use userfile::{Ban, ChannelFlags, Hostmask, User};
 
-/// Adds a user, then the hostmasks and the flags on channels.
+/// Adds a user and the info, then the hostmasks and the flags on channels.
 #[tactic(auto, using(std::proofs::Common::append_assoc))]
 pub fn put_user(alloc: Global, out: &mut Vec<u8>, bot: u16, user: &User) -> Result<(), NoMemory>
     ensures { OnOk result (out.new.items ≡ out.old.items ++ user_lines bot user.now) }
 {
     let handle = user.handle.as_bytes();
     put_name(alloc, out, bot, user)?;
+    put_info(out, bot, handle, user.info.as_bytes())?;
     put_hosts(out, bot, handle, user.masks.as_slice())?;
     put_chans(alloc, out, bot, handle, user.channels.as_slice())
 }
@@ -33,6 +34,22 @@ fn put_name(alloc: Global, out: &mut Vec<u8>, bot: u16, user: &User) -> Result<(
     put_flags(alloc, out, user.global)?;
     put(out, b" ")?;
     put_flags(alloc, out, user.bot)?;
+    put(out, b"\n")
+}
+
+// B info H TEXT; nothing where the text is empty.
+#[tactic(auto, using(std::proofs::Common::append_assoc))]
+fn put_info(out: &mut Vec<u8>, bot: u16, handle: &[u8], info: &[u8]) -> Result<(), NoMemory>
+    ensures { OnOk result (out.new.items ≡ out.old.items ++ info_line bot handle.now info.now) }
+{
+    if info.is_empty() {
+        return Ok(());
+    }
+    put_number(out, u64::from(bot))?;
+    put(out, b" info ")?;
+    put(out, handle)?;
+    put(out, b" ")?;
+    put(out, info)?;
     put(out, b"\n")
 }
 
@@ -96,9 +113,18 @@ fn put_chan(
     put(out, b"\n")
 }
 
-/// Adds a ban, as `B ban C M H E COMMENT`.
+/// Adds a ban, and that it is sticky where it is.
 #[tactic(auto, using(std::proofs::Common::append_assoc))]
 pub fn put_ban(out: &mut Vec<u8>, bot: u16, ban: &Ban) -> Result<(), NoMemory>
+    ensures { OnOk result (out.new.items ≡ out.old.items ++ ban_lines bot ban.now) }
+{
+    put_fields(out, bot, ban)?;
+    put_mark(out, bot, ban)
+}
+
+// B ban C M H E COMMENT
+#[tactic(auto, using(std::proofs::Common::append_assoc))]
+fn put_fields(out: &mut Vec<u8>, bot: u16, ban: &Ban) -> Result<(), NoMemory>
     ensures { OnOk result (out.new.items ≡ out.old.items ++ ban_line bot ban.now) }
 {
     put_number(out, u64::from(bot))?;
@@ -111,6 +137,22 @@ pub fn put_ban(out: &mut Vec<u8>, bot: u16, ban: &Ban) -> Result<(), NoMemory>
     put(out, b" ")?;
     put_number(out, ban.expires)?;
     put_comment(out, ban.comment.as_bytes())?;
+    put(out, b"\n")
+}
+
+// B sticky C M; nothing where the ban isn't sticky.
+#[tactic(auto, using(std::proofs::Common::append_assoc))]
+fn put_mark(out: &mut Vec<u8>, bot: u16, ban: &Ban) -> Result<(), NoMemory>
+    ensures { OnOk result (out.new.items ≡ out.old.items ++ (if ban.now.sticky then sticky_line bot ban.now else [])) }
+{
+    if !ban.sticky {
+        return Ok(());
+    }
+    put_number(out, u64::from(bot))?;
+    put(out, b" sticky ")?;
+    put(out, channel_text(ban.channel.as_bytes()))?;
+    put(out, b" ")?;
+    put(out, ban.mask.as_bytes())?;
     put(out, b"\n")
 }
 

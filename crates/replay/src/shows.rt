@@ -3,7 +3,7 @@ ghost use Rattle.std.specs.Prelude.{◌≡◌, ◌++◌, OnOk};
 ghost use Rattle.std.specs.List.{flat_map};
 ghost use Rattle.std.specs.Option.{option_copied};
 ghost use Rattle.replay.specs.Deeds.{net_text};
-ghost use Rattle.replay.specs.Text.{shown_text, version_line, user_lines, ban_line};
+ghost use Rattle.replay.specs.Text.{shown_text, version_line, user_lines, ban_lines};
 ghost use Rattle.replay.specs.Users.{found_ban, found_user};
 
 use crate::print::{put, put_number};
@@ -106,9 +106,9 @@ fn put_found_user(
     }
 }
 
-// The line of each ban, in order.
+// The lines of each ban, in order.
 fn put_bans(out: &mut Vec<u8>, bot: u16, userfile: &Userfile) -> Result<(), NoMemory>
-    ensures { OnOk result (out.new.items ≡ out.old.items ++ flat_map (ban_line bot) userfile.now.bans) }
+    ensures { OnOk result (out.new.items ≡ out.old.items ++ flat_map (ban_lines bot) userfile.now.bans) }
 {
     for place in 0..userfile.ban_count() {
         put_found_ban(out, bot, userfile.ban_at(place))?;
@@ -116,7 +116,7 @@ fn put_bans(out: &mut Vec<u8>, bot: u16, userfile: &Userfile) -> Result<(), NoMe
     Ok(())
 }
 
-// The line of a ban; nothing where there is none.
+// The lines of a ban; nothing where there is none.
 fn put_found_ban(out: &mut Vec<u8>, bot: u16, ban: Option<&Ban>) -> Result<(), NoMemory>
     ensures { OnOk result (out.new.items ≡ out.old.items ++ found_ban bot (option_copied ban.entry)) }
 {

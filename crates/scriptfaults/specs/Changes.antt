@@ -3,9 +3,9 @@ use Rattle.std.specs.Prelude.{ℕ, ◌&&◌, ◌==◌, List, [], ◌∷◌, leng
 use Rattle.flagexpr.specs.Faults.{flags_fault}
 use Rattle.scriptwords.specs.Words.{is_empty, number_below}
 use Rattle.scriptfaults.specs.declared.reason.Reason.{Reason}
-use Rattle.scriptfaults.specs.declared.reason.Reason.TheVariants.{SpaceAfter, TwoSpaces, Change, ChangeForm, Flags, ChannelFlags, Expiry}
+use Rattle.scriptfaults.specs.declared.reason.Reason.TheVariants.{SpaceAfter, TwoSpaces, Change, ChangeForm, Flags, ChannelFlags, Expiry, Mark}
 use Rattle.scriptfaults.specs.declared.change_word.ChangeWord.{ChangeWord}
-use Rattle.scriptfaults.specs.declared.change_word.ChangeWord.TheVariants.{AddUser, DelUser, AddHost, DelHost, DelBan, Global, Bot, Chan, AddBan}
+use Rattle.scriptfaults.specs.declared.change_word.ChangeWord.TheVariants.{AddUser, DelUser, AddHost, DelHost, DelBan, Global, Bot, Chan, AddBan, Info, Sticky}
 use Rattle.scriptfaults.specs.Vocabulary.{change_word_named}
 use Rattle.scriptfaults.specs.Spacing.{misread, gap_before}
 
@@ -38,10 +38,18 @@ flags_doubt reason word =
 abbrev pub expiry_doubt : Reason → List ℕ → Option Reason
 expiry_doubt gap e = unless_found (number_below 18446744073709551616 e) (misread gap Expiry e)
 
--- a comment is the rest of the line, and not empty where there is one
-abbrev pub comment_doubt : List (List ℕ) → Option Reason
-comment_doubt [] = None
-comment_doubt (first ∷ rest) = text_doubt (ChangeForm AddBan) first rest
+-- whether a ban is sticky: 1 or 0, the last word
+abbrev pub mark_doubt : List ℕ → Option Reason
+mark_doubt n = unless_found (number_below 2 n) (misread SpaceAfter Mark n)
+
+-- a comment is the rest of the line, and not empty where there is one; so is an info
+abbrev pub comment_doubt : ChangeWord → List (List ℕ) → Option Reason
+comment_doubt word [] = None
+comment_doubt word (first ∷ rest) = text_doubt (ChangeForm word) first rest
+
+-- two words before others, neither of them empty
+abbrev pub gaps_doubt : List ℕ → List ℕ → Option Reason
+gaps_doubt a b = first_of (gap_doubt TwoSpaces a) (gap_doubt TwoSpaces b)
 
 abbrev pub ban_doubt : List ℕ → List ℕ → List ℕ → Option Reason
 ban_doubt c m h = first_of (gap_doubt TwoSpaces c) (first_of (gap_doubt TwoSpaces m) (gap_doubt TwoSpaces h))
@@ -57,6 +65,8 @@ one_doubt Global h = Some (ChangeForm Global)
 one_doubt Bot h = Some (ChangeForm Bot)
 one_doubt Chan h = Some (ChangeForm Chan)
 one_doubt AddBan h = Some (ChangeForm AddBan)
+one_doubt Info h = Some (ChangeForm Info)
+one_doubt Sticky h = Some (ChangeForm Sticky)
 
 -- addhost H M, delhost H M, delban C M, global H F, bot H F
 abbrev pub two_doubt : ChangeWord → List ℕ → List ℕ → Option Reason
@@ -69,22 +79,26 @@ two_doubt AddUser a b = Some (ChangeForm AddUser)
 two_doubt DelUser a b = Some (ChangeForm DelUser)
 two_doubt Chan a b = Some (ChangeForm Chan)
 two_doubt AddBan a b = Some (ChangeForm AddBan)
+two_doubt Info a b = Some (ChangeForm Info)
+two_doubt Sticky a b = Some (ChangeForm Sticky)
 
--- chan H C F
+-- chan H C F, sticky C M N
 abbrev pub three_doubt : ChangeWord → List ℕ → List ℕ → List ℕ → Option Reason
-three_doubt Chan h c f = first_of (first_of (gap_doubt TwoSpaces h) (gap_doubt TwoSpaces c)) (flags_doubt ChannelFlags f)
-three_doubt AddUser h c f = Some (ChangeForm AddUser)
-three_doubt DelUser h c f = Some (ChangeForm DelUser)
-three_doubt AddHost h c f = Some (ChangeForm AddHost)
-three_doubt DelHost h c f = Some (ChangeForm DelHost)
-three_doubt DelBan h c f = Some (ChangeForm DelBan)
-three_doubt Global h c f = Some (ChangeForm Global)
-three_doubt Bot h c f = Some (ChangeForm Bot)
-three_doubt AddBan h c f = Some (ChangeForm AddBan)
+three_doubt Chan a b c = first_of (gaps_doubt a b) (flags_doubt ChannelFlags c)
+three_doubt Sticky a b c = first_of (gaps_doubt a b) (mark_doubt c)
+three_doubt AddUser a b c = Some (ChangeForm AddUser)
+three_doubt DelUser a b c = Some (ChangeForm DelUser)
+three_doubt AddHost a b c = Some (ChangeForm AddHost)
+three_doubt DelHost a b c = Some (ChangeForm DelHost)
+three_doubt DelBan a b c = Some (ChangeForm DelBan)
+three_doubt Global a b c = Some (ChangeForm Global)
+three_doubt Bot a b c = Some (ChangeForm Bot)
+three_doubt AddBan a b c = Some (ChangeForm AddBan)
+three_doubt Info a b c = Some (ChangeForm Info)
 
 -- addban C M H E, and the comment
 abbrev pub four_doubt : ChangeWord → List ℕ → List ℕ → List ℕ → List ℕ → List (List ℕ) → Option Reason
-four_doubt AddBan c m h e comment = first_of (ban_doubt c m h) (first_of (expiry_doubt (gap_before comment) e) (comment_doubt comment))
+four_doubt AddBan c m h e comment = first_of (ban_doubt c m h) (first_of (expiry_doubt (gap_before comment) e) (comment_doubt AddBan comment))
 four_doubt AddUser c m h e comment = Some (ChangeForm AddUser)
 four_doubt DelUser c m h e comment = Some (ChangeForm DelUser)
 four_doubt AddHost c m h e comment = Some (ChangeForm AddHost)
@@ -93,14 +107,34 @@ four_doubt DelBan c m h e comment = Some (ChangeForm DelBan)
 four_doubt Global c m h e comment = Some (ChangeForm Global)
 four_doubt Bot c m h e comment = Some (ChangeForm Bot)
 four_doubt Chan c m h e comment = Some (ChangeForm Chan)
+four_doubt Info c m h e comment = Some (ChangeForm Info)
+four_doubt Sticky c m h e comment = Some (ChangeForm Sticky)
 
--- each change has its count of words
+-- the changes that have a count of words each
+abbrev pub counted_doubt : ChangeWord → List (List ℕ) → Option Reason
+counted_doubt word [] = Some (ChangeForm word)
+counted_doubt word (a ∷ []) = one_doubt word a
+counted_doubt word (a ∷ b ∷ []) = two_doubt word a b
+counted_doubt word (a ∷ b ∷ c ∷ []) = three_doubt word a b c
+counted_doubt word (a ∷ b ∷ c ∷ d ∷ comment) = four_doubt word a b c d comment
+
+-- info H, and the text
+abbrev pub info_doubt : List (List ℕ) → Option Reason
+info_doubt [] = Some (ChangeForm Info)
+info_doubt (h ∷ text) = first_of (gap_doubt (gap_before text) h) (comment_doubt Info text)
+
 abbrev pub change_doubt : ChangeWord → List (List ℕ) → Option Reason
-change_doubt word [] = Some (ChangeForm word)
-change_doubt word (a ∷ []) = one_doubt word a
-change_doubt word (a ∷ b ∷ []) = two_doubt word a b
-change_doubt word (a ∷ b ∷ c ∷ []) = three_doubt word a b c
-change_doubt word (a ∷ b ∷ c ∷ d ∷ comment) = four_doubt word a b c d comment
+change_doubt Info words = info_doubt words
+change_doubt AddUser words = counted_doubt AddUser words
+change_doubt DelUser words = counted_doubt DelUser words
+change_doubt AddHost words = counted_doubt AddHost words
+change_doubt DelHost words = counted_doubt DelHost words
+change_doubt DelBan words = counted_doubt DelBan words
+change_doubt Global words = counted_doubt Global words
+change_doubt Bot words = counted_doubt Bot words
+change_doubt Chan words = counted_doubt Chan words
+change_doubt AddBan words = counted_doubt AddBan words
+change_doubt Sticky words = counted_doubt Sticky words
 
 abbrev pub change_found : Option ChangeWord → List ℕ → List (List ℕ) → Option Reason
 change_found (Some word) name words = change_doubt word words

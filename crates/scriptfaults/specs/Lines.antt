@@ -1,5 +1,5 @@
 -- Why a line breaks a rule by itself.
-use Rattle.std.specs.Prelude.{ℕ, ◌==◌, Bool, true, false, List, [], ◌∷◌, Option, None, Some, option_map, if◌then◌else◌, unwrap_or}
+use Rattle.std.specs.Prelude.{ℕ, ◌==◌, Bool, true, false, List, [], ◌∷◌, Option, None, option_map, if◌then◌else◌, unwrap_or}
 use Rattle.scriptwords.specs.Words.{words_of}
 use Rattle.scriptfaults.specs.declared.reason.Reason.{Reason}
 use Rattle.scriptfaults.specs.declared.reason.Reason.TheVariants as reason
@@ -28,6 +28,7 @@ is_form reason.Change = false
 is_form reason.Flags = false
 is_form reason.ChannelFlags = false
 is_form reason.Expiry = false
+is_form reason.Mark = false
 is_form reason.Kind = false
 is_form reason.LeavesFirst = false
 is_form reason.LeavesAgain = false

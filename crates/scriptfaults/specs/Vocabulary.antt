@@ -4,7 +4,7 @@ use Rattle.std.specs.Str.{bytes_eq}
 use Rattle.scriptfaults.specs.declared.verb.Verb.{Verb}
 use Rattle.scriptfaults.specs.declared.verb.Verb.TheVariants.{Leaves, Ask, Pump, Compact, Restart, Connect, Line, Clock, Bind, Unbind, Deliver, Show, Zone}
 use Rattle.scriptfaults.specs.declared.change_word.ChangeWord.{ChangeWord}
-use Rattle.scriptfaults.specs.declared.change_word.ChangeWord.TheVariants.{AddUser, DelUser, AddHost, DelHost, DelBan, Global, Bot, Chan, AddBan}
+use Rattle.scriptfaults.specs.declared.change_word.ChangeWord.TheVariants.{AddUser, DelUser, AddHost, DelHost, DelBan, Global, Bot, Chan, AddBan, Info, Sticky}
 
 abbrev pub spelling_of : Verb → List ℕ
 spelling_of Leaves = codes "leaves"
@@ -39,9 +39,11 @@ change_spelling Global = codes "global"
 change_spelling Bot = codes "bot"
 change_spelling Chan = codes "chan"
 change_spelling AddBan = codes "addban"
+change_spelling Info = codes "info"
+change_spelling Sticky = codes "sticky"
 
 abbrev pub all_changes : List ChangeWord
-all_changes = AddUser ∷ DelUser ∷ AddHost ∷ DelHost ∷ DelBan ∷ Global ∷ Bot ∷ Chan ∷ AddBan ∷ []
+all_changes = AddUser ∷ DelUser ∷ AddHost ∷ DelHost ∷ DelBan ∷ Global ∷ Bot ∷ Chan ∷ AddBan ∷ Info ∷ Sticky ∷ []
 
 abbrev pub change_word_named : List ℕ → Option ChangeWord
 change_word_named spelling = find (λ word. bytes_eq spelling (change_spelling word)) all_changes

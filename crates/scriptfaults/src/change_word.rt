@@ -23,10 +23,14 @@ pub enum ChangeWord {
     Chan,
     /// A ban is made.
     AddBan,
+    /// A user's info line.
+    Info,
+    /// Whether a ban is sticky.
+    Sticky,
 }
 
 // Every name.
-const ALL: [ChangeWord; 9] = [
+const ALL: [ChangeWord; 11] = [
     ChangeWord::AddUser,
     ChangeWord::DelUser,
     ChangeWord::AddHost,
@@ -36,6 +40,8 @@ const ALL: [ChangeWord; 9] = [
     ChangeWord::Bot,
     ChangeWord::Chan,
     ChangeWord::AddBan,
+    ChangeWord::Info,
+    ChangeWord::Sticky,
 ];
 
 impl ChangeWord {
@@ -53,6 +59,8 @@ impl ChangeWord {
             ChangeWord::Bot => "bot",
             ChangeWord::Chan => "chan",
             ChangeWord::AddBan => "addban",
+            ChangeWord::Info => "info",
+            ChangeWord::Sticky => "sticky",
         }
     }
 

@@ -1,7 +1,7 @@
 // Which word of a change is wrong, or that there are too few or too many.
 ghost use Rattle.std.specs.Prelude.{◌≡◌, map};
-ghost use Rattle.scriptfaults.specs.Changes.{ask_doubt, ban_doubt, change_doubt, comment_doubt, expiry_doubt, first_of, flags_doubt};
-ghost use Rattle.scriptfaults.specs.Changes.{four_doubt, gap_doubt, one_doubt, text_doubt, three_doubt, two_doubt};
+ghost use Rattle.scriptfaults.specs.Changes.{ask_doubt, ban_doubt, change_doubt, comment_doubt, counted_doubt, expiry_doubt, first_of};
+ghost use Rattle.scriptfaults.specs.Changes.{flags_doubt, four_doubt, gap_doubt, gaps_doubt, info_doubt, mark_doubt, one_doubt, text_doubt, three_doubt, two_doubt};
 
 use crate::change_word::ChangeWord;
 use crate::reason::Reason;
@@ -22,6 +22,38 @@ pub fn ask_doubt(name: &[u8], words: &[&[u8]]) -> Option<Reason>
 // What is wrong with the words of a change.
 fn change_doubt(word: ChangeWord, words: &[&[u8]]) -> Option<Reason>
     ensures { result ≡ change_doubt word (map (λ word. word.now) words.now) }
+{
+    match word {
+        ChangeWord::Info => info_doubt(words),
+        ChangeWord::AddUser
+        | ChangeWord::DelUser
+        | ChangeWord::AddHost
+        | ChangeWord::DelHost
+        | ChangeWord::DelBan
+        | ChangeWord::Global
+        | ChangeWord::Bot
+        | ChangeWord::Chan
+        | ChangeWord::AddBan
+        | ChangeWord::Sticky => counted_doubt(word, words),
+    }
+}
+
+// info H, and the text
+fn info_doubt(words: &[&[u8]]) -> Option<Reason>
+    ensures { result ≡ info_doubt (map (λ word. word.now) words.now) }
+{
+    match words {
+        [] => Some(Reason::ChangeForm(ChangeWord::Info)),
+        [h, text @ ..] => first_of(
+            gap_doubt(gap_before(text), h),
+            comment_doubt(ChangeWord::Info, text),
+        ),
+    }
+}
+
+// The changes that have a count of words each.
+fn counted_doubt(word: ChangeWord, words: &[&[u8]]) -> Option<Reason>
+    ensures { result ≡ counted_doubt word (map (λ word. word.now) words.now) }
 {
     match words {
         [] => Some(Reason::ChangeForm(word)),
@@ -44,7 +76,9 @@ fn one_doubt(word: ChangeWord, h: &[u8]) -> Option<Reason>
         | ChangeWord::Global
         | ChangeWord::Bot
         | ChangeWord::Chan
-        | ChangeWord::AddBan => Some(Reason::ChangeForm(word)),
+        | ChangeWord::AddBan
+        | ChangeWord::Info
+        | ChangeWord::Sticky => Some(Reason::ChangeForm(word)),
     }
 }
 
@@ -61,24 +95,22 @@ fn two_doubt(word: ChangeWord, a: &[u8], b: &[u8]) -> Option<Reason>
             gap_doubt(Reason::TwoSpaces, a),
             flags_doubt(Reason::Flags, b),
         ),
-        ChangeWord::AddUser | ChangeWord::DelUser | ChangeWord::Chan | ChangeWord::AddBan => Some(
-            Reason::ChangeForm(word),
-        ),
+        ChangeWord::AddUser
+        | ChangeWord::DelUser
+        | ChangeWord::Chan
+        | ChangeWord::AddBan
+        | ChangeWord::Info
+        | ChangeWord::Sticky => Some(Reason::ChangeForm(word)),
     }
 }
 
-// chan H C F
-fn three_doubt(word: ChangeWord, h: &[u8], c: &[u8], f: &[u8]) -> Option<Reason>
-    ensures { result ≡ three_doubt word h.now c.now f.now }
+// chan H C F, sticky C M N
+fn three_doubt(word: ChangeWord, a: &[u8], b: &[u8], c: &[u8]) -> Option<Reason>
+    ensures { result ≡ three_doubt word a.now b.now c.now }
 {
     match word {
-        ChangeWord::Chan => first_of(
-            first_of(
-                gap_doubt(Reason::TwoSpaces, h),
-                gap_doubt(Reason::TwoSpaces, c),
-            ),
-            flags_doubt(Reason::ChannelFlags, f),
-        ),
+        ChangeWord::Chan => first_of(gaps_doubt(a, b), flags_doubt(Reason::ChannelFlags, c)),
+        ChangeWord::Sticky => first_of(gaps_doubt(a, b), mark_doubt(c)),
         ChangeWord::AddUser
         | ChangeWord::DelUser
         | ChangeWord::AddHost
@@ -86,8 +118,19 @@ fn three_doubt(word: ChangeWord, h: &[u8], c: &[u8], f: &[u8]) -> Option<Reason>
         | ChangeWord::DelBan
         | ChangeWord::Global
         | ChangeWord::Bot
-        | ChangeWord::AddBan => Some(Reason::ChangeForm(word)),
+        | ChangeWord::AddBan
+        | ChangeWord::Info => Some(Reason::ChangeForm(word)),
     }
+}
+
+// Two words before others, neither of them empty.
+fn gaps_doubt(a: &[u8], b: &[u8]) -> Option<Reason>
+    ensures { result ≡ gaps_doubt a.now b.now }
+{
+    first_of(
+        gap_doubt(Reason::TwoSpaces, a),
+        gap_doubt(Reason::TwoSpaces, b),
+    )
 }
 
 // addban C M H E, and the comment
@@ -104,7 +147,10 @@ fn four_doubt(
     match word {
         ChangeWord::AddBan => first_of(
             ban_doubt(c, m, h),
-            first_of(expiry_doubt(gap_before(comment), e), comment_doubt(comment)),
+            first_of(
+                expiry_doubt(gap_before(comment), e),
+                comment_doubt(word, comment),
+            ),
         ),
         ChangeWord::AddUser
         | ChangeWord::DelUser
@@ -113,7 +159,9 @@ fn four_doubt(
         | ChangeWord::DelBan
         | ChangeWord::Global
         | ChangeWord::Bot
-        | ChangeWord::Chan => Some(Reason::ChangeForm(word)),
+        | ChangeWord::Chan
+        | ChangeWord::Info
+        | ChangeWord::Sticky => Some(Reason::ChangeForm(word)),
     }
 }
 
@@ -138,13 +186,23 @@ fn expiry_doubt(gap: Reason, e: &[u8]) -> Option<Reason>
     }
 }
 
-// A comment is the rest of the line, and not empty where there is one.
-fn comment_doubt(comment: &[&[u8]]) -> Option<Reason>
-    ensures { result ≡ comment_doubt (map (λ word. word.now) comment.now) }
+// Whether a ban is sticky.
+fn mark_doubt(n: &[u8]) -> Option<Reason>
+    ensures { result ≡ mark_doubt n.now }
+{
+    match number(n) {
+        Some(0 | 1) => None,
+        Some(_) | None => Some(misread(Reason::SpaceAfter, Reason::Mark, n)),
+    }
+}
+
+// A comment is the rest of the line, and not empty where there is one; so is an info.
+fn comment_doubt(word: ChangeWord, comment: &[&[u8]]) -> Option<Reason>
+    ensures { result ≡ comment_doubt word (map (λ word. word.now) comment.now) }
 {
     match comment {
         [] => None,
-        [first, rest @ ..] => text_doubt(Reason::ChangeForm(ChangeWord::AddBan), first, rest),
+        [first, rest @ ..] => text_doubt(Reason::ChangeForm(word), first, rest),
     }
 }
 

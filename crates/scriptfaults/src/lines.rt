@@ -72,6 +72,7 @@ fn is_form(reason: Reason) -> bool
         | Reason::Flags
         | Reason::ChannelFlags
         | Reason::Expiry
+        | Reason::Mark
         | Reason::Kind
         | Reason::LeavesFirst
         | Reason::LeavesAgain

@@ -47,6 +47,8 @@ pub enum Reason {
     ChannelFlags,
     /// The seventh word is no number of seconds.
     Expiry,
+    /// The sixth word is neither 0 nor 1.
+    Mark,
     /// The third word is no type of binds.
     Kind,
     /// Nothing stands before the number of leaves.
@@ -86,13 +88,15 @@ impl Reason {
             Reason::Seconds =>
                 "word 3 is no number: say the seconds since 1970-01-01 UTC, as in 1767225600",
             Reason::Change =>
-                "word 3 is no change: say adduser, deluser, addhost, delhost, global, bot, chan, addban or delban",
+                "word 3 is no change: say adduser, deluser, addhost, delhost, global, bot, chan, addban, delban, info or sticky",
             Reason::ChangeForm(word) => change_form_of(word),
             Reason::Flags => "word 5 is no flags: say letters alone, as in mo, or - for none",
             Reason::ChannelFlags =>
                 "word 6 is no flags: say letters alone, as in mo, or - for none",
             Reason::Expiry =>
                 "word 7 is no number: say the seconds since 1970-01-01 UTC, or 0 for a ban that does not end",
+            Reason::Mark =>
+                "word 6 is neither 0 nor 1: say 1 for a ban that is to be sticky, or 0 for one that is not",
             Reason::Kind =>
                 "word 3 is no type of binds: say raw, msg, msgm, notc, pub, pubm, join, part, sign, kick, nick, mode, topc, \
                  bot, time or cron",
@@ -144,5 +148,8 @@ fn change_form_of(word: ChangeWord) -> &'static str {
         ChangeWord::Chan => "say ask B chan HANDLE CHANNEL FLAGS, as in ask 0 chan alice #egg o",
         ChangeWord::AddBan =>
             "say ask B addban CHANNEL MASK HANDLE EXPIRY COMMENT, as in ask 0 addban #egg *!*@spam.example alice 0 no spam",
+        ChangeWord::Info => "say ask B info HANDLE TEXT, as in ask 0 info alice I keep the eggs",
+        ChangeWord::Sticky =>
+            "say ask B sticky CHANNEL MASK N, as in ask 0 sticky #egg *!*@spam.example 1",
     }
 }

@@ -1,11 +1,11 @@
 -- The changes that a script asks for, by their names and words.
-use Rattle.std.specs.Prelude.{ℕ, ◌||◌, List, [], ◌∷◌, Option, None, Some, option_map, if◌then◌else◌, codes}
+use Rattle.std.specs.Prelude.{ℕ, ◌==◌, ◌||◌, Bool, List, [], ◌∷◌, Option, None, Some, option_map, if◌then◌else◌, codes}
 use Rattle.std.specs.Str.{bytes_eq}
 use Rattle.flagexpr.specs.declared.fault.FlagFault.{FlagFault}
 use Rattle.flagexpr.specs.Letters.{set_of}
 use Rattle.flagexpr.specs.Faults.{flags_fault}
 use Rattle.userfile.specs.declared.change.Change.{Change}
-use Rattle.userfile.specs.declared.change.Change.TheVariants.{AddUser, DelUser, AddHost, DelHost, SetGlobal, SetChan, SetBot, AddBan, DelBan}
+use Rattle.userfile.specs.declared.change.Change.TheVariants.{AddUser, DelUser, AddHost, DelHost, SetGlobal, SetChan, SetBot, AddBan, DelBan, SetInfo, SetSticky}
 use Rattle.scriptwords.specs.declared.asking.Pair.{Pair}
 use Rattle.scriptwords.specs.declared.asking.Pair.TheVariants.{AddHost as add_host, DelHost as del_host, DelBan as del_ban, Global as set_global, Bot as set_bot}
 use Rattle.scriptwords.specs.Words.{is_empty, rest_of, number_below, words_of}
@@ -25,6 +25,10 @@ channel_of word = if bytes_eq word (codes "*") then [] else word
 -- an expiry
 abbrev pub expiry_of : List ℕ → Option ℕ
 expiry_of word = number_below 18446744073709551616 word
+
+-- whether a ban is sticky: 1 that it is, 0 that it is not
+abbrev pub mark_of : List ℕ → Option Bool
+mark_of word = option_map (λ n. n == 1) (number_below 2 word)
 
 -- a comment is the rest of the line, and not empty where there is one
 abbrev pub comment_of : List (List ℕ) → Option (List ℕ)
@@ -60,11 +64,12 @@ pair_change None a b = None
 abbrev pub by_two_words : List ℕ → List ℕ → List ℕ → Option Change
 by_two_words name a b = if is_empty a || is_empty b then None else pair_change (pair_of name) a b
 
--- chan H C F
+-- chan H C F, sticky C M N
 abbrev pub by_three_words : List ℕ → List ℕ → List ℕ → List ℕ → Option Change
-by_three_words name h c f =
-    if is_empty h || is_empty c || is_empty f then None
-    else if bytes_eq name (codes "chan") then option_map (SetChan h c) (flags_of f)
+by_three_words name a b c =
+    if is_empty a || is_empty b || is_empty c then None
+    else if bytes_eq name (codes "chan") then option_map (SetChan a b) (flags_of c)
+    else if bytes_eq name (codes "sticky") then option_map (SetSticky (channel_of a) b) (mark_of c)
     else None
 
 -- addban C M H E, and the comment
@@ -79,13 +84,21 @@ by_more_words name c m h e words =
     else if bytes_eq name (codes "addban") then ban_of c m h (expiry_of e) (comment_of words)
     else None
 
--- each change has its count of words
+-- the changes that have a count of words each
+abbrev pub change_by_count : List ℕ → List (List ℕ) → Option Change
+change_by_count name (a ∷ []) = by_one_word name a
+change_by_count name (a ∷ b ∷ []) = by_two_words name a b
+change_by_count name (a ∷ b ∷ c ∷ []) = by_three_words name a b c
+change_by_count name (a ∷ b ∷ c ∷ d ∷ words) = by_more_words name a b c d words
+change_by_count name [] = None
+
+-- info H, and the text; without one the info is emptied
+abbrev pub info_by_words : List (List ℕ) → Option Change
+info_by_words (h ∷ words) = if is_empty h then None else option_map (SetInfo h) (comment_of words)
+info_by_words [] = None
+
 abbrev pub change_named : List ℕ → List (List ℕ) → Option Change
-change_named name (a ∷ []) = by_one_word name a
-change_named name (a ∷ b ∷ []) = by_two_words name a b
-change_named name (a ∷ b ∷ c ∷ []) = by_three_words name a b c
-change_named name (a ∷ b ∷ c ∷ d ∷ words) = by_more_words name a b c d words
-change_named name [] = None
+change_named name words = if bytes_eq name (codes "info") then info_by_words words else change_by_count name words
 
 -- a text of words, of which the first is the name
 abbrev pub change_by_words : List (List ℕ) → Option Change

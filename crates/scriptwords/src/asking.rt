@@ -1,7 +1,9 @@
 // The changes that can be asked for.
-ghost use Rattle.std.specs.Prelude.{◌≡◌, map, option_map, IfOk};
-ghost use Rattle.scriptwords.specs.Changes.{by_more_words, by_one_word, by_three_words, by_two_words, pair_of};
-ghost use Rattle.scriptwords.specs.Changes.{change_by_words, change_named, change_of, channel_of, comment_of, flags_of};
+ghost use Rattle.std.specs.Prelude.{◌≡◌, map, option_map, if◌then◌else◌, None, IfOk};
+ghost use Rattle.userfile.specs.declared.change.Change.TheVariants.{SetChan, SetInfo, SetSticky};
+ghost use Rattle.scriptwords.specs.Words.{is_empty};
+ghost use Rattle.scriptwords.specs.Changes.{by_more_words, by_one_word, by_three_words, by_two_words, info_by_words, pair_of};
+ghost use Rattle.scriptwords.specs.Changes.{change_by_count, change_by_words, change_named, change_of, channel_of, comment_of, flags_of, mark_of};
 
 use crate::numeral::number;
 use crate::pieces::pieces_of;
@@ -48,6 +50,40 @@ fn change_by_words(alloc: Global, words: &[&[u8]]) -> Result<Option<Change>, NoM
 /// `NoMemory` where room is refused.
 pub fn change_named(alloc: Global, name: &[u8], words: &[&[u8]]) -> Result<Option<Change>, NoMemory>
     ensures { IfOk result (λ change. change ≡ change_named name.now (map (λ word. word.now) words.now)) }
+{
+    if name == b"info".as_slice() {
+        info_by_words(alloc, words)
+    } else {
+        change_by_count(alloc, name, words)
+    }
+}
+
+// info H, and the text
+fn info_by_words(alloc: Global, words: &[&[u8]]) -> Result<Option<Change>, NoMemory>
+    ensures { IfOk result (λ change. change ≡ info_by_words (map (λ word. word.now) words.now)) }
+{
+    match words {
+        [] => Ok(None),
+        [h, words @ ..] => set_info(alloc, h, comment_of(alloc, words)?),
+    }
+}
+
+fn set_info(alloc: Global, h: &[u8], info: Option<Text>) -> Result<Option<Change>, NoMemory>
+    ensures { IfOk result (λ change. change ≡ (if is_empty h.now then None else option_map (SetInfo h.now) info)) }
+{
+    let Some(info) = info else {
+        return Ok(None);
+    };
+    if h.is_empty() {
+        return Ok(None);
+    }
+    let handle = Text::from_slice(alloc, h)?;
+    Ok(Some(Change::SetInfo { handle, info }))
+}
+
+// The changes that have a count of words each.
+fn change_by_count(alloc: Global, name: &[u8], words: &[&[u8]]) -> Result<Option<Change>, NoMemory>
+    ensures { IfOk result (λ change. change ≡ change_by_count name.now (map (λ word. word.now) words.now)) }
 {
     match words {
         [] => Ok(None),
@@ -155,27 +191,62 @@ fn set_bot(alloc: Global, h: &[u8], flags: Option<Flags>) -> Result<Option<Chang
     Ok(Some(Change::SetBot { handle, flags }))
 }
 
-// chan H C F
+// chan H C F, sticky C M N
 fn by_three_words(
     alloc: Global,
     name: &[u8],
-    h: &[u8],
+    a: &[u8],
+    b: &[u8],
     c: &[u8],
-    f: &[u8],
 ) -> Result<Option<Change>, NoMemory>
-    ensures { IfOk result (λ change. change ≡ by_three_words name.now h.now c.now f.now) }
+    ensures { IfOk result (λ change. change ≡ by_three_words name.now a.now b.now c.now) }
 {
-    if h.is_empty() || c.is_empty() || f.is_empty() || name != b"chan".as_slice() {
+    if a.is_empty() || b.is_empty() || c.is_empty() {
         return Ok(None);
     }
-    let Some(flags) = flags_of(f) else {
+    if name == b"chan".as_slice() {
+        set_chan(alloc, a, b, flags_of(c))
+    } else if name == b"sticky".as_slice() {
+        set_sticky(alloc, a, b, mark_of(c))
+    } else {
+        Ok(None)
+    }
+}
+
+fn set_chan(
+    alloc: Global,
+    h: &[u8],
+    c: &[u8],
+    flags: Option<Flags>,
+) -> Result<Option<Change>, NoMemory>
+    ensures { IfOk result (λ change. change ≡ option_map (SetChan h.now c.now) flags) }
+{
+    let Some(flags) = flags else {
         return Ok(None);
     };
+    let handle = Text::from_slice(alloc, h)?;
+    let channel = Text::from_slice(alloc, c)?;
     Ok(Some(Change::SetChan {
-        handle: Text::from_slice(alloc, h)?,
-        channel: Text::from_slice(alloc, c)?,
+        handle,
+        channel,
         flags,
     }))
+}
+
+fn set_sticky(
+    alloc: Global,
+    c: &[u8],
+    m: &[u8],
+    mark: Option<bool>,
+) -> Result<Option<Change>, NoMemory>
+    ensures { IfOk result (λ change. change ≡ option_map (SetSticky (channel_of c.now) m.now) mark) }
+{
+    let Some(on) = mark else {
+        return Ok(None);
+    };
+    let channel = Text::from_slice(alloc, channel_of(c))?;
+    let mask = Text::from_slice(alloc, m)?;
+    Ok(Some(Change::SetSticky { channel, mask, on }))
 }
 
 // addban C M H E, and the comment
@@ -224,6 +295,14 @@ fn channel_of(word: &[u8]) -> &[u8]
     ensures { result.now ≡ channel_of word.now }
 {
     if word == b"*".as_slice() { b"" } else { word }
+}
+
+// Whether a ban is sticky: 1 that it is, 0 that it is not.
+fn mark_of(word: &[u8]) -> Option<bool>
+    ensures { result ≡ mark_of word.now }
+{
+    let number = number(word)?;
+    if number < 2 { Some(number == 1) } else { None }
 }
 
 // A comment is the rest of the line, and not empty where there is one.

@@ -1,9 +1,10 @@
 -- How long a packet's frame is.
-use Rattle.std.proofs.Common.{◌≡◌, ℕ, ◌<◌, ◌≤◌, true, List, length, arith}
+use Rattle.std.proofs.Common.{◌≡◌, ℕ, suc, ◌<◌, ◌≤◌, ◌==◌, Bool, true, false, if◌then◌else◌, List, ◌∷◌, ◌++◌, length, arith}
+use Rattle.std.specs.Int.{w16, w32}
 use Rattle.std.proofs.lemmas.Bool.Decides.{nat_tests}
 use Rattle.std.proofs.lemmas.List.{length-append}
 use Rattle.usercodec.specs.declared.records.Record.{Record}
-use Rattle.usercodec.specs.Fields.{counted}
+use Rattle.usercodec.specs.Fields.{number, counted}
 use Rattle.usercodec.specs.Records.{record_bytes, IsGoodRecord}
 use Rattle.usercodec.proofs.RecordLengths.{all_map, many_short, record_is_short}
 use Rattle.usercodec.proofs.ShapeLaws.{short_texts, change_is_short}
@@ -25,7 +26,12 @@ part_is_short records holds =
     omega (arith, many_short record_bytes 4900 records each, few_records records holds)
 
 pub inside_is_short : (packet : Packet) → CanBeWritten packet → length (inside packet) < 39300
-inside_is_short (Hello leaf version) can = omega arith
+inside_is_short (Hello layout leaf version) can = hello_is_short (layout == 1)
+  where
+    hello_is_short : (first : Bool)
+        → suc (length (if first then number w16 leaf ++ number w32 version else layout ∷ (number w16 leaf ++ number w32 version))) < 39300
+    hello_is_short true = omega arith
+    hello_is_short false = omega arith
 inside_is_short (change_packet n origin request change) can =
     let short = change_is_short change (short_texts change can) in simp length-append (omega arith)
 inside_is_short (Part version part count records) can = let short = part_is_short records can in simp length-append (omega arith)

@@ -12,7 +12,7 @@ use Rattle.sharewire.specs.declared.limits.TheConstants.{MAX_LENGTH}
 use Rattle.sharewire.specs.declared.fault.WireFault.{WireFault}
 use Rattle.sharewire.specs.declared.fault.WireFault.TheVariants.{BadLength, BadKind, BadBody}
 use Rattle.sharewire.specs.declared.kind.Kind.{Kind}
-use Rattle.sharewire.specs.declared.kind.Kind.TheVariants.{Hello as hello, Change as change, Part as part, Request as request, Accepted as accepted, Refused as refused, BotText as bot_text}
+use Rattle.sharewire.specs.declared.kind.Kind.TheVariants.{Hello as hello, LaterHello as later_hello, Change as change, Part as part, Request as request, Accepted as accepted, Refused as refused, BotText as bot_text}
 use Rattle.sharewire.specs.declared.packet.Packet.{Packet}
 use Rattle.sharewire.specs.Kinds.{kind_byte, kind_from}
 use Rattle.sharewire.specs.Frames.{inside, frame, IsGoodPacket}
@@ -51,7 +51,11 @@ kind_byte-from byte x e =
                                         elim (chosen (eqb byte 7) _ _ _ p.1) [
                                           | inl p ↦ byte_is byte 7 bot_text x p.0 p.1 refl
                                           | inr p ↦
-                                              absurd (none_is x p.1)
+                                              elim (chosen (eqb byte 8) _ _ _ p.1) [
+                                                | inl p ↦ byte_is byte 8 later_hello x p.0 p.1 refl
+                                                | inr p ↦
+                                                    absurd (none_is x p.1)
+                                              ]
                                         ]
                                   ]
                             ]

@@ -51,7 +51,7 @@ one_ending (Err a) (Err b) rest p q = ap (λ (f : WireFault). Err f) (one_fault 
 -- ---- frames
 
 good_can : (packet : Packet) → IsGoodPacket packet → CanBeWritten packet
-good_can (Hello leaf version) good = tt
+good_can (Hello layout leaf version) good = good.0
 good_can (Change n origin r c) good = good.1.1.1.shape
 good_can (Part version n count records) good = good.1.1.1
 good_can (Request leaf r c) good = good.1.1.shape

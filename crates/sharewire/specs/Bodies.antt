@@ -1,5 +1,5 @@
 -- What reading a packet's body answers.
-use Rattle.std.specs.Prelude.{ℕ, List}
+use Rattle.std.specs.Prelude.{ℕ, nat_le, List}
 use Rattle.std.specs.Int.{w16, w32}
 use Rattle.usercodec.specs.Fields.{Reading, ◌>>=◌, checked, byte_at, bytes_at, number_at}
 use Rattle.usercodec.specs.declared.records.Record.{Record}
@@ -7,7 +7,7 @@ use Rattle.usercodec.specs.Records.{counted_at, record_at}
 use Rattle.sharewire.specs.declared.limits.TheConstants.{MAX_PART_RECORDS}
 use Rattle.usercodec.specs.Changes.{both, made, change_at}
 use Rattle.sharewire.specs.declared.kind.Kind.{Kind}
-use Rattle.sharewire.specs.declared.kind.Kind.TheVariants.{Hello as hello, Change as change, Part as part, Request as request, Accepted as accepted, Refused as refused, BotText as bot_text}
+use Rattle.sharewire.specs.declared.kind.Kind.TheVariants.{Hello as hello, LaterHello as later_hello, Change as change, Part as part, Request as request, Accepted as accepted, Refused as refused, BotText as bot_text}
 use Rattle.sharewire.specs.declared.packet.Packet.{Packet}
 use Rattle.sharewire.specs.declared.packet.Packet.TheVariants.{Hello, Change, Part, Request, Accepted, Refused, BotText}
 use Rattle.usercodec.specs.FaultBytes.{fault_at}
@@ -27,10 +27,17 @@ bot_text_at bytes = checked is_bot_text (long_text_at bytes)
 unfoldable pub part_records_at : List ℕ → Reading (List Record)
 part_records_at bytes = counted_at MAX_PART_RECORDS (λ held after. record_at after) bytes
 
+-- a layout that is said: layout 1 never is
+unfoldable pub layout_at : List ℕ → Reading ℕ
+layout_at bytes = checked (λ layout. nat_le 2 layout) (byte_at bytes)
+
 -- ---- bodies
 
 unfoldable pub hello_at : List ℕ → Reading Packet
-hello_at bytes = made (λ x. Hello x.0 x.1) (both (number_at w16) (number_at w32) bytes)
+hello_at bytes = made (λ x. Hello 1 x.0 x.1) (both (number_at w16) (number_at w32) bytes)
+
+unfoldable pub later_hello_at : List ℕ → Reading Packet
+later_hello_at bytes = made (λ x. Hello x.0 x.1.0 x.1.1) (both layout_at (both (number_at w16) (number_at w32)) bytes)
 
 unfoldable pub change_packet_at : List ℕ → Reading Packet
 change_packet_at bytes =
@@ -55,6 +62,7 @@ bot_text_packet_at bytes = made (λ x. BotText x.0 x.1.0 x.1.1) (both (number_at
 -- the body of a packet of this kind
 abbrev pub body_at : Kind → List ℕ → Reading Packet
 body_at hello bytes = hello_at bytes
+body_at later_hello bytes = later_hello_at bytes
 body_at change bytes = change_packet_at bytes
 body_at part bytes = part_at bytes
 body_at request bytes = request_at bytes

@@ -1,6 +1,6 @@
 -- The one spelling of a packet: a frame, which is the length of kind and body, the kind, and the body (our own choice
 -- throughout; numbers have their most significant byte first).
-use Rattle.std.specs.Prelude.{◌≡◌, ◌<◌, ◌^◌, nat_le, true, ℕ, List, [], ◌∷◌, ◌++◌, length, None}
+use Rattle.std.specs.Prelude.{◌≡◌, ◌<◌, ◌^◌, ◌==◌, nat_le, true, if◌then◌else◌, ℕ, List, [], ◌∷◌, ◌++◌, length, None}
 use Rattle.std.specs.Int.{w16, w32}
 use Rattle.userfile.specs.Apply.{bad_shape}
 use Rattle.std.specs.List.{AllByRecursion}
@@ -19,8 +19,13 @@ use Rattle.sharewire.specs.Texts.{is_bot_text}
 abbrev pub long_text : List ℕ → List ℕ
 long_text bytes = number w16 (length bytes) ++ bytes
 
+-- a hello says its layout, but for layout 1, which has a kind of its own
+abbrev pub hello_body : ℕ → ℕ → ℕ → List ℕ
+hello_body layout leaf version =
+    if layout == 1 then number w16 leaf ++ number w32 version else layout ∷ (number w16 leaf ++ number w32 version)
+
 abbrev pub body_of : Packet → List ℕ
-body_of (Hello leaf version) = number w16 leaf ++ number w32 version
+body_of (Hello layout leaf version) = hello_body layout leaf version
 body_of (Change n origin request change) = number w32 n ++ (number w16 origin ++ (number w32 request ++ change_bytes change))
 body_of (Part version part count records) = number w32 version ++ part ∷ count ∷ counted record_bytes records
 body_of (Request leaf request change) = number w16 leaf ++ (number w32 request ++ change_bytes change)
@@ -39,9 +44,10 @@ frame packet = number w16 (length (inside packet)) ++ inside packet
 abbrev pub HoldsPart : List Record → Type 0
 HoldsPart records = (nat_le (length records) MAX_PART_RECORDS ≡ true) × AllByRecursion IsGoodRecord records
 
--- what a packet must hold to be written: a change of good shape, the records of one part, a text that may be told
+-- what a packet must hold to be written: a layout from 1 on, a change of good shape, the records of one part, a text that may be
+-- told
 abbrev pub CanBeWritten : Packet → Type 0
-CanBeWritten (Hello leaf version) = Unit {0}
+CanBeWritten (Hello layout leaf version) = 0 < layout
 CanBeWritten (Change n origin request change) = bad_shape change ≡ None
 CanBeWritten (Part version part count records) = HoldsPart records
 CanBeWritten (Request leaf request change) = bad_shape change ≡ None
@@ -51,7 +57,7 @@ CanBeWritten (BotText from to text) = is_bot_text text ≡ true
 
 -- a packet that has a frame: it can be written, and its numbers have room
 abbrev pub IsGoodPacket : Packet → Type 0
-IsGoodPacket (Hello leaf version) = (leaf < 2 ^ 16) × (version < 2 ^ 32)
+IsGoodPacket (Hello layout leaf version) = (0 < layout) × ((layout < 2 ^ 8) × ((leaf < 2 ^ 16) × (version < 2 ^ 32)))
 IsGoodPacket (Change n origin request change) = (n < 2 ^ 32) × ((origin < 2 ^ 16) × ((request < 2 ^ 32) × IsGoodChange change))
 IsGoodPacket (Part version part count records) = (version < 2 ^ 32) × ((part < 2 ^ 8) × ((count < 2 ^ 8) × HoldsPart records))
 IsGoodPacket (Request leaf request change) = (leaf < 2 ^ 16) × ((request < 2 ^ 32) × IsGoodChange change)

@@ -1,7 +1,7 @@
 -- The byte of each kind of packet (our own choice).
 use Rattle.std.specs.Prelude.{ℕ, ◌==◌, Option, Some, None, if◌then◌else◌}
 use Rattle.sharewire.specs.declared.kind.Kind.{Kind}
-use Rattle.sharewire.specs.declared.kind.Kind.TheVariants.{Hello as hello, Change as change, Part as part, Request as request, Accepted as accepted, Refused as refused, BotText as bot_text}
+use Rattle.sharewire.specs.declared.kind.Kind.TheVariants.{Hello as hello, LaterHello as later_hello, Change as change, Part as part, Request as request, Accepted as accepted, Refused as refused, BotText as bot_text}
 use Rattle.sharewire.specs.declared.packet.Packet.{Packet}
 use Rattle.sharewire.specs.declared.packet.Packet.TheVariants.{Hello, Change, Part, Request, Accepted, Refused, BotText}
 
@@ -13,6 +13,7 @@ kind_byte request = 4
 kind_byte accepted = 5
 kind_byte refused = 6
 kind_byte bot_text = 7
+kind_byte later_hello = 8
 
 -- the kind of a byte, where it is one
 abbrev pub kind_from : ℕ → Option Kind
@@ -24,10 +25,15 @@ kind_from byte =
     else (if byte == 5 then Some accepted
     else (if byte == 6 then Some refused
     else (if byte == 7 then Some bot_text
-    else None))))))
+    else (if byte == 8 then Some later_hello
+    else None)))))))
+
+-- a hello of layout 1 has a kind of its own
+abbrev pub hello_kind : ℕ → Kind
+hello_kind layout = if layout == 1 then hello else later_hello
 
 abbrev pub kind_of : Packet → Kind
-kind_of (Hello leaf version) = hello
+kind_of (Hello layout leaf version) = hello_kind layout
 kind_of (Change n origin r c) = change
 kind_of (Part version n count records) = part
 kind_of (Request leaf r c) = request

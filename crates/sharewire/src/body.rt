@@ -1,7 +1,7 @@
 // The packet of a kind and a body.
 ghost use Rattle.std.specs.Prelude.{◌≡◌};
-ghost use Rattle.usercodec.specs.Answers.{Finds};
-ghost use Rattle.sharewire.specs.Bodies.{hello_at, change_packet_at, part_at, request_at, accepted_at, refused_at};
+ghost use Rattle.usercodec.specs.Answers.{Finds, Gives};
+ghost use Rattle.sharewire.specs.Bodies.{hello_at, later_hello_at, layout_at, change_packet_at, part_at, request_at, accepted_at, refused_at};
 ghost use Rattle.sharewire.specs.Bodies.{body_at, bot_text_packet_at};
 
 use crate::kind::Kind;
@@ -10,13 +10,14 @@ use crate::packet::Packet;
 use crate::part_records::part_records;
 use bytetext::{Failure, NoMemory};
 use std::alloc::Global;
-use usercodec::{CodecError, Reader};
+use usercodec::{CodecError, CodecFault, Reader};
 
 fn packet(alloc: Global, kind: Kind, reader: &mut Reader<'_>) -> Result<Packet, CodecError>
     ensures { Finds (λ packet. (packet, reader.new)) result (body_at kind reader.old) }
 {
     match kind {
         Kind::Hello => hello(reader),
+        Kind::LaterHello => later_hello(reader),
         Kind::Change => change(alloc, reader),
         Kind::Part => part(alloc, reader),
         Kind::Request => request(alloc, reader),
@@ -32,7 +33,36 @@ fn hello(reader: &mut Reader<'_>) -> Result<Packet, CodecError>
 {
     let leaf = reader.u16()?;
     let version = reader.u32()?;
-    Ok(Packet::Hello { leaf, version })
+    Ok(Packet::Hello {
+        layout: 1,
+        leaf,
+        version,
+    })
+}
+
+#[tactic(auto, unfolding(crate::specs::Bodies::later_hello_at))]
+fn later_hello(reader: &mut Reader<'_>) -> Result<Packet, CodecError>
+    ensures { Finds (λ packet. (packet, reader.new)) result (later_hello_at reader.old) }
+{
+    let layout = layout(reader)?;
+    let leaf = reader.u16()?;
+    let version = reader.u32()?;
+    Ok(Packet::Hello {
+        layout,
+        leaf,
+        version,
+    })
+}
+
+#[tactic(auto, unfolding(crate::specs::Bodies::layout_at))]
+fn layout(reader: &mut Reader<'_>) -> Result<u8, CodecError>
+    ensures { Gives (λ layout. (layout, reader.new)) result (layout_at reader.old) }
+{
+    let layout = reader.byte()?;
+    if layout < 2 {
+        return Err(Failure::Refused(CodecFault::NotCanonical));
+    }
+    Ok(layout)
 }
 
 #[tactic(auto, unfolding(crate::specs::Bodies::change_packet_at))]

@@ -7,6 +7,8 @@ use crate::packet::Packet;
 #[derive(Clone, Copy, Debug)]
 pub(crate) enum Kind {
     Hello,
+    // A hello of a later layout than 1, which says it.
+    LaterHello,
     Change,
     Part,
     Request,
@@ -27,6 +29,7 @@ impl Kind {
             5 => Some(Kind::Accepted),
             6 => Some(Kind::Refused),
             7 => Some(Kind::BotText),
+            8 => Some(Kind::LaterHello),
             _ => None,
         }
     }
@@ -42,6 +45,7 @@ impl Kind {
             Kind::Accepted => 5,
             Kind::Refused => 6,
             Kind::BotText => 7,
+            Kind::LaterHello => 8,
         }
     }
 }
@@ -51,7 +55,8 @@ impl Packet {
         ensures { result ≡ kind_of self.now }
     {
         match self {
-            Packet::Hello { .. } => Kind::Hello,
+            Packet::Hello { layout: 1, .. } => Kind::Hello,
+            Packet::Hello { .. } => Kind::LaterHello,
             Packet::Change { .. } => Kind::Change,
             Packet::Part { .. } => Kind::Part,
             Packet::Request { .. } => Kind::Request,

@@ -6,13 +6,14 @@
 //!
 //! | kind | packet | body |
 //! |---|---|---|
-//! | 1 | [`Packet::Hello`] | leaf (2 bytes), version (4) |
+//! | 1 | [`Packet::Hello`] of layout 1 | leaf (2 bytes), version (4) |
 //! | 2 | [`Packet::Change`] | number (4), origin (2), request (4), change |
 //! | 3 | [`Packet::Part`] | version (4), the part's number (1), how many parts (1), count (1, 0 to 8), records |
 //! | 4 | [`Packet::Request`] | leaf (2), request (4), change |
 //! | 5 | [`Packet::Accepted`] | leaf (2), request (4), number (4) |
 //! | 6 | [`Packet::Refused`] | leaf (2), request (4), the number of the fault's letter U (1) |
 //! | 7 | [`Packet::BotText`] | from (2), to (2), the text's length (2), the text |
+//! | 8 | [`Packet::Hello`] of a later layout | layout (1, at least 2), leaf (2), version (4) |
 //!
 //! [`write_packet`] writes a packet's one frame. A [`WireReader`] is fed the pieces of a stream, cut anywhere, and
 //! tells each packet once, in order, as soon as its frame is whole. It keeps no more than one frame that is not. The
@@ -20,7 +21,7 @@
 //! kind is, with the last if its body is. The packets before it are given.
 //!
 //! ```text
-//! let frame = write_packet(alloc, &Packet::Hello { leaf: 1, version: 2 })?;    // 0007 01 0001 00000002
+//! let frame = write_packet(alloc, &Packet::Hello { layout: 2, leaf: 1, version: 2 })?;    // 0008 08 02 0001 00000002
 //! let mut reader = WireReader::new(alloc);
 //! reader.feed(alloc, &frame[..7])?;              // no packet yet
 //! reader.feed(alloc, &frame[7..])?;              // the hello

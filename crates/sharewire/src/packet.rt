@@ -7,8 +7,10 @@ use userfile::{Change, ChangeFault};
 /// One packet of the sharing link. Bot 0 is the hub, and leaves are numbered from 1.
 #[derive(Debug)]
 pub enum Packet {
-    /// A leaf tells the hub the version that it is at.
+    /// A leaf tells the hub the layout of its records, and the version that it is at.
     Hello {
+        /// The layout in which the leaf keeps its journal, from 1: layout 0 has no frame.
+        layout: u8,
         /// The leaf's number.
         leaf: u16,
         /// The leaf's version.
@@ -79,6 +81,7 @@ impl Drop for Packet {
     fn drop(self) {
         match self {
             Packet::Hello {
+                layout: _,
                 leaf: _,
                 version: _,
             } => {}
@@ -121,7 +124,12 @@ impl Drop for Packet {
 impl TryCopy for Packet {
     fn copy(&self, alloc: Global) -> Result<Packet, NoMemory> {
         match self {
-            Packet::Hello { leaf, version } => Ok(Packet::Hello {
+            Packet::Hello {
+                layout,
+                leaf,
+                version,
+            } => Ok(Packet::Hello {
+                layout: *layout,
                 leaf: *leaf,
                 version: *version,
             }),

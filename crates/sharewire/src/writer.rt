@@ -12,8 +12,8 @@ use usercodec::{byte_of_fault, put_change, put_u16, put_u32};
 // Most frames have no more bytes.
 const USUAL: usize = 64;
 
-/// The one spelling of a packet, its frame. Its change is of good shape (see [`userfile::shape`]), its text one that
-/// may be told (see [`is_bot_text`](crate::is_bot_text)), its records are at most eight, as a userfile holds them.
+/// The one spelling of a packet, its frame. Its layout is not 0, its change of good shape (see [`userfile::shape`]), its text
+/// one that may be told (see [`is_bot_text`](crate::is_bot_text)), its records are at most eight, as a userfile holds them.
 ///
 /// # Errors
 /// `NoMemory` where room for it is refused.
@@ -38,7 +38,14 @@ fn put_body(out: &mut Vec<u8>, packet: &Packet) -> Result<(), NoMemory>
     ensures { OnOk result (out.new.items ≡ out.old.items ++ body_of packet.now) }
 {
     match packet {
-        Packet::Hello { leaf, version } => {
+        Packet::Hello {
+            layout,
+            leaf,
+            version,
+        } => {
+            if *layout != 1 {
+                out.push(*layout)?;
+            }
             put_u16(out, *leaf)?;
             put_u32(out, *version)
         }

@@ -3,6 +3,7 @@ ghost use Rattle.std.specs.Prelude.{IfOk};
 ghost use Rattle.std.specs.List.{AllByRecursion};
 ghost use Rattle.linkcalls.specs.Shapes.{HasGoodRecords};
 
+use botjournal::LAYOUT;
 use bytetext::Text;
 use caselines::{BAD_NUMBER, BAD_WORDS, CaseError, Sink, cut, number};
 use sharewire::Packet;
@@ -57,7 +58,11 @@ fn hello(alloc: Global, leaf: u16) -> Result<Vec<Packet>, CaseError>
     ensures { IfOk result (λ packets. AllByRecursion HasGoodRecords packets.items) }
 {
     let mut packets = Vec::new(alloc);
-    packets.push(Packet::Hello { leaf, version: 0 })?;
+    packets.push(Packet::Hello {
+        layout: LAYOUT,
+        leaf,
+        version: 0,
+    })?;
     Ok(packets)
 }
 

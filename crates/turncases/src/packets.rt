@@ -2,6 +2,7 @@
 ghost use Rattle.std.specs.Prelude.{IfOk};
 ghost use Rattle.linkcalls.specs.Shapes.{HasGoodRecords};
 
+use botjournal::LAYOUT;
 use bytetext::Text;
 use caselines::{BAD_WORDS, CaseError, Sink, cut, number};
 use sharewire::Packet;
@@ -36,6 +37,7 @@ pub fn packet_of(alloc: Global, words: &[u8]) -> Result<Packet, CaseError>
     let (second, third) = cut(rest, b' ');
     match kind {
         b"hello" => Ok(Packet::Hello {
+            layout: LAYOUT,
             leaf: number(first)?,
             version: number(second)?,
         }),

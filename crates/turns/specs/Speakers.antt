@@ -5,7 +5,7 @@ use Rattle.sharewire.specs.declared.packet.Packet.TheVariants.{Hello, Change, Pa
 
 -- none where only the hub says it
 abbrev pub speaker_of : Packet → Option ℕ
-speaker_of (Hello leaf version) = Some leaf
+speaker_of (Hello layout leaf version) = Some leaf
 speaker_of (Change number origin request change) = None
 speaker_of (Part version part count records) = None
 speaker_of (Request leaf request change) = Some leaf

@@ -1,24 +1,26 @@
 -- Changes: what is read is spelled so, what is spelled so is read, and what was told stays.
-use Rattle.std.proofs.Common.{◌≡◌, ℕ, suc, ◌^◌, ◌<◌, true, eqb, nat_lt, List, [], ◌∷◌, ◌++◌, Ok, Err, refl, sym, ap, subst, ◌∙◌, append_assoc, arith}
+use Rattle.std.proofs.Common.{◌≡◌, ℕ, suc, ◌^◌, ◌<◌, true, eqb, nat_lt, false, List, [], ◌∷◌, ◌++◌, Ok, Err, refl, sym, ap, subst, ◌∙◌, append_assoc, arith}
 use Rattle.std.proofs.Common.{inl, inr}
 use Rattle.std.specs.Int.{w64}
 use Rattle.std.proofs.lemmas.Bool.{eqb-true, ltb-true}
 use Rattle.std.proofs.lemmas.Bool.Decides.{nat_tests}
 use Rattle.rfccase.specs.Channels.{is_channel_name}
-use Rattle.userfile.specs.Shapes.{is_handle, is_hostmask, is_ban_channel, is_comment}
+use Rattle.userfile.specs.Shapes.{is_handle, is_hostmask, is_ban_channel, is_comment, is_info}
+use Rattle.userfile.specs.Apply.{new_ban}
 use Rattle.userfile.specs.declared.ban.Ban.{Ban}
 use Rattle.userfile.specs.declared.change.Change.{Change}
 use Rattle.userfile.specs.declared.change.Change.TheVariants.{AddUser, DelUser, AddHost, DelHost, SetGlobal, SetChan, SetBot, AddBan, DelBan}
+use Rattle.userfile.specs.declared.change.Change.TheVariants.{SetInfo, SetSticky}
 use Rattle.usercodec.specs.declared.fault.CodecFault.TheVariants.{BadTag}
-use Rattle.usercodec.specs.Fields.{number, text, flags, Reading, ◌>>=◌, byte_at, number_at, flags_at}
-use Rattle.usercodec.specs.Fields.{handle_at, hostmask_at, channel_at, ban_channel_at, comment_at}
+use Rattle.usercodec.specs.Fields.{number, text, flags, mark, Reading, ◌>>=◌, byte_at, number_at, flags_at}
+use Rattle.usercodec.specs.Fields.{handle_at, hostmask_at, channel_at, ban_channel_at, comment_at, info_at, mark_at}
 use Rattle.usercodec.specs.Changes.{ban_bytes, change_bytes, IsGoodChange, both, made, handle_and_mask_at, handle_and_flags_at, channel_and_mask_at}
-use Rattle.usercodec.specs.Changes.{set_chan_at, ban_at, add_ban_at, fields_at, change_at}
+use Rattle.usercodec.specs.Changes.{set_chan_at, ban_at, add_ban_at, set_info_at, set_sticky_at, fields_at, change_at}
 use Rattle.usercodec.specs.Laws.{Stays}
-use Rattle.usercodec.proofs.ShapeLaws.{handle_is_short, channel_is_short, ban_channel_is_short, hostmask_is_short, comment_is_short, fields_pass}
-use Rattle.usercodec.proofs.ShapeLaws.{shape_passes}
+use Rattle.usercodec.proofs.ShapeLaws.{handle_is_short, channel_is_short, ban_channel_is_short, hostmask_is_short, comment_is_short, info_is_short}
+use Rattle.usercodec.proofs.ShapeLaws.{fields_pass, shape_passes}
 use Rattle.usercodec.proofs.Steps.{IsBytes, chosen, bind_ok, ok_is, Takes, Takes-then, stays_bind, stays_if, NoTag, no_tag_bind}
-use Rattle.usercodec.proofs.FieldLaws.{IsSort, IsField, byte_field, field64, text_field, checked_field, both_field}
+use Rattle.usercodec.proofs.FieldLaws.{IsSort, IsField, byte_field, field64, text_field, checked_field, both_field, mark_field}
 
 -- ---- the fields of changes
 
@@ -42,6 +44,10 @@ pub comment_field : IsField comment_at text (λ comment. is_comment comment ≡ 
 unfolding comment_at
 comment_field = checked_field text_field is_comment comment_is_short
 
+pub info_field : IsField info_at text (λ info. is_info info ≡ true)
+unfolding info_at
+info_field = checked_field text_field is_info info_is_short
+
 letters_fit : (bits : ℕ) → nat_lt bits (2 ^ 52) ≡ true → bits < 2 ^ 64
 letters_fit bits passes = let lt = ltb-true bits (2 ^ 52) passes in omega arith
 
@@ -63,7 +69,7 @@ channel_and_mask_field : IsField channel_and_mask_at (λ x. text x.0 ++ text x.1
 unfolding channel_and_mask_at
 channel_and_mask_field = both_field ban_channel_field hostmask_field
 
--- whether a ban has a spelling
+-- whether the fields of a ban that is added have a spelling
 pub record BanPasses (ban : Ban) : Type 0 where
   pub channel : is_ban_channel ban.channel ≡ true
   pub mask : is_hostmask ban.mask ≡ true
@@ -71,15 +77,15 @@ pub record BanPasses (ban : Ban) : Type 0 where
   pub expires : ban.expires < 2 ^ 64
   pub comment : is_comment ban.comment ≡ true
 
-abbrev new_ban : List ℕ → List ℕ → List ℕ → ℕ → List ℕ → Ban
-new_ban channel mask creator expires comment =
-    record { channel = channel; mask = mask; creator = creator; expires = expires; comment = comment }
+-- a ban that is read isn't sticky
+abbrev pub PlainBanPasses : Ban → Type 0
+PlainBanPasses ban = BanPasses ban × (ban.sticky ≡ false)
 
-pub ban_field : IsField ban_at ban_bytes BanPasses
+pub ban_field : IsField ban_at ban_bytes PlainBanPasses
 unfolding ban_at
 ban_field = record { laws = record { part = record { takes = takes; again = again }; stays = stays }; no_tag = no_tag }
   where
-    takes : (bytes : List ℕ) (x : Ban) (rest : List ℕ) → IsBytes bytes → ban_at bytes ≡ Ok (x, rest) → Takes bytes (ban_bytes x) rest × BanPasses x
+    takes : (bytes : List ℕ) (x : Ban) (rest : List ℕ) → IsBytes bytes → ban_at bytes ≡ Ok (x, rest) → Takes bytes (ban_bytes x) rest × PlainBanPasses x
     takes bytes x rest fits e =
         let a = bind_ok (ban_channel_at bytes) (λ a. hostmask_at a.1 >>= λ b. handle_at b.1 >>= λ c. number_at w64 c.1 >>= λ d. comment_at d.1 >>=
         λ e. Ok (new_ban a.0 b.0 c.0 d.0 e.0, e.1)) (x, rest) e in
@@ -97,11 +103,11 @@ ban_field = record { laws = record { part = record { takes = takes; again = agai
         let e3 = Takes-then b.0.1 (text c.0.0) c.0.1 (number w64 d.0.0 ++ text f.0.0) f.0.1 tc.0 e4 in
         let e2 = Takes-then a.0.1 (text b.0.0) b.0.1 (text c.0.0 ++ (number w64 d.0.0 ++ text f.0.0)) f.0.1 tb.0 e3 in
         let e1 = Takes-then bytes (text a.0.0) a.0.1 (text b.0.0 ++ (text c.0.0 ++ (number w64 d.0.0 ++ text f.0.0))) f.0.1 ta.0 e2 in
-        subst (λ (p : Ban × List ℕ). Takes bytes (ban_bytes p.0) p.1 × BanPasses p.0)
+        subst (λ (p : Ban × List ℕ). Takes bytes (ban_bytes p.0) p.1 × PlainBanPasses p.0)
         (ok_is (new_ban a.0.0 b.0.0 c.0.0 d.0.0 f.0.0, f.0.1) (x, rest) f.2)
-        (e1, record { channel = ta.1; mask = tb.1; creator = tc.1; expires = td.1; comment = tf.1 })
+        (e1, (record { channel = ta.1; mask = tb.1; creator = tc.1; expires = td.1; comment = tf.1 }, refl))
 
-    again : (x : Ban) (rest : List ℕ) → BanPasses x → ban_at (ban_bytes x ++ rest) ≡ Ok (x, rest)
+    again : (x : Ban) (rest : List ℕ) → PlainBanPasses x → ban_at (ban_bytes x ++ rest) ≡ Ok (x, rest)
     again x rest good =
         let after_moment = text x.comment ++ rest in
         let after_creator = number w64 x.expires ++ after_moment in
@@ -110,12 +116,13 @@ ban_field = record { laws = record { part = record { takes = takes; again = agai
         let grouped : ban_bytes x ++ rest ≡ text x.channel ++ after_channel = simp append_assoc in
         ap ban_at grouped
         ∙ rw (
-          ban_channel_field.laws.part.again x.channel after_channel good.channel,
-          hostmask_field.laws.part.again x.mask after_mask good.mask,
-          handle_field.laws.part.again x.creator after_creator good.creator,
-          field64.laws.part.again x.expires after_moment good.expires,
-          comment_field.laws.part.again x.comment rest good.comment,
+          ban_channel_field.laws.part.again x.channel after_channel good.0.channel,
+          hostmask_field.laws.part.again x.mask after_mask good.0.mask,
+          handle_field.laws.part.again x.creator after_creator good.0.creator,
+          field64.laws.part.again x.expires after_moment good.0.expires,
+          comment_field.laws.part.again x.comment rest good.0.comment,
         ) refl
+        ∙ ap (λ on. Ok (record x { sticky = on }, rest)) (sym good.1)
 
     stays : (bytes more : List ℕ) → Stays (ban_at bytes) (ban_at (bytes ++ more)) more
     stays bytes more =
@@ -203,18 +210,33 @@ set_bot = record {
 abbrev pub ban_change : Ban → Change
 ban_change ban = AddBan ban.channel ban.mask ban.creator ban.expires ban.comment
 
-pub add_ban : IsTagged ban_at ban_bytes BanPasses 8 ban_change
+pub add_ban : IsTagged ban_at ban_bytes PlainBanPasses 8 ban_change
 add_ban = record {
   field = ban_field;
   spelled = λ x. refl;
-  good = λ x p. record { shape = shape_passes (ban_change x) (p.channel, p.mask, p.creator, p.comment); room = p.expires };
+  good = λ x p. record { shape = shape_passes (ban_change x) (p.0.channel, p.0.mask, p.0.creator, p.0.comment); room = p.0.expires };
 }
 
 pub del_ban : IsTagged channel_and_mask_at (λ x. text x.0 ++ text x.1) (λ x. (is_ban_channel x.0 ≡ true) × (is_hostmask x.1 ≡ true)) 9 (λ x. DelBan x.0 x.1)
 del_ban = record { field = channel_and_mask_field; spelled = λ x. refl; good = λ x p. record { shape = shape_passes (DelBan x.0 x.1) p; room = tt } }
 
+pub set_info : IsTagged (both handle_at info_at) (λ x. text x.0 ++ text x.1) (λ x. (is_handle x.0 ≡ true) × (is_info x.1 ≡ true)) 10 (λ x. SetInfo x.0 x.1)
+set_info = record {
+  field = both_field handle_field info_field;
+  spelled = λ x. refl;
+  good = λ x p. record { shape = shape_passes (SetInfo x.0 x.1) p; room = tt };
+}
+
+pub set_sticky : IsTagged (both ban_channel_at (both hostmask_at mark_at)) (λ x. text x.0 ++ (text x.1.0 ++ mark x.1.1))
+    (λ x. (is_ban_channel x.0 ≡ true) × ((is_hostmask x.1.0 ≡ true) × Unit {0})) 11 (λ x. SetSticky x.0 x.1.0 x.1.1)
+set_sticky = record {
+  field = both_field ban_channel_field (both_field hostmask_field mark_field);
+  spelled = λ x. refl;
+  good = λ x p. record { shape = shape_passes (SetSticky x.0 x.1.0 x.1.1) (p.0, p.1.0); room = tt };
+}
+
 fields_take : (tag : ℕ) (bytes : List ℕ) (x : Change) (rest : List ℕ) → IsBytes bytes → fields_at tag bytes ≡ Ok (x, rest) → Taken tag bytes x rest
-unfolding fields_at set_chan_at add_ban_at
+unfolding fields_at set_chan_at add_ban_at set_info_at set_sticky_at
 fields_take tag bytes x rest fits e =
     elim (chosen (eqb tag 1) _ _ _ e) [
       | inl p ↦ tagged_takes 1 tag _ add_user bytes x rest fits p.0 p.1
@@ -243,7 +265,15 @@ fields_take tag bytes x rest fits e =
                                                     elim (chosen (eqb tag 9) _ _ _ p.1) [
                                                       | inl p ↦ tagged_takes 9 tag _ del_ban bytes x rest fits p.0 p.1
                                                       | inr p ↦
-                                                          absurd (no_value x rest p.1)
+                                                          elim (chosen (eqb tag 10) _ _ _ p.1) [
+                                                            | inl p ↦ tagged_takes 10 tag _ set_info bytes x rest fits p.0 p.1
+                                                            | inr p ↦
+                                                                elim (chosen (eqb tag 11) _ _ _ p.1) [
+                                                                  | inl p ↦ tagged_takes 11 tag _ set_sticky bytes x rest fits p.0 p.1
+                                                                  | inr p ↦
+                                                                      absurd (no_value x rest p.1)
+                                                                ]
+                                                          ]
                                                     ]
                                               ]
                                         ]
@@ -257,8 +287,8 @@ fields_take tag bytes x rest fits e =
     no_value : (x : Change) (rest : List ℕ) → (let r : Reading Change = Err BadTag in r) ≡ Ok (x, rest) → ⊥
     no_value x rest e = cc
 
-fields_stay : (tag : ℕ) (bytes more : List ℕ) → Stays (fields_at tag bytes) (fields_at tag (bytes ++ more)) more
-unfolding fields_at set_chan_at add_ban_at
+pub fields_stay : (tag : ℕ) (bytes more : List ℕ) → Stays (fields_at tag bytes) (fields_at tag (bytes ++ more)) more
+unfolding fields_at set_chan_at add_ban_at set_info_at set_sticky_at
 fields_stay tag bytes more =
     stays_if (eqb tag 1) _ _ _ _ more (made_stays AddUser add_user.field bytes more)
     (stays_if (eqb tag 2) _ _ _ _ more (made_stays DelUser del_user.field bytes more)
@@ -268,12 +298,14 @@ fields_stay tag bytes more =
     (stays_if (eqb tag 6) _ _ _ _ more (made_stays (λ x. SetChan x.0 x.1.0 x.1.1) set_chan.field bytes more)
     (stays_if (eqb tag 7) _ _ _ _ more (made_stays (λ x. SetBot x.0 x.1) set_bot.field bytes more)
     (stays_if (eqb tag 8) _ _ _ _ more (made_stays ban_change add_ban.field bytes more)
-    (stays_if (eqb tag 9) _ _ _ _ more (made_stays (λ x. DelBan x.0 x.1) del_ban.field bytes more) refl))))))))
+    (stays_if (eqb tag 9) _ _ _ _ more (made_stays (λ x. DelBan x.0 x.1) del_ban.field bytes more)
+    (stays_if (eqb tag 10) _ _ _ _ more (made_stays (λ x. SetInfo x.0 x.1) set_info.field bytes more)
+    (stays_if (eqb tag 11) _ _ _ _ more (made_stays (λ x. SetSticky x.0 x.1.0 x.1.1) set_sticky.field bytes more) refl))))))))))
 
 -- ---- changes
 
 pub change_sort : IsSort change_at change_bytes IsGoodChange
-unfolding change_at fields_at set_chan_at add_ban_at byte_at
+unfolding change_at fields_at set_chan_at add_ban_at set_info_at set_sticky_at byte_at
 change_sort = record { part = record { takes = takes; again = again }; stays = stays }
   where
     takes : (bytes : List ℕ) (x : Change) (rest : List ℕ) → IsBytes bytes → change_at bytes ≡ Ok (x, rest)
@@ -303,9 +335,13 @@ change_sort = record { part = record { takes = takes; again = again }; stays = s
     again (AddBan channel mask creator expires comment) rest good =
         let p = fields_pass (AddBan channel mask creator expires comment) good.shape in
         of ban_change ban_field (new_ban channel mask creator expires comment) rest
-        (record { channel = p.0; mask = p.1; creator = p.2; expires = good.room; comment = p.3 })
+        (record { channel = p.0; mask = p.1; creator = p.2; expires = good.room; comment = p.3 }, refl)
     again (DelBan channel mask) rest good = of (λ x. DelBan x.0 x.1) channel_and_mask_field (channel, mask) rest
         (fields_pass (DelBan channel mask) good.shape)
+    again (SetInfo handle info) rest good = of (λ x. SetInfo x.0 x.1) set_info.field (handle, info) rest (fields_pass (SetInfo handle info) good.shape)
+    again (SetSticky channel mask on) rest good =
+        let p = fields_pass (SetSticky channel mask on) good.shape in
+        of (λ x. SetSticky x.0 x.1.0 x.1.1) set_sticky.field (channel, (mask, on)) rest (p.0, (p.1, tt))
 
     stays : (bytes more : List ℕ) → Stays (change_at bytes) (change_at (bytes ++ more)) more
     stays bytes more = stays_bind (byte_at bytes) _ _ more (byte_field.laws.stays bytes more) (λ tag. fields_stay tag.0 tag.1 more)

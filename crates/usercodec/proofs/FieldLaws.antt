@@ -1,14 +1,15 @@
 -- Each field: what is read is spelled so, what is spelled so is read, and what was told stays.
-use Rattle.std.proofs.Common.{◌≡◌, ℕ, suc, ◌^◌, ◌<◌, ◌≤◌, Bool, true, false, cond, ltb, List, [], ◌∷◌, ◌++◌, length, take, drop, Ok, Err, refl, sym}
+use Rattle.std.proofs.Common.{◌≡◌, ℕ, zero, suc, ◌^◌, ◌<◌, ◌≤◌, nat_le, Bool, true, false, cond, eqb, ltb, List, [], ◌∷◌, ◌++◌, length, take, drop, Ok, Err, refl, sym}
 use Rattle.std.proofs.Common.{ap, subst, ◌∙◌, arith}
 use Rattle.std.specs.Int.{Width, w16, w32, w64, byte_len, from_be_bytes, to_be_bytes}
 use Rattle.std.proofs.lemmas.Bool.{ltb-false, le-ltb}
+use Rattle.std.proofs.lemmas.Bool.Decides.{nat_tests}
 use Rattle.std.proofs.lemmas.List.{take_at, drop_at, take-append-drop, length-append, length-take, take-append-le, drop-append-le}
 use Rattle.std.proofs.lemmas.Nat.{be_bytes_2, be_bytes_4, be_bytes_8}
 use Rattle.std.proofs.lemmas.Nat.{from_be_bytes-to_be_bytes_2, from_be_bytes-to_be_bytes_4, from_be_bytes-to_be_bytes_8}
 use Rattle.usercodec.specs.declared.fault.CodecFault.TheVariants.{Short, NotCanonical}
-use Rattle.usercodec.specs.Fields.{number, text, Reading, checked, bytes_at, byte_at, number_at, text_at}
-use Rattle.usercodec.specs.Changes.{both}
+use Rattle.usercodec.specs.Fields.{number, text, mark, Reading, checked, bytes_at, byte_at, number_at, text_at, mark_at}
+use Rattle.usercodec.specs.Changes.{both, made}
 use Rattle.usercodec.specs.Laws.{Stays}
 use Rattle.usercodec.proofs.Steps.{IsBytes, IsBytes-drop, IsBytes-take, bind_ok, kept_ok, ok_is, Takes, Takes-then, stays_bind}
 use Rattle.usercodec.proofs.Steps.{stays_checked, NoTag, no_tag_bind, no_tag_if}
@@ -222,3 +223,55 @@ both_field {first = first} {second = second} field_a field_b =
 
     no_tag : (bytes : List ℕ) → NoTag (both first second bytes)
     no_tag bytes = no_tag_bind (first bytes) _ (field_a.no_tag bytes) (λ y. no_tag_bind (second y.1) _ (field_b.no_tag y.1) (λ z. tt))
+
+-- ---- what is made of a field, which tells the field
+
+pub made_field : {A B : Type 0} {read : List ℕ → Reading A} {spelling : A → List ℕ} {IsGood : A → Type 0} → IsField read spelling IsGood
+    → (to : A → B) (from : B → A) → ((y : B) → to (from y) ≡ y) → (spelled : B → List ℕ) → ((x : A) → IsGood x → spelled (to x) ≡ spelling x)
+    → ((y : B) → spelled y ≡ spelling (from y)) → (Fits : B → Type 0) → ((x : A) → IsGood x → Fits (to x)) → ((y : B) → Fits y → IsGood (from y))
+    → IsField (λ bytes. made to (read bytes)) spelled Fits
+made_field {A = A} {B = B} {read = read} {spelling = spelling} {IsGood = IsGood} field to from back spelled there here Fits fit good =
+    record { laws = record { part = record { takes = takes; again = again }; stays = stays }; no_tag = no_tag }
+  where
+    takes : (bytes : List ℕ) (y : B) (rest : List ℕ) → IsBytes bytes → made to (read bytes) ≡ Ok (y, rest) → Takes bytes (spelled y) rest × Fits y
+    takes bytes y rest fits e =
+        let a = bind_ok (read bytes) (λ x. Ok (to x.0, x.1)) (y, rest) e in
+        let t = field.laws.part.takes bytes a.0.0 a.0.1 fits a.1 in
+        let took : Takes bytes (spelled (to a.0.0)) a.0.1 = subst (λ (b : List ℕ). Takes bytes b a.0.1) (sym (there a.0.0 t.1)) t.0 in
+        subst (λ (p : B × List ℕ). Takes bytes (spelled p.0) p.1 × Fits p.0) (ok_is (to a.0.0, a.0.1) (y, rest) a.2) (took, fit a.0.0 t.1)
+
+    again : (y : B) (rest : List ℕ) → Fits y → made to (read (spelled y ++ rest)) ≡ Ok (y, rest)
+    again y rest fits =
+        ap (λ b. made to (read (b ++ rest))) (here y) ∙ ap (made to) (field.laws.part.again (from y) rest (good y fits)) ∙ ap (λ z. Ok (z, rest)) (back y)
+
+    stays : (bytes more : List ℕ) → Stays (made to (read bytes)) (made to (read (bytes ++ more))) more
+    stays bytes more = stays_bind (read bytes) _ _ more (field.laws.stays bytes more) (λ x. refl)
+
+    no_tag : (bytes : List ℕ) → NoTag (made to (read bytes))
+    no_tag bytes = no_tag_bind (read bytes) _ (field.no_tag bytes) (λ x. tt)
+
+-- ---- marks
+
+at_most : (byte : ℕ) → nat_le byte 1 ≡ true → byte ≤ 1
+at_most byte small = grind (arith, nat_tests)
+
+digit : Bool → ℕ
+digit on = cond on 1 0
+
+pub mark_field : IsField mark_at mark (λ on. Unit {0})
+unfolding mark_at digit
+mark_field =
+    made_field (also_field byte_field (λ byte. nat_le byte 1)) (λ byte. eqb byte 1) digit back mark there (λ on. refl) (λ on. Unit {0}) (λ byte good. tt) small
+  where
+    back : (on : Bool) → eqb (digit on) 1 ≡ on
+    back true = refl
+    back false = refl
+
+    there : (byte : ℕ) → (byte < 256) × (nat_le byte 1 ≡ true) → mark (eqb byte 1) ≡ byte ∷ []
+    there zero good = refl
+    there (suc zero) good = refl
+    there (suc (suc n)) good = absurd (let few : suc (suc n) ≤ 1 = at_most (suc (suc n)) good.1 in omega arith)
+
+    small : (on : Bool) → Unit {0} → (digit on < 256) × (nat_le (digit on) 1 ≡ true)
+    small true fits = (omega arith, refl)
+    small false fits = (omega arith, refl)

@@ -9,6 +9,7 @@ pub mod HeldLaws
 pub mod ItemLaws
 pub mod NewLaws
 pub mod RecordLaws
+pub mod OldLaws
 pub mod TagLaws
 pub mod ReaderLaws
 pub mod RecordLengths

@@ -9,11 +9,13 @@ use Rattle.usercodec.specs.Fields.{number, byte_at, number_at}
 use Rattle.usercodec.specs.Changes.{change_at, change_bytes, IsGoodChange}
 use Rattle.usercodec.specs.FaultBytes.{fault_byte, fault_from, known, fault_at}
 use Rattle.usercodec.specs.Records.{record_at, record_bytes, IsGoodRecord}
+use Rattle.usercodec.specs.Old.{change_at_old, change_bytes_old, IsGoodChangeOld, record_at_old, record_bytes_old, IsGoodRecordOld}
 use Rattle.usercodec.proofs.Steps.{IsBytes, bind_ok, chosen, ok_is, Takes}
 use Rattle.usercodec.proofs.PartLaws.{IsPart}
 use Rattle.usercodec.proofs.FieldLaws.{byte_field, field16, field32}
 use Rattle.usercodec.proofs.ChangeLaws.{change_sort}
 use Rattle.usercodec.proofs.RecordLaws.{record_sort}
+use Rattle.usercodec.proofs.OldLaws.{change_sort_old, record_sort_old}
 
 pub byte_part : IsPart byte_at (λ byte. byte ∷ []) (λ byte. byte < 256)
 byte_part = byte_field.laws.part
@@ -29,6 +31,12 @@ change_part = change_sort.part
 
 pub record_part : IsPart record_at record_bytes IsGoodRecord
 record_part = record_sort.part
+
+pub change_part_old : IsPart change_at_old change_bytes_old IsGoodChangeOld
+change_part_old = change_sort_old.part
+
+pub record_part_old : IsPart record_at_old record_bytes_old IsGoodRecordOld
+record_part_old = record_sort_old.part
 
 -- ---- why a change was refused
 

@@ -9,7 +9,8 @@ use Rattle.rfccase.specs.Channels.{is_channel_name}
 use Rattle.rfccase.proofs.SameLemmas.{is_same-sym}
 use Rattle.userfile.proofs.RepeatLemmas.{or_false, or_both, and_true, and_both}
 use Rattle.userfile.specs.Held.{has_mask}
-use Rattle.userfile.specs.Shapes.{is_handle, is_hostmask}
+use Rattle.userfile.specs.Apply.{with_info}
+use Rattle.userfile.specs.Shapes.{is_handle, is_hostmask, is_info}
 use Rattle.userfile.specs.Together.{is_entry, is_user, is_good_ban, repeats_channel}
 use Rattle.userfile.specs.declared.ban.Ban.{Ban}
 use Rattle.userfile.specs.declared.channel_flags.ChannelFlags.{ChannelFlags}
@@ -17,14 +18,14 @@ use Rattle.userfile.specs.declared.user.User.{User}
 use Rattle.usercodec.specs.declared.fault.CodecFault.TheVariants.{BadTag}
 use Rattle.usercodec.specs.declared.records.Record.{Record}
 use Rattle.usercodec.specs.declared.records.Record.TheVariants as records
-use Rattle.usercodec.specs.Changes.{ban_at, made}
+use Rattle.usercodec.specs.Changes.{made}
 use Rattle.usercodec.specs.Fields.{text, flags, counted, Reading, ◌>>=◌, checked, byte_at, flags_at, handle_at, channel_at}
 use Rattle.usercodec.specs.Laws.{Stays}
-use Rattle.usercodec.specs.Records.{entry_bytes, user_bytes, record_bytes, IsGoodRecord, mask_at, masks_at, has_channel, entry_at, entries_at}
-use Rattle.usercodec.specs.Records.{user_at, record_fields_at, record_at}
+use Rattle.usercodec.specs.Records.{entry_bytes, plain_user_bytes, user_bytes, held_ban_bytes, record_bytes, IsGoodRecord, mask_at, masks_at}
+use Rattle.usercodec.specs.Records.{has_channel, entry_at, entries_at, plain_user, plain_user_at, user_at, held_ban_at, record_fields_at, record_at}
 use Rattle.usercodec.proofs.Steps.{IsBytes, chosen, bind_ok, ok_is, Takes, Takes-then, stays_bind, stays_if, NoTag, no_tag_bind}
-use Rattle.usercodec.proofs.FieldLaws.{IsSort, IsField, byte_field, also_field}
-use Rattle.usercodec.proofs.ChangeLaws.{handle_field, hostmask_field, channel_field, flags_field, BanPasses, ban_field}
+use Rattle.usercodec.proofs.FieldLaws.{IsSort, IsField, byte_field, also_field, both_field, made_field, mark_field}
+use Rattle.usercodec.proofs.ChangeLaws.{handle_field, hostmask_field, channel_field, flags_field, info_field, BanPasses, ban_field}
 use Rattle.usercodec.proofs.ItemLaws.{AreCounted, counted_field}
 use Rattle.usercodec.proofs.NewLaws.{IsNew, not_true, not_false, all_new, were_new, both_all, all_both}
 
@@ -104,7 +105,7 @@ entries_field = counted_field entry_at entry_bytes (IsNew passes same_channel) e
 
 -- ---- users
 
--- whether a user has a spelling
+-- whether a user's fields before the info text have a spelling
 pub record UserPasses (user : User) : Type 0 where
   pub handle : is_handle user.handle ≡ true
   pub masks : AreCounted (IsNew is_hostmask is_same) 16 user.masks
@@ -112,22 +113,24 @@ pub record UserPasses (user : User) : Type 0 where
   pub channels : AreCounted (IsNew passes same_channel) 16 user.channels
   pub bot : nat_lt user.bot (2 ^ 52) ≡ true
 
-abbrev new_user : List ℕ → List (List ℕ) → ℕ → List ChannelFlags → ℕ → User
-new_user handle masks global channels bot = record { handle = handle; masks = masks; global = global; channels = channels; bot = bot }
+-- a user that is read of these alone has no info text
+abbrev pub PlainUserPasses : User → Type 0
+PlainUserPasses user = UserPasses user × (user.info ≡ [])
 
-pub user_field : IsField user_at user_bytes UserPasses
-unfolding user_at
-user_field = record { laws = record { part = record { takes = takes; again = again }; stays = stays }; no_tag = no_tag }
+pub plain_user_field : IsField plain_user_at plain_user_bytes PlainUserPasses
+unfolding plain_user_at
+plain_user_field = record { laws = record { part = record { takes = takes; again = again }; stays = stays }; no_tag = no_tag }
   where
-    takes : (bytes : List ℕ) (x : User) (rest : List ℕ) → IsBytes bytes → user_at bytes ≡ Ok (x, rest) → Takes bytes (user_bytes x) rest × UserPasses x
+    takes : (bytes : List ℕ) (x : User) (rest : List ℕ) → IsBytes bytes → plain_user_at bytes ≡ Ok (x, rest)
+        → Takes bytes (plain_user_bytes x) rest × PlainUserPasses x
     takes bytes x rest fits e =
         let a = bind_ok (handle_at bytes) (λ a. masks_at a.1 >>= λ b. flags_at b.1 >>= λ c. entries_at c.1 >>= λ d. flags_at d.1 >>= λ e. Ok
-        (new_user a.0 b.0 c.0 d.0 e.0, e.1)) (x, rest) e in
+        (plain_user a.0 b.0 c.0 d.0 e.0, e.1)) (x, rest) e in
         let b = bind_ok (masks_at a.0.1) (λ b. flags_at b.1 >>= λ c. entries_at c.1 >>= λ d. flags_at d.1 >>= λ e. Ok
-        (new_user a.0.0 b.0 c.0 d.0 e.0, e.1)) (x, rest) a.2 in
-        let c = bind_ok (flags_at b.0.1) (λ c. entries_at c.1 >>= λ d. flags_at d.1 >>= λ e. Ok (new_user a.0.0 b.0.0 c.0 d.0 e.0, e.1)) (x, rest) b.2 in
-        let d = bind_ok (entries_at c.0.1) (λ d. flags_at d.1 >>= λ e. Ok (new_user a.0.0 b.0.0 c.0.0 d.0 e.0, e.1)) (x, rest) c.2 in
-        let f = bind_ok (flags_at d.0.1) (λ e. Ok (new_user a.0.0 b.0.0 c.0.0 d.0.0 e.0, e.1)) (x, rest) d.2 in
+        (plain_user a.0.0 b.0 c.0 d.0 e.0, e.1)) (x, rest) a.2 in
+        let c = bind_ok (flags_at b.0.1) (λ c. entries_at c.1 >>= λ d. flags_at d.1 >>= λ e. Ok (plain_user a.0.0 b.0.0 c.0 d.0 e.0, e.1)) (x, rest) b.2 in
+        let d = bind_ok (entries_at c.0.1) (λ d. flags_at d.1 >>= λ e. Ok (plain_user a.0.0 b.0.0 c.0.0 d.0 e.0, e.1)) (x, rest) c.2 in
+        let f = bind_ok (flags_at d.0.1) (λ e. Ok (plain_user a.0.0 b.0.0 c.0.0 d.0.0 e.0, e.1)) (x, rest) d.2 in
         let ta = handle_field.laws.part.takes bytes a.0.0 a.0.1 fits a.1 in
         let tb = masks_field.laws.part.takes a.0.1 b.0.0 b.0.1 ta.0.rest_fits b.1 in
         let tc = flags_field.laws.part.takes b.0.1 c.0.0 c.0.1 tb.0.rest_fits c.1 in
@@ -137,27 +140,28 @@ user_field = record { laws = record { part = record { takes = takes; again = aga
         let e3 = Takes-then b.0.1 (flags c.0.0) c.0.1 (counted entry_bytes d.0.0 ++ flags f.0.0) f.0.1 tc.0 e4 in
         let e2 = Takes-then a.0.1 (counted text b.0.0) b.0.1 (flags c.0.0 ++ (counted entry_bytes d.0.0 ++ flags f.0.0)) f.0.1 tb.0 e3 in
         let e1 = Takes-then bytes (text a.0.0) a.0.1 (counted text b.0.0 ++ (flags c.0.0 ++ (counted entry_bytes d.0.0 ++ flags f.0.0))) f.0.1 ta.0 e2 in
-        subst (λ (p : User × List ℕ). Takes bytes (user_bytes p.0) p.1 × UserPasses p.0)
-        (ok_is (new_user a.0.0 b.0.0 c.0.0 d.0.0 f.0.0, f.0.1) (x, rest) f.2)
-        (e1, record { handle = ta.1; masks = tb.1; global = tc.1; channels = td.1; bot = tf.1 })
+        subst (λ (p : User × List ℕ). Takes bytes (plain_user_bytes p.0) p.1 × PlainUserPasses p.0)
+        (ok_is (plain_user a.0.0 b.0.0 c.0.0 d.0.0 f.0.0, f.0.1) (x, rest) f.2)
+        (e1, (record { handle = ta.1; masks = tb.1; global = tc.1; channels = td.1; bot = tf.1 }, refl))
 
-    again : (x : User) (rest : List ℕ) → UserPasses x → user_at (user_bytes x ++ rest) ≡ Ok (x, rest)
+    again : (x : User) (rest : List ℕ) → PlainUserPasses x → plain_user_at (plain_user_bytes x ++ rest) ≡ Ok (x, rest)
     again x rest good =
         let after_channels = flags x.bot ++ rest in
         let after_global = counted entry_bytes x.channels ++ after_channels in
         let after_masks = flags x.global ++ after_global in
         let after_handle = counted text x.masks ++ after_masks in
-        let grouped : user_bytes x ++ rest ≡ text x.handle ++ after_handle = simp append_assoc in
-        ap user_at grouped
+        let grouped : plain_user_bytes x ++ rest ≡ text x.handle ++ after_handle = simp append_assoc in
+        ap plain_user_at grouped
         ∙ rw (
-          handle_field.laws.part.again x.handle after_handle good.handle,
-          masks_field.laws.part.again x.masks after_masks good.masks,
-          flags_field.laws.part.again x.global after_global good.global,
-          entries_field.laws.part.again x.channels after_channels good.channels,
-          flags_field.laws.part.again x.bot rest good.bot,
+          handle_field.laws.part.again x.handle after_handle good.0.handle,
+          masks_field.laws.part.again x.masks after_masks good.0.masks,
+          flags_field.laws.part.again x.global after_global good.0.global,
+          entries_field.laws.part.again x.channels after_channels good.0.channels,
+          flags_field.laws.part.again x.bot rest good.0.bot,
         ) refl
+        ∙ ap (λ info. Ok (with_info info x, rest)) (sym good.1)
 
-    stays : (bytes more : List ℕ) → Stays (user_at bytes) (user_at (bytes ++ more)) more
+    stays : (bytes more : List ℕ) → Stays (plain_user_at bytes) (plain_user_at (bytes ++ more)) more
     stays bytes more =
         stays_bind (handle_at bytes) _ _ more (handle_field.laws.stays bytes more) (λ a.
         stays_bind (masks_at a.1) _ _ more (masks_field.laws.stays a.1 more) (λ b.
@@ -165,13 +169,38 @@ user_field = record { laws = record { part = record { takes = takes; again = aga
         stays_bind (entries_at c.1) _ _ more (entries_field.laws.stays c.1 more) (λ d.
         stays_bind (flags_at d.1) _ _ more (flags_field.laws.stays d.1 more) (λ e. refl)))))
 
-    no_tag : (bytes : List ℕ) → NoTag (user_at bytes)
+    no_tag : (bytes : List ℕ) → NoTag (plain_user_at bytes)
     no_tag bytes =
         no_tag_bind (handle_at bytes) _ (handle_field.no_tag bytes) (λ a.
         no_tag_bind (masks_at a.1) _ (masks_field.no_tag a.1) (λ b.
         no_tag_bind (flags_at b.1) _ (flags_field.no_tag b.1) (λ c.
         no_tag_bind (entries_at c.1) _ (entries_field.no_tag c.1) (λ d.
         no_tag_bind (flags_at d.1) _ (flags_field.no_tag d.1) (λ e. tt)))))
+
+other_info : (info : List ℕ) (user : User) → UserPasses user → UserPasses (with_info info user)
+other_info info user p = record { handle = p.handle; masks = p.masks; global = p.global; channels = p.channels; bot = p.bot }
+
+-- whether a user has a spelling
+abbrev pub HeldUserPasses : User → Type 0
+HeldUserPasses user = UserPasses user × (is_info user.info ≡ true)
+
+pub user_field : IsField user_at user_bytes HeldUserPasses
+unfolding user_at
+user_field =
+    made_field (both_field plain_user_field info_field) (λ x. with_info x.1 x.0) (λ user. (with_info [] user, user.info)) (λ user. refl) user_bytes
+    (λ x good. refl) (λ user. refl) HeldUserPasses (λ x good. (other_info x.1 x.0 good.0.0, good.1))
+    (λ user good. ((other_info [] user good.0, refl), good.1))
+
+-- ---- bans
+
+other_mark : (on : Bool) (ban : Ban) → BanPasses ban → BanPasses (record ban { sticky = on })
+other_mark on ban p = record { channel = p.channel; mask = p.mask; creator = p.creator; expires = p.expires; comment = p.comment }
+
+pub held_ban_field : IsField held_ban_at held_ban_bytes BanPasses
+unfolding held_ban_at
+held_ban_field =
+    made_field (both_field ban_field mark_field) (λ x. record x.0 { sticky = x.1 }) (λ ban. (record ban { sticky = false }, ban.sticky)) (λ ban. refl)
+    held_ban_bytes (λ x good. refl) (λ ban. refl) BanPasses (λ x good. other_mark x.1 x.0 good.0.0) (λ ban good. ((other_mark false ban good, refl), tt))
 
 -- ---- shapes
 
@@ -190,25 +219,25 @@ has_letters entry = nat_lt entry.flags (2 ^ 52)
 channel_sym : (a b : ChannelFlags) → same_channel a b ≡ same_channel b a
 channel_sym a b = is_same-sym a.channel b.channel
 
-user_is_good : (user : User) → UserPasses user → IsGoodRecord (records.User user)
+pub user_is_good : (user : User) → HeldUserPasses user → IsGoodRecord (records.User user)
 unfolding is_user
-user_is_good user p =
+user_is_good user (p, info) =
     let masks = all_new is_hostmask is_same is_same-sym [] user.masks p.masks.good refl in
     let channels = all_new passes same_channel channel_sym [] user.channels p.channels.good refl in
     let entries = both_all is_entry has_letters user.channels channels.0 in
     record {
       shape = (
-        and_both (and_both p.handle entries.0) (not_false (repeats_channel user.channels) channels.1),
+        and_both (and_both (and_both p.handle entries.0) (not_false (repeats_channel user.channels) channels.1)) info,
         masks.1,
         or_both (not_over (length user.masks) p.masks.few) (not_over (length user.channels) p.channels.few),
       );
       fields = (masks.0, ltb-true user.global (2 ^ 52) p.global, entries.1, ltb-true user.bot (2 ^ 52) p.bot);
     }
 
-user_passes : (user : User) → IsGoodRecord (records.User user) → UserPasses user
+own_passes : (user : User) → IsGoodRecord (records.User user) → UserPasses user
 unfolding is_user
-user_passes user good =
-    let own = and_true good.shape.0 in
+own_passes user good =
+    let own = and_true (and_true good.shape.0).0 in
     let handle_and_entries = and_true own.0 in
     let few : (nat_lt 16 (length user.masks) ≡ false) × (nat_lt 16 (length user.channels) ≡ false) = or_false good.shape.2 in
     record {
@@ -226,11 +255,15 @@ user_passes user good =
       bot = bits_pass user.bot good.fields.3;
     }
 
-ban_is_good : (ban : Ban) → BanPasses ban → IsGoodRecord (records.Ban ban)
+pub user_passes : (user : User) → IsGoodRecord (records.User user) → HeldUserPasses user
+unfolding is_user
+user_passes user good = (own_passes user good, (and_true good.shape.0).1)
+
+pub ban_is_good : (ban : Ban) → BanPasses ban → IsGoodRecord (records.Ban ban)
 unfolding is_good_ban
 ban_is_good ban p = record { shape = and_both (and_both p.creator p.channel) p.comment; fields = (p.mask, p.expires) }
 
-ban_passes : (ban : Ban) → IsGoodRecord (records.Ban ban) → BanPasses ban
+pub ban_passes : (ban : Ban) → IsGoodRecord (records.Ban ban) → BanPasses ban
 unfolding is_good_ban
 ban_passes ban good =
     let texts = and_true good.shape in
@@ -264,11 +297,11 @@ record_sort = record { part = record { takes = takes; again = again }; stays = s
   where
     fields_take : (tag : ℕ) (bytes : List ℕ) (x : Record) (rest : List ℕ) → IsBytes bytes → record_fields_at tag bytes ≡ Ok (x, rest) → Taken tag bytes x rest
     fields_take tag bytes x rest fits e =
-        elim (chosen (eqb tag 1) _ _ _ e) [
-          | inl p ↦ tagged_takes 1 tag records.User user_field (λ y. refl) user_is_good bytes x rest fits p.0 p.1
+        elim (chosen (eqb tag 3) _ _ _ e) [
+          | inl p ↦ tagged_takes 3 tag records.User user_field (λ y. refl) user_is_good bytes x rest fits p.0 p.1
           | inr p ↦
-              elim (chosen (eqb tag 2) _ _ _ p.1) [
-                | inl p ↦ tagged_takes 2 tag records.Ban ban_field (λ y. refl) ban_is_good bytes x rest fits p.0 p.1
+              elim (chosen (eqb tag 4) _ _ _ p.1) [
+                | inl p ↦ tagged_takes 4 tag records.Ban held_ban_field (λ y. refl) ban_is_good bytes x rest fits p.0 p.1
                 | inr p ↦
                     absurd (no_value x rest p.1)
               ]
@@ -281,9 +314,9 @@ record_sort = record { part = record { takes = takes; again = again }; stays = s
 
     again : (x : Record) (rest : List ℕ) → IsGoodRecord x → record_at (record_bytes x ++ rest) ≡ Ok (x, rest)
     again (records.User user) rest good = ap (made records.User) (user_field.laws.part.again user rest (user_passes user good))
-    again (records.Ban ban) rest good = ap (made records.Ban) (ban_field.laws.part.again ban rest (ban_passes ban good))
+    again (records.Ban ban) rest good = ap (made records.Ban) (held_ban_field.laws.part.again ban rest (ban_passes ban good))
 
     stays : (bytes more : List ℕ) → Stays (record_at bytes) (record_at (bytes ++ more)) more
     stays bytes more = stays_bind (byte_at bytes) _ _ more (byte_field.laws.stays bytes more) (λ tag.
-        stays_if (eqb tag.0 1) _ _ _ _ more (stays_bind (user_at tag.1) _ _ more (user_field.laws.stays tag.1 more) (λ x. refl))
-        (stays_if (eqb tag.0 2) _ _ _ _ more (stays_bind (ban_at tag.1) _ _ more (ban_field.laws.stays tag.1 more) (λ x. refl)) refl))
+        stays_if (eqb tag.0 3) _ _ _ _ more (stays_bind (user_at tag.1) _ _ more (user_field.laws.stays tag.1 more) (λ x. refl))
+        (stays_if (eqb tag.0 4) _ _ _ _ more (stays_bind (held_ban_at tag.1) _ _ more (held_ban_field.laws.stays tag.1 more) (λ x. refl)) refl))

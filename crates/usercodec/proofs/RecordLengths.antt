@@ -5,7 +5,7 @@ use Rattle.std.proofs.lemmas.Bool.Decides.{nat_tests}
 use Rattle.std.proofs.lemmas.List.{length-append}
 use Rattle.std.proofs.lemmas.List.Concat.{flat_map-cons}
 use Rattle.rfccase.specs.Channels.{is_channel_name}
-use Rattle.userfile.specs.Shapes.{is_handle, is_hostmask, is_ban_channel, is_comment}
+use Rattle.userfile.specs.Shapes.{is_handle, is_hostmask, is_ban_channel, is_comment, is_info}
 use Rattle.userfile.specs.Together.{is_user, is_good_ban, is_entry, is_over}
 use Rattle.userfile.specs.declared.ban.Ban.{Ban}
 use Rattle.userfile.specs.declared.channel_flags.ChannelFlags.{ChannelFlags}
@@ -50,6 +50,10 @@ comment_is_short : (comment : List ℕ) → is_comment comment ≡ true → leng
 unfolding is_comment
 comment_is_short comment good = grind (arith, nat_tests)
 
+info_is_short : (info : List ℕ) → is_info info ≡ true → length info ≤ 80
+unfolding is_info
+info_is_short info good = grind (arith, nat_tests)
+
 masks_short : (masks : List (List ℕ)) → list_all is_hostmask masks ≡ true → AllByRecursion (λ mask. length (text mask) ≤ 121) masks
 masks_short [] good = tt
 masks_short (mask ∷ masks) good =
@@ -75,9 +79,13 @@ few_channels user good = grind (arith, nat_tests)
 
 -- ---- records
 
-own_texts : (user : User) → is_user user ≡ true → (is_handle user.handle ≡ true) × (list_all is_entry user.channels ≡ true)
+own_texts : (user : User) → is_user user ≡ true
+    → (is_handle user.handle ≡ true) × (list_all is_entry user.channels ≡ true) × (is_info user.info ≡ true)
 unfolding is_user
-own_texts user good = let p = and_true (and_true good).0 in (p.0, p.1)
+own_texts user good =
+    let p = and_true good in
+    let q = and_true (and_true p.0).0 in
+    (q.0, q.1, p.1)
 
 ban_texts : (ban : Ban) → is_good_ban ban ≡ true
     → (is_handle ban.creator ≡ true) × (is_ban_channel ban.channel ≡ true) × (is_comment ban.comment ≡ true)
@@ -95,6 +103,7 @@ record_is_short (records.User user) good =
     let channels = many_short entry_bytes 109 user.channels (entries_short user.channels own.1) in
     let m = few_masks user good.shape.2 in
     let n = few_channels user good.shape.2 in
+    let info = info_is_short user.info own.2 in
     simp length-append (omega arith)
 record_is_short (records.Ban ban) good =
     let texts = ban_texts ban good.shape in

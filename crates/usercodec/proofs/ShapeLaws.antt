@@ -4,7 +4,7 @@ use Rattle.std.specs.List.{list_all}
 use Rattle.std.proofs.lemmas.Bool.Decides.{nat_tests}
 use Rattle.std.proofs.lemmas.List.{length-append}
 use Rattle.rfccase.specs.Channels.{is_channel_name}
-use Rattle.userfile.specs.Shapes.{is_handle, is_hostmask, is_ban_channel, is_comment}
+use Rattle.userfile.specs.Shapes.{is_handle, is_hostmask, is_ban_channel, is_comment, is_info}
 use Rattle.userfile.proofs.RepeatLemmas.{and_true}
 use Rattle.userfile.specs.Together.{is_user, is_entry, is_good_ban}
 use Rattle.userfile.specs.declared.ban.Ban.{Ban}
@@ -12,6 +12,7 @@ use Rattle.userfile.specs.declared.user.User.{User}
 use Rattle.userfile.specs.Apply.{bad_shape, fault_unless, first_of_two}
 use Rattle.userfile.specs.declared.change.Change.{Change}
 use Rattle.userfile.specs.declared.change.Change.TheVariants.{AddUser, DelUser, AddHost, DelHost, SetGlobal, SetChan, SetBot, AddBan, DelBan}
+use Rattle.userfile.specs.declared.change.Change.TheVariants.{SetInfo, SetSticky}
 use Rattle.userfile.specs.declared.error.ChangeFault.{ChangeFault}
 use Rattle.usercodec.specs.Lengths.{IsShort, ChangeIsShort}
 use Rattle.usercodec.specs.Changes.{change_bytes}
@@ -37,6 +38,10 @@ pub comment_is_short : (comment : List ℕ) → is_comment comment ≡ true → 
 unfolding is_comment
 comment_is_short comment good = grind (arith, nat_tests)
 
+pub info_is_short : (info : List ℕ) → is_info info ≡ true → IsShort info
+unfolding is_info
+info_is_short info good = grind (arith, nat_tests)
+
 -- ---- shapes
 
 two_pass : (first later : Option ChangeFault) → first_of_two first later ≡ None → (first ≡ None) × (later ≡ None)
@@ -59,6 +64,8 @@ FieldsPass (SetBot handle bits) = is_handle handle ≡ true
 FieldsPass (AddBan channel mask creator expires comment) =
     (is_ban_channel channel ≡ true) × (is_hostmask mask ≡ true) × (is_handle creator ≡ true) × (is_comment comment ≡ true)
 FieldsPass (DelBan channel mask) = (is_ban_channel channel ≡ true) × (is_hostmask mask ≡ true)
+FieldsPass (SetInfo handle info) = (is_handle handle ≡ true) × (is_info info ≡ true)
+FieldsPass (SetSticky channel mask on) = (is_ban_channel channel ≡ true) × (is_hostmask mask ≡ true)
 
 pub fields_pass : (change : Change) → bad_shape change ≡ None → FieldsPass change
 fields_pass (AddUser handle) e = passes _ _ e
@@ -74,6 +81,8 @@ fields_pass (AddBan channel mask creator expires comment) e =
     let r = two_pass _ _ q.1 in
     (passes _ _ r.0, passes _ _ q.0, passes _ _ p.0, passes _ _ r.1)
 fields_pass (DelBan channel mask) e = let p = two_pass _ _ e in (passes _ _ p.1, passes _ _ p.0)
+fields_pass (SetInfo handle info) e = let p = two_pass _ _ e in (passes _ _ p.0, passes _ _ p.1)
+fields_pass (SetSticky channel mask on) e = let p = two_pass _ _ e in (passes _ _ p.1, passes _ _ p.0)
 
 -- and the other way round
 pub shape_passes : (change : Change) → FieldsPass change → bad_shape change ≡ None
@@ -86,6 +95,8 @@ shape_passes (SetChan handle channel bits) p = rw (p.0, p.1) refl
 shape_passes (SetBot handle bits) p = rw p refl
 shape_passes (AddBan channel mask creator expires comment) p = rw (p.2, p.1, p.0, p.3) refl
 shape_passes (DelBan channel mask) p = rw (p.1, p.0) refl
+shape_passes (SetInfo handle info) p = rw (p.0, p.1) refl
+shape_passes (SetSticky channel mask on) p = rw (p.1, p.0) refl
 
 pub short_texts : (change : Change) → bad_shape change ≡ None → ChangeIsShort change
 short_texts (AddUser handle) e = handle_is_short handle (fields_pass (AddUser handle) e)
@@ -101,6 +112,9 @@ short_texts (AddBan channel mask creator expires comment) e =
     (ban_channel_is_short channel p.0, hostmask_is_short mask p.1, handle_is_short creator p.2, comment_is_short comment p.3)
 short_texts (DelBan channel mask) e =
     let p = fields_pass (DelBan channel mask) e in (ban_channel_is_short channel p.0, hostmask_is_short mask p.1)
+short_texts (SetInfo handle info) e = let p = fields_pass (SetInfo handle info) e in (handle_is_short handle p.0, info_is_short info p.1)
+short_texts (SetSticky channel mask on) e =
+    let p = fields_pass (SetSticky channel mask on) e in (ban_channel_is_short channel p.0, hostmask_is_short mask p.1)
 
 pub change_is_short : (change : Change) → ChangeIsShort change → length (change_bytes change) < 2000
 change_is_short (AddUser handle) short = omega arith
@@ -112,15 +126,20 @@ change_is_short (SetChan handle channel bits) short = simp length-append (omega 
 change_is_short (SetBot handle bits) short = simp length-append (omega arith)
 change_is_short (AddBan channel mask creator expires comment) short = simp length-append (omega arith)
 change_is_short (DelBan channel mask) short = simp length-append (omega arith)
+change_is_short (SetInfo handle info) short = simp length-append (omega arith)
+change_is_short (SetSticky channel mask on) short = simp length-append (omega arith)
 
 -- ---- records
 
 pub short_as : (seen text : List ℕ) → seen ≡ text → IsShort text → IsShort seen
 short_as seen text same short = subst IsShort (sym same) short
 
-pub user_texts : (user : User) → is_user user ≡ true → IsShort user.handle × (list_all is_entry user.channels ≡ true)
+pub user_texts : (user : User) → is_user user ≡ true → IsShort user.handle × (list_all is_entry user.channels ≡ true) × IsShort user.info
 unfolding is_user
-user_texts user good = let p = and_true (and_true good).0 in (handle_is_short user.handle p.0, p.1)
+user_texts user good =
+    let p = and_true good in
+    let q = and_true (and_true p.0).0 in
+    (handle_is_short user.handle q.0, q.1, info_is_short user.info p.1)
 
 pub ban_texts : (ban : Ban) → is_good_ban ban ≡ true → IsShort ban.channel × IsShort ban.creator × IsShort ban.comment
 unfolding is_good_ban

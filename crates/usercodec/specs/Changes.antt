@@ -1,17 +1,18 @@
 -- The one spelling of a change, and what reading one answers.
 use Rattle.std.specs.Prelude.{◌≡◌, ℕ, ◌<◌, ◌^◌, ◌==◌, nat_le, Bool, ◌&&◌, List, ◌∷◌, ◌++◌, None, Ok, Err, if◌then◌else◌}
 use Rattle.std.specs.Int.{w64}
-use Rattle.userfile.specs.Apply.{bad_shape}
+use Rattle.userfile.specs.Apply.{bad_shape, new_ban}
 use Rattle.userfile.specs.declared.ban.Ban.{Ban}
 use Rattle.userfile.specs.declared.change.Change.{Change}
 use Rattle.userfile.specs.declared.change.Change.TheVariants.{AddUser, DelUser, AddHost, DelHost, SetGlobal, SetChan, SetBot, AddBan, DelBan}
+use Rattle.userfile.specs.declared.change.Change.TheVariants.{SetInfo, SetSticky}
 use Rattle.usercodec.specs.declared.fault.CodecFault.TheVariants.{BadTag}
-use Rattle.usercodec.specs.Fields.{number, text, flags, Reading, ◌>>=◌, byte_at, number_at, flags_at}
-use Rattle.usercodec.specs.Fields.{handle_at, hostmask_at, channel_at, ban_channel_at, comment_at}
+use Rattle.usercodec.specs.Fields.{number, text, flags, mark, Reading, ◌>>=◌, byte_at, number_at, flags_at}
+use Rattle.usercodec.specs.Fields.{handle_at, hostmask_at, channel_at, ban_channel_at, comment_at, info_at, mark_at}
 
 -- ---- spellings
 
--- a ban's fields
+-- the fields of a ban that is added
 abbrev pub ban_bytes : Ban → List ℕ
 ban_bytes ban = text ban.channel ++ (text ban.mask ++ (text ban.creator ++ (number w64 ban.expires ++ text ban.comment)))
 
@@ -25,8 +26,10 @@ change_bytes (SetGlobal handle bits) = 5 ∷ (text handle ++ flags bits)
 change_bytes (SetChan handle channel bits) = 6 ∷ (text handle ++ (text channel ++ flags bits))
 change_bytes (SetBot handle bits) = 7 ∷ (text handle ++ flags bits)
 change_bytes (AddBan channel mask creator expires comment) =
-    8 ∷ ban_bytes (record { channel = channel; mask = mask; creator = creator; expires = expires; comment = comment })
+    8 ∷ ban_bytes (new_ban channel mask creator expires comment)
 change_bytes (DelBan channel mask) = 9 ∷ (text channel ++ text mask)
+change_bytes (SetInfo handle info) = 10 ∷ (text handle ++ text info)
+change_bytes (SetSticky channel mask on) = 11 ∷ (text channel ++ (text mask ++ mark on))
 
 -- flags are of letters, and a moment has eight bytes
 abbrev pub HasRoom : Change → Type 0
@@ -39,6 +42,8 @@ HasRoom (SetChan handle channel bits) = bits < 2 ^ 52
 HasRoom (SetBot handle bits) = bits < 2 ^ 52
 HasRoom (AddBan channel mask creator expires comment) = expires < 2 ^ 64
 HasRoom (DelBan channel mask) = Unit {0}
+HasRoom (SetInfo handle info) = Unit {0}
+HasRoom (SetSticky channel mask on) = Unit {0}
 
 -- a change that has a spelling: its shape is good, as the userfile says
 pub record IsGoodChange (change : Change) : Type 0 where
@@ -76,7 +81,7 @@ ban_at bytes = do
   creator ← handle_at mask.1
   expires ← number_at w64 creator.1
   comment ← comment_at expires.1
-  Ok (record { channel = channel.0; mask = mask.0; creator = creator.0; expires = expires.0; comment = comment.0 }, comment.1)
+  Ok (new_ban channel.0 mask.0 creator.0 expires.0 comment.0, comment.1)
 
 unfoldable pub set_chan_at : List ℕ → Reading Change
 set_chan_at bytes = made (λ x. SetChan x.0 x.1.0 x.1.1) (both handle_at (both channel_at flags_at) bytes)
@@ -84,9 +89,15 @@ set_chan_at bytes = made (λ x. SetChan x.0 x.1.0 x.1.1) (both handle_at (both c
 unfoldable pub add_ban_at : List ℕ → Reading Change
 add_ban_at bytes = made (λ ban. AddBan ban.channel ban.mask ban.creator ban.expires ban.comment) (ban_at bytes)
 
+unfoldable pub set_info_at : List ℕ → Reading Change
+set_info_at bytes = made (λ x. SetInfo x.0 x.1) (both handle_at info_at bytes)
+
+unfoldable pub set_sticky_at : List ℕ → Reading Change
+set_sticky_at bytes = made (λ x. SetSticky x.0 x.1.0 x.1.1) (both ban_channel_at (both hostmask_at mark_at) bytes)
+
 -- the tags of changes
 abbrev pub is_change_tag : ℕ → Bool
-is_change_tag tag = nat_le 1 tag && nat_le tag 9
+is_change_tag tag = nat_le 1 tag && nat_le tag 11
 
 -- the fields after a tag
 unfoldable pub fields_at : ℕ → List ℕ → Reading Change
@@ -100,7 +111,9 @@ fields_at tag bytes =
     else (if tag == 7 then made (λ x. SetBot x.0 x.1) (handle_and_flags_at bytes)
     else (if tag == 8 then add_ban_at bytes
     else (if tag == 9 then made (λ x. DelBan x.0 x.1) (channel_and_mask_at bytes)
-    else Err BadTag))))))))
+    else (if tag == 10 then set_info_at bytes
+    else (if tag == 11 then set_sticky_at bytes
+    else Err BadTag))))))))))
 
 unfoldable pub change_at : List ℕ → Reading Change
 change_at bytes = do

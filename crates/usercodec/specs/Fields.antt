@@ -1,10 +1,10 @@
 -- How each field is spelled as bytes, and what reading it at the front of some bytes answers (our own choice throughout).
 -- A fault of a field is told as soon as the field is whole, and before any fault of the bytes after it.
-use Rattle.std.specs.Prelude.{ℕ, ◌^◌, nat_lt, nat_le, Bool, List, [], ◌∷◌, length, take, drop, Result, Ok, Err, if◌then◌else◌}
+use Rattle.std.specs.Prelude.{ℕ, ◌^◌, ◌==◌, nat_lt, nat_le, Bool, List, [], ◌∷◌, length, take, drop, Result, Ok, Err, if◌then◌else◌}
 use Rattle.std.specs.List.{flat_map}
 use Rattle.std.specs.Int.{Width, w64, byte_len, from_be_bytes, to_be_bytes}
 use Rattle.rfccase.specs.Channels.{is_channel_name}
-use Rattle.userfile.specs.Shapes.{is_handle, is_hostmask, is_ban_channel, is_comment}
+use Rattle.userfile.specs.Shapes.{is_handle, is_hostmask, is_ban_channel, is_comment, is_info}
 use Rattle.usercodec.specs.declared.fault.CodecFault.{CodecFault}
 use Rattle.usercodec.specs.declared.fault.CodecFault.TheVariants.{Short, NotCanonical}
 
@@ -21,6 +21,10 @@ text bytes = length bytes ∷ bytes
 -- flags: the bits 0 to 25 are a to z, the bits 26 to 51 are A to Z
 abbrev pub flags : ℕ → List ℕ
 flags bits = number w64 bits
+
+-- a mark: 1 where it is set, else 0
+abbrev pub mark : Bool → List ℕ
+mark on = (if on then 1 else 0) ∷ []
 
 -- items: a byte that is their count, and each of them
 abbrev pub counted : {A : Type 0} → (A → List ℕ) → List A → List ℕ
@@ -83,3 +87,12 @@ ban_channel_at bytes = checked is_ban_channel (text_at bytes)
 
 unfoldable pub comment_at : List ℕ → Reading (List ℕ)
 comment_at bytes = checked is_comment (text_at bytes)
+
+unfoldable pub info_at : List ℕ → Reading (List ℕ)
+info_at bytes = checked is_info (text_at bytes)
+
+-- a byte that is 0 or 1
+unfoldable pub mark_at : List ℕ → Reading Bool
+mark_at bytes = do
+  byte ← checked (λ byte. nat_le byte 1) (byte_at bytes)
+  Ok (byte.0 == 1, byte.1)

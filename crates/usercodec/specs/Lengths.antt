@@ -2,6 +2,7 @@
 use Rattle.std.specs.Prelude.{ℕ, ◌<◌, List, length}
 use Rattle.userfile.specs.declared.change.Change.{Change}
 use Rattle.userfile.specs.declared.change.Change.TheVariants.{AddUser, DelUser, AddHost, DelHost, SetGlobal, SetChan, SetBot, AddBan, DelBan}
+use Rattle.userfile.specs.declared.change.Change.TheVariants.{SetInfo, SetSticky}
 
 abbrev pub IsShort : List ℕ → Type 0
 IsShort text = length text < 256
@@ -17,3 +18,5 @@ ChangeIsShort (SetChan handle channel bits) = IsShort handle × IsShort channel
 ChangeIsShort (SetBot handle bits) = IsShort handle
 ChangeIsShort (AddBan channel mask creator expires comment) = IsShort channel × IsShort mask × IsShort creator × IsShort comment
 ChangeIsShort (DelBan channel mask) = IsShort channel × IsShort mask
+ChangeIsShort (SetInfo handle info) = IsShort handle × IsShort info
+ChangeIsShort (SetSticky channel mask on) = IsShort channel × IsShort mask

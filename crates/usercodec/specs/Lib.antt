@@ -6,5 +6,6 @@ pub mod Lengths
 pub mod Bans
 pub mod Laws
 pub mod Records
+pub mod Old
 pub mod Users
 pub mod FaultBytes

@@ -2,17 +2,20 @@
 use Rattle.std.specs.Prelude.{◌≡◌, ℕ, zero, suc, ◌<◌, ◌^◌, ◌==◌, nat_lt, Bool, true, false, not, ◌||◌, List, [], ◌∷◌, ◌++◌, Ok, Err, if◌then◌else◌}
 use Rattle.std.specs.List.{list_any, list_all}
 use Rattle.rfccase.specs.Casemapping.{is_same}
+use Rattle.userfile.specs.Apply.{with_info}
 use Rattle.userfile.specs.Held.{has_mask}
 use Rattle.userfile.specs.Shapes.{is_hostmask}
 use Rattle.userfile.specs.Together.{is_user, is_good_ban, repeats_mask, is_over}
+use Rattle.userfile.specs.declared.ban.Ban.{Ban}
 use Rattle.userfile.specs.declared.channel_flags.ChannelFlags.{ChannelFlags}
 use Rattle.userfile.specs.declared.limits.TheConstants.{MAX_MASKS, MAX_CHANNELS}
 use Rattle.userfile.specs.declared.user.User.{User}
 use Rattle.usercodec.specs.declared.fault.CodecFault.TheVariants.{BadTag}
 use Rattle.usercodec.specs.declared.records.Record.{Record}
 use Rattle.usercodec.specs.declared.records.Record.TheVariants as records
-use Rattle.usercodec.specs.Fields.{text, flags, counted, Reading, ◌>>=◌, checked, byte_at, count_at, flags_at, handle_at, hostmask_at, channel_at}
-use Rattle.usercodec.specs.Changes.{ban_bytes, ban_at, made}
+use Rattle.usercodec.specs.Fields.{text, flags, mark, counted, Reading, ◌>>=◌, checked, byte_at, count_at, flags_at, handle_at, hostmask_at, channel_at}
+use Rattle.usercodec.specs.Fields.{info_at, mark_at}
+use Rattle.usercodec.specs.Changes.{ban_bytes, ban_at, both, made}
 
 -- ---- spellings
 
@@ -20,15 +23,23 @@ use Rattle.usercodec.specs.Changes.{ban_bytes, ban_at, made}
 abbrev pub entry_bytes : ChannelFlags → List ℕ
 entry_bytes entry = text entry.channel ++ flags entry.flags
 
+-- a user's fields before the info text
+abbrev pub plain_user_bytes : User → List ℕ
+plain_user_bytes user =
+    text user.handle ++ (counted text user.masks ++ (flags user.global ++ (counted entry_bytes user.channels ++ flags user.bot)))
+
 -- a user's fields
 abbrev pub user_bytes : User → List ℕ
-user_bytes user =
-    text user.handle ++ (counted text user.masks ++ (flags user.global ++ (counted entry_bytes user.channels ++ flags user.bot)))
+user_bytes user = plain_user_bytes user ++ text user.info
+
+-- a ban's fields: those of a change that adds it, and whether it is sticky
+abbrev pub held_ban_bytes : Ban → List ℕ
+held_ban_bytes ban = ban_bytes ban ++ mark ban.sticky
 
 -- a record: a byte that is its tag, and its fields
 abbrev pub record_bytes : Record → List ℕ
-record_bytes (records.User user) = 1 ∷ user_bytes user
-record_bytes (records.Ban ban) = 2 ∷ ban_bytes ban
+record_bytes (records.User user) = 3 ∷ user_bytes user
+record_bytes (records.Ban ban) = 4 ∷ held_ban_bytes ban
 
 -- the shape of a record is good, as the userfile says
 abbrev pub HasShape : Record → Type 0
@@ -83,24 +94,35 @@ entry_at held bytes = do
 unfoldable pub entries_at : List ℕ → Reading (List ChannelFlags)
 entries_at bytes = counted_at MAX_CHANNELS entry_at bytes
 
-unfoldable pub user_at : List ℕ → Reading User
-user_at bytes = do
+-- a user without an info text
+abbrev pub plain_user : List ℕ → List (List ℕ) → ℕ → List ChannelFlags → ℕ → User
+plain_user handle masks global channels bot =
+    record { handle = handle; masks = masks; global = global; channels = channels; bot = bot; info = [] }
+
+unfoldable pub plain_user_at : List ℕ → Reading User
+plain_user_at bytes = do
   handle ← handle_at bytes
   masks ← masks_at handle.1
   global ← flags_at masks.1
   channels ← entries_at global.1
   bot ← flags_at channels.1
-  Ok (record { handle = handle.0; masks = masks.0; global = global.0; channels = channels.0; bot = bot.0 }, bot.1)
+  Ok (plain_user handle.0 masks.0 global.0 channels.0 bot.0, bot.1)
+
+unfoldable pub user_at : List ℕ → Reading User
+user_at bytes = made (λ x. with_info x.1 x.0) (both plain_user_at info_at bytes)
+
+unfoldable pub held_ban_at : List ℕ → Reading Ban
+held_ban_at bytes = made (λ x. record x.0 { sticky = x.1 }) (both ban_at mark_at bytes)
 
 -- the tags of records
 abbrev pub is_record_tag : ℕ → Bool
-is_record_tag tag = tag == 1 || tag == 2
+is_record_tag tag = tag == 3 || tag == 4
 
 -- the fields after a tag
 unfoldable pub record_fields_at : ℕ → List ℕ → Reading Record
 record_fields_at tag bytes =
-    if tag == 1 then made records.User (user_at bytes)
-    else (if tag == 2 then made records.Ban (ban_at bytes)
+    if tag == 3 then made records.User (user_at bytes)
+    else (if tag == 4 then made records.Ban (held_ban_at bytes)
     else Err BadTag)
 
 unfoldable pub record_at : List ℕ → Reading Record

@@ -24,4 +24,5 @@ user_of fields =
       global = fields.global;
       channels = entries_of fields.channels.items;
       bot = fields.bot;
+      info = fields.info.now;
     }

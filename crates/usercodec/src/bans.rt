@@ -3,12 +3,13 @@ ghost use Rattle.std.specs.Prelude.{◌≡◌, ◌++◌, ◌∷◌, OnOk, true};
 ghost use Rattle.userfile.specs.Together.{is_good_ban};
 ghost use Rattle.usercodec.specs.Bans.{ban_of};
 ghost use Rattle.usercodec.specs.Answers.{Gives};
-ghost use Rattle.usercodec.specs.Changes.{ban_bytes, ban_at};
+ghost use Rattle.usercodec.specs.Changes.{ban_at};
+ghost use Rattle.usercodec.specs.Records.{held_ban_bytes, held_ban_at};
 
 use crate::fault::CodecError;
 use crate::reader::Reader;
 use crate::user_fields::hostmask;
-use crate::writer::{put_byte, put_text, put_u64};
+use crate::writer::{put_byte, put_mark, put_text, put_u64};
 use bytetext::{NoMemory, Text};
 use std::alloc::Global;
 use userfile::Ban;
@@ -21,6 +22,7 @@ pub(crate) struct BanFields<'a> {
     pub(crate) creator: &'a [u8],
     pub(crate) expires: u64,
     pub(crate) comment: &'a [u8],
+    pub(crate) sticky: bool,
 }
 
 /// Writes the one spelling of a ban's record after some bytes.
@@ -29,16 +31,27 @@ pub(crate) struct BanFields<'a> {
 /// `NoMemory` where room for it is refused; a part of it may then stand after the bytes.
 pub fn put_ban(out: &mut Vec<u8>, ban: &Ban) -> Result<(), NoMemory>
     requires { is_good_ban ban.now ≡ true }
-    ensures { OnOk result (out.new.items ≡ out.old.items ++ 2 ∷ ban_bytes ban.now) }
+    ensures { OnOk result (out.new.items ≡ out.old.items ++ 4 ∷ held_ban_bytes ban.now) }
 {
-    put_byte(out, 2)?;
+    put_byte(out, 4)?;
     put_text(out, ban.channel.as_bytes())?;
     put_text(out, ban.mask.as_bytes())?;
     put_text(out, ban.creator.as_bytes())?;
     put_u64(out, ban.expires)?;
-    put_text(out, ban.comment.as_bytes())
+    put_text(out, ban.comment.as_bytes())?;
+    put_mark(out, ban.sticky)
 }
 
+#[tactic(auto, unfolding(crate::specs::Records::held_ban_at))]
+pub(crate) fn held_ban_fields<'a>(reader: &mut Reader<'a>) -> Result<BanFields<'a>, CodecError>
+    ensures { Gives (λ fields. (ban_of fields, reader.new)) result (held_ban_at reader.old) }
+{
+    let mut ban = ban_fields(reader)?;
+    ban.sticky = reader.mark()?;
+    Ok(ban)
+}
+
+// The fields of a ban that is added, which isn't sticky.
 #[tactic(auto, unfolding(crate::specs::Changes::ban_at))]
 pub(crate) fn ban_fields<'a>(reader: &mut Reader<'a>) -> Result<BanFields<'a>, CodecError>
     ensures { Gives (λ fields. (ban_of fields, reader.new)) result (ban_at reader.old) }
@@ -54,6 +67,7 @@ pub(crate) fn ban_fields<'a>(reader: &mut Reader<'a>) -> Result<BanFields<'a>, C
         creator,
         expires,
         comment,
+        sticky: false,
     })
 }
 
@@ -71,6 +85,7 @@ impl<'a> BanFields<'a> {
             creator: Text::from_slice(alloc, self.creator)?,
             expires: self.expires,
             comment: Text::from_slice(alloc, self.comment)?,
+            sticky: self.sticky,
         })
     }
 }

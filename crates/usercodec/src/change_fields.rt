@@ -4,7 +4,7 @@ ghost use Rattle.std.specs.Prelude.{◌≡◌};
 ghost use Rattle.usercodec.specs.Answers.{Makes};
 ghost use Rattle.usercodec.specs.Fields.{handle_at};
 ghost use Rattle.usercodec.specs.Changes.{handle_and_mask_at, handle_and_flags_at, channel_and_mask_at};
-ghost use Rattle.usercodec.specs.Changes.{set_chan_at, add_ban_at, fields_at, change_at};
+ghost use Rattle.usercodec.specs.Changes.{set_chan_at, add_ban_at, set_info_at, set_sticky_at, fields_at, change_at};
 
 use crate::bans::ban_fields;
 use crate::fault::{CodecError, CodecFault};
@@ -23,7 +23,7 @@ pub(crate) fn change(alloc: Global, reader: &mut Reader<'_>) -> Result<Change, C
 }
 
 #[tactic(auto, unfolding(crate::specs::Changes::fields_at))]
-fn fields(alloc: Global, tag: u8, reader: &mut Reader<'_>) -> Result<Change, CodecError>
+pub(crate) fn fields(alloc: Global, tag: u8, reader: &mut Reader<'_>) -> Result<Change, CodecError>
     ensures { Makes (λ change. (change, reader.new)) result (fields_at tag reader.old) }
 {
     match tag {
@@ -57,6 +57,8 @@ fn fields(alloc: Global, tag: u8, reader: &mut Reader<'_>) -> Result<Change, Cod
             let (channel, mask) = channel_and_mask(alloc, reader)?;
             Ok(Change::DelBan { channel, mask })
         }
+        10 => set_info(alloc, reader),
+        11 => set_sticky(alloc, reader),
         _ => Err(Failure::Refused(CodecFault::BadTag)),
     }
 }
@@ -126,5 +128,31 @@ fn add_ban(alloc: Global, reader: &mut Reader<'_>) -> Result<Change, CodecError>
         creator: Text::from_slice(alloc, ban.creator)?,
         expires: ban.expires,
         comment: Text::from_slice(alloc, ban.comment)?,
+    })
+}
+
+#[tactic(auto, unfolding(crate::specs::Changes::set_info_at))]
+fn set_info(alloc: Global, reader: &mut Reader<'_>) -> Result<Change, CodecError>
+    ensures { Makes (λ change. (change, reader.new)) result (set_info_at reader.old) }
+{
+    let handle = reader.handle()?;
+    let info = reader.info()?;
+    Ok(Change::SetInfo {
+        handle: Text::from_slice(alloc, handle)?,
+        info: Text::from_slice(alloc, info)?,
+    })
+}
+
+#[tactic(auto, unfolding(crate::specs::Changes::set_sticky_at))]
+fn set_sticky(alloc: Global, reader: &mut Reader<'_>) -> Result<Change, CodecError>
+    ensures { Makes (λ change. (change, reader.new)) result (set_sticky_at reader.old) }
+{
+    let channel = reader.ban_channel()?;
+    let mask = reader.hostmask()?;
+    let on = reader.mark()?;
+    Ok(Change::SetSticky {
+        channel: Text::from_slice(alloc, channel)?,
+        mask: Text::from_slice(alloc, mask)?,
+        on,
     })
 }

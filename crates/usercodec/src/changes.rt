@@ -12,7 +12,7 @@ use crate::change_fields::change;
 use crate::decoded::Decoded;
 use crate::fault::CodecError;
 use crate::reader::Reader;
-use crate::writer::{put_byte, put_flags, put_text, put_u64};
+use crate::writer::{put_byte, put_flags, put_mark, put_text, put_u64};
 use bytetext::{NoMemory, Text};
 use flagexpr::Flags;
 use std::alloc::Global;
@@ -75,6 +75,11 @@ fn put_fields(out: &mut Vec<u8>, change: &Change) -> Result<(), NoMemory>
             put_text(out, comment.as_bytes())
         }
         Change::DelBan { channel, mask } => put_two(out, 9, channel, mask),
+        Change::SetInfo { handle, info } => put_two(out, 10, handle, info),
+        Change::SetSticky { channel, mask, on } => {
+            put_two(out, 11, channel, mask)?;
+            put_mark(out, *on)
+        }
     }
 }
 

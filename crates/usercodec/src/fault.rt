@@ -11,9 +11,10 @@ pub enum CodecFault {
     /// X2: the first byte is no tag.
     #[error("the first byte is no tag of this kind of value")]
     BadTag,
-    /// X3: a field is whole, and no value has it: a handle, mask, channel or comment breaks its rule, a bit above 51 of
-    /// flags is set, a channel of a user has no flags, a count is above its limit, or a user has a mask or a channel
-    /// twice. A text is one field with the byte of its length, so it is X1 until all of it is there; a count is a field.
+    /// X3: a field is whole, and no value has it: a handle, mask, channel, comment or info text breaks its rule, a bit
+    /// above 51 of flags is set, a mark is neither 0 nor 1, a channel of a user has no flags, a count is above its limit,
+    /// or a user has a mask or a channel twice. A text is one field with the byte of its length, so it is X1 until all of
+    /// it is there; a count is a field.
     #[error("a field breaks its rule: write the value anew")]
     NotCanonical,
 }

@@ -6,6 +6,8 @@ ghost use Rattle.usercodec.specs.declared.fault.CodecFault.TheVariants.{Short, B
 ghost use Rattle.usercodec.specs.Changes.{change_bytes, IsGoodChange, is_change_tag, change_at};
 ghost use Rattle.usercodec.specs.Laws.{Stays, BeginsUnknown};
 ghost use Rattle.usercodec.specs.Records.{record_bytes, IsGoodRecord, is_record_tag, record_at};
+ghost use Rattle.usercodec.specs.Old.{change_bytes_old, IsGoodChangeOld, is_change_tag_old, change_at_old};
+ghost use Rattle.usercodec.specs.Old.{record_bytes_old, IsGoodRecordOld, is_record_tag_old, record_at_old};
 
 /// The laws of the spellings of changes. It does nothing: what it ensures holds of any changes and bytes.
 pub fn laws_of_changes()
@@ -33,4 +35,24 @@ pub fn laws_of_records()
     ensures stays { (bytes more : List ℕ) → Stays (record_at bytes) (record_at (bytes ++ more)) more }
     // Only the tag is told as a bad tag.
     ensures tag { (bytes : List ℕ) → (record_at bytes ≡ Err BadTag) ↔ BeginsUnknown is_record_tag bytes }
+{}
+
+/// The same laws of changes as layout 1 spelled them.
+pub fn laws_of_changes_old()
+    ensures apart { (a b : Change) (x y : List ℕ) → IsGoodChangeOld a → IsGoodChangeOld b
+        → change_bytes_old a ++ x ≡ change_bytes_old b ++ y → (a ≡ b) × (x ≡ y) }
+    ensures cut { (change : Change) (front : List ℕ) (next : ℕ) (rest : List ℕ) → IsGoodChangeOld change
+        → change_bytes_old change ≡ front ++ next ∷ rest → change_at_old front ≡ Err Short }
+    ensures stays { (bytes more : List ℕ) → Stays (change_at_old bytes) (change_at_old (bytes ++ more)) more }
+    ensures tag { (bytes : List ℕ) → (change_at_old bytes ≡ Err BadTag) ↔ BeginsUnknown is_change_tag_old bytes }
+{}
+
+/// The same laws of records as layout 1 spelled them.
+pub fn laws_of_records_old()
+    ensures apart { (a b : Record) (x y : List ℕ) → IsGoodRecordOld a → IsGoodRecordOld b
+        → record_bytes_old a ++ x ≡ record_bytes_old b ++ y → (a ≡ b) × (x ≡ y) }
+    ensures cut { (value : Record) (front : List ℕ) (next : ℕ) (rest : List ℕ) → IsGoodRecordOld value
+        → record_bytes_old value ≡ front ++ next ∷ rest → record_at_old front ≡ Err Short }
+    ensures stays { (bytes more : List ℕ) → Stays (record_at_old bytes) (record_at_old (bytes ++ more)) more }
+    ensures tag { (bytes : List ℕ) → (record_at_old bytes ≡ Err BadTag) ↔ BeginsUnknown is_record_tag_old bytes }
 {}

@@ -4,9 +4,10 @@
 //!
 //! | field | bytes |
 //! |---|---|
-//! | a text (handle, mask, channel, comment) | a byte that is its length, and its bytes |
+//! | a text (handle, mask, channel, comment, info text) | a byte that is its length, and its bytes |
 //! | flags | eight bytes, the most significant first: bits 0 to 25 are `a` to `z`, bits 26 to 51 are `A` to `Z` |
 //! | a moment | eight bytes, the most significant first |
+//! | a mark | a byte: 1 where it is set, else 0 |
 //! | a list | a byte that is its count, and its items |
 //!
 //! | tag | change | fields |
@@ -18,11 +19,16 @@
 //! | 7 | sets the flags as a bot | handle, flags |
 //! | 8 | adds a ban | channel (the empty text for all), mask, creator, moment of the end, comment |
 //! | 9 | deletes a ban | channel, mask |
+//! | 10 | sets a user's info text | handle, info text |
+//! | 11 | makes a ban sticky, or no longer | channel, mask, mark |
 //!
 //! | tag | record | fields |
 //! |---|---|---|
-//! | 1 | a user | handle, list of masks, flags everywhere, list of channels with their flags, flags as a bot |
-//! | 2 | a ban | those of a change that adds one |
+//! | 3 | a user | handle, list of masks, flags everywhere, list of channels with their flags, flags as a bot, info text |
+//! | 4 | a ban | those of a change that adds one, and a mark where it is sticky |
+//!
+//! Layout 1 had neither info texts nor sticky bans: changes of the tags 1 to 9 alone, and records of the tags 1 and 2,
+//! which end before the info text and the mark. [`read_change_old`] and [`read_record_old`] read these.
 //!
 //! Reading takes a value from the front of some bytes and says how many it used. It accepts nothing but the one
 //! spelling of a value that a userfile may hold, so what was read is written back byte for byte. [`laws_of_changes`]
@@ -43,6 +49,7 @@ mod decoded;
 mod fault;
 mod fault_byte;
 mod laws;
+mod old;
 mod reader;
 mod record_lists;
 mod records;
@@ -55,7 +62,8 @@ pub use crate::changes::{put_change, read_change, write_change};
 pub use crate::decoded::Decoded;
 pub use crate::fault::{CodecError, CodecFault};
 pub use crate::fault_byte::{byte_of_fault, fault_of_byte};
-pub use crate::laws::{laws_of_changes, laws_of_records};
+pub use crate::laws::{laws_of_changes, laws_of_changes_old, laws_of_records, laws_of_records_old};
+pub use crate::old::{read_change_old, read_record_old};
 pub use crate::reader::Reader;
 pub use crate::record_lists::put_records;
 pub use crate::records::{Record, put_record, read_record, write_record};

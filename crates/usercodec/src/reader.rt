@@ -4,20 +4,21 @@ ghost use Rattle.std.specs.Prelude.{◌≡◌};
 use crate::change_fields::change;
 use crate::fault::{CodecError, CodecFault};
 use crate::fault_byte::fault_of_byte;
-use crate::record_lists::tagged_records;
+use crate::old::{change_old, tagged_record_old};
+use crate::record_lists::{tagged_records, tagged_records_old};
 use crate::records::{Record, tagged_record};
 use bytetext::Failure;
 use flagexpr::Flags;
 use rfccase::is_channel_name;
 use std::alloc::Global;
 use std::marker::Model;
-use userfile::{Change, ChangeFault, is_ban_channel, is_comment, is_handle, is_hostmask};
+use userfile::{Change, ChangeFault, is_ban_channel, is_comment, is_handle, is_hostmask, is_info};
 
 /// Reads fields from the front of some bytes, one after the other. Contracts see the bytes that are still to be read.
 ///
 /// Each call steps over the field that it answers; where it answers an error, the reader is as before. Numbers have
-/// their most significant byte first. Only [`change`](Reader::change), [`record`](Reader::record) and
-/// [`records`](Reader::records) take memory.
+/// their most significant byte first. Only [`change`](Reader::change), [`record`](Reader::record),
+/// [`records`](Reader::records) and those of layout 1 take memory.
 ///
 /// ```text
 /// let mut reader = Reader::new(b"\x00\x02\x07alice");
@@ -47,6 +48,7 @@ impl<'a> Reader<'a> {
     ghost use Rattle.usercodec.specs.FaultBytes.{fault_at};
     ghost use Rattle.usercodec.specs.Changes.{change_at};
     ghost use Rattle.usercodec.specs.Records.{record_at, so_many_records_at};
+    ghost use Rattle.usercodec.specs.Old.{change_at_old, record_at_old, so_many_records_at_old};
 
     /// A reader at the begin of some bytes.
     pub fn new(bytes: &'a [u8]) -> Reader<'a>
@@ -189,6 +191,48 @@ impl<'a> Reader<'a> {
         self.rest = ahead.rest;
         Ok(records)
     }
+
+    /// A change as layout 1 spelled it: see [`read_change_old`](crate::read_change_old).
+    ///
+    /// # Errors
+    /// As of [`change`](Reader::change).
+    pub fn change_old(&mut self, alloc: Global) -> Result<Change, CodecError>
+        ensures value { Makes (λ change. (change, self.new)) result (change_at_old self.old) }
+        ensures unchanged { OnErr result (self.new ≡ self.old) }
+    {
+        let mut ahead = Reader { rest: self.rest };
+        let change = change_old(alloc, &mut ahead)?;
+        self.rest = ahead.rest;
+        Ok(change)
+    }
+
+    /// A record as layout 1 spelled it: see [`read_record_old`](crate::read_record_old).
+    ///
+    /// # Errors
+    /// As of [`record`](Reader::record).
+    pub fn record_old(&mut self, alloc: Global) -> Result<Record, CodecError>
+        ensures value { Makes (λ value. (value, self.new)) result (record_at_old self.old) }
+        ensures unchanged { OnErr result (self.new ≡ self.old) }
+    {
+        let mut ahead = Reader { rest: self.rest };
+        let value = tagged_record_old(alloc, &mut ahead)?;
+        self.rest = ahead.rest;
+        Ok(value)
+    }
+
+    /// So many records as layout 1 spelled them, one after the other.
+    ///
+    /// # Errors
+    /// As of [`records`](Reader::records).
+    pub fn records_old(&mut self, alloc: Global, count: usize) -> Result<Vec<Record>, CodecError>
+        ensures value { Finds (λ records. (records.items, self.new)) result (so_many_records_at_old count self.old) }
+        ensures unchanged { OnErr result (self.new ≡ self.old) }
+    {
+        let mut ahead = Reader { rest: self.rest };
+        let records = tagged_records_old(alloc, &mut ahead, count)?;
+        self.rest = ahead.rest;
+        Ok(records)
+    }
 }
 
 // The fields of changes and records. After a fault nothing is said of the reader.
@@ -197,7 +241,7 @@ impl<'a> Reader<'a> {
     ghost use Rattle.std.specs.Int.{w64};
     ghost use Rattle.usercodec.specs.Answers.{Gives};
     ghost use Rattle.usercodec.specs.Fields.{number_at, text_at, count_at, flags_at};
-    ghost use Rattle.usercodec.specs.Fields.{handle_at, hostmask_at, channel_at, ban_channel_at, comment_at};
+    ghost use Rattle.usercodec.specs.Fields.{handle_at, hostmask_at, channel_at, ban_channel_at, comment_at, info_at, mark_at};
 
     // How many bytes are left.
     pub(crate) fn len(&self) -> usize
@@ -282,6 +326,23 @@ impl<'a> Reader<'a> {
     {
         let text = self.text()?;
         keep_if(is_comment(text), text)
+    }
+
+    #[tactic(auto, unfolding(crate::specs::Fields::info_at))]
+    pub(crate) fn info(&mut self) -> Result<&'a [u8], CodecError>
+        ensures { Gives (λ text. (text.now, self.new)) result (info_at self.old) }
+    {
+        let text = self.text()?;
+        keep_if(is_info(text), text)
+    }
+
+    #[tactic(auto, unfolding(crate::specs::Fields::mark_at))]
+    pub(crate) fn mark(&mut self) -> Result<bool, CodecError>
+        ensures { Gives (λ on. (on, self.new)) result (mark_at self.old) }
+    {
+        let byte = self.byte()?;
+        let byte = keep_if(byte <= 1, byte)?;
+        Ok(byte == 1)
     }
 }
 

@@ -3,8 +3,10 @@ ghost use Rattle.std.specs.Prelude.{◌≡◌, ◌++◌, OnOk};
 ghost use Rattle.std.specs.List.{AllByRecursion, flat_map};
 ghost use Rattle.usercodec.specs.Answers.{Finds};
 ghost use Rattle.usercodec.specs.Records.{record_bytes, HasShape, so_many_records_at};
+ghost use Rattle.usercodec.specs.Old.{so_many_records_at_old};
 
 use crate::fault::CodecError;
+use crate::old::tagged_record_old;
 use crate::reader::Reader;
 use crate::records::{Record, put_record, tagged_record};
 use bytetext::NoMemory;
@@ -34,6 +36,24 @@ pub(crate) fn tagged_records(
     let mut records = Vec::new(alloc);
     for _ in 0..count {
         match tagged_record(alloc, reader) {
+            Ok(value) => records.push(value)?,
+            Err(error) => return Err(error),
+        }
+    }
+    Ok(records)
+}
+
+// The same of layout 1.
+pub(crate) fn tagged_records_old(
+    alloc: Global,
+    reader: &mut Reader<'_>,
+    count: usize,
+) -> Result<Vec<Record>, CodecError>
+    ensures { Finds (λ records. (records.items, reader.new)) result (so_many_records_at_old count reader.old) }
+{
+    let mut records = Vec::new(alloc);
+    for _ in 0..count {
+        match tagged_record_old(alloc, reader) {
             Ok(value) => records.push(value)?,
             Err(error) => return Err(error),
         }

@@ -4,7 +4,7 @@ ghost use Rattle.usercodec.specs.declared.records.Record.{Record};
 ghost use Rattle.usercodec.specs.Answers.{Makes, Decodes, Reads};
 ghost use Rattle.usercodec.specs.Records.{record_bytes, HasShape, IsGoodRecord, record_fields_at, record_at};
 
-use crate::bans::{ban_fields, put_ban};
+use crate::bans::{held_ban_fields, put_ban};
 use crate::decoded::Decoded;
 use crate::fault::{CodecError, CodecFault};
 use crate::reader::Reader;
@@ -102,12 +102,12 @@ fn fields(alloc: Global, tag: u8, reader: &mut Reader<'_>) -> Result<Record, Cod
     ensures { Makes (λ value. (value, reader.new)) result (record_fields_at tag reader.old) }
 {
     match tag {
-        1 => {
+        3 => {
             let user = user_fields(reader)?;
             Ok(Record::User(user.copy(alloc)?))
         }
-        2 => {
-            let ban = ban_fields(reader)?;
+        4 => {
+            let ban = held_ban_fields(reader)?;
             Ok(Record::Ban(ban.copy(alloc)?))
         }
         _ => Err(Failure::Refused(CodecFault::BadTag)),

@@ -5,7 +5,7 @@ ghost use Rattle.std.specs.List.{list_any};
 ghost use Rattle.rfccase.specs.Casemapping.{is_same};
 ghost use Rattle.usercodec.specs.Answers.{Gives};
 ghost use Rattle.userfile.specs.Held.{has_mask};
-ghost use Rattle.usercodec.specs.Records.{items_at, mask_at, masks_at, has_channel, entry_at, entries_at, user_at};
+ghost use Rattle.usercodec.specs.Records.{items_at, mask_at, masks_at, has_channel, entry_at, entries_at, plain_user_at, user_at};
 ghost use Rattle.usercodec.specs.Users.{texts_of, entry_of, entries_of, user_of};
 
 use crate::fault::CodecError;
@@ -25,6 +25,7 @@ pub(crate) struct UserFields<'a> {
     global: Flags,
     channels: ArrayVec<EntryFields<'a>, MAX_CHANNELS>,
     bot: Flags,
+    info: &'a [u8],
 }
 
 // A user's flags on a channel whose name still lies in the bytes that were read.
@@ -48,6 +49,16 @@ impl<'a> Default for EntryFields<'a> {
 pub(crate) fn user_fields<'a>(reader: &mut Reader<'a>) -> Result<UserFields<'a>, CodecError>
     ensures { Gives (λ fields. (user_of fields, reader.new)) result (user_at reader.old) }
 {
+    let mut user = plain_user_fields(reader)?;
+    user.info = reader.info()?;
+    Ok(user)
+}
+
+// The fields before the info text, which is empty then.
+#[tactic(auto, unfolding(crate::specs::Records::plain_user_at))]
+pub(crate) fn plain_user_fields<'a>(reader: &mut Reader<'a>) -> Result<UserFields<'a>, CodecError>
+    ensures { Gives (λ fields. (user_of fields, reader.new)) result (plain_user_at reader.old) }
+{
     let handle = reader.handle()?;
     let masks = masks(reader)?;
     let global = reader.flags()?;
@@ -59,6 +70,7 @@ pub(crate) fn user_fields<'a>(reader: &mut Reader<'a>) -> Result<UserFields<'a>,
         global,
         channels,
         bot,
+        info: &[],
     })
 }
 
@@ -177,6 +189,7 @@ impl<'a> UserFields<'a> {
             global: self.global,
             channels: ChannelEntries::new(channels),
             bot: self.bot,
+            info: Text::from_slice(alloc, self.info)?,
         })
     }
 }

@@ -16,14 +16,15 @@ use userfile::{ChannelFlags, Hostmask, User};
 pub fn put_user(out: &mut Vec<u8>, user: &User) -> Result<(), NoMemory>
     requires own { is_user user.now ≡ true }
     requires few { is_over user.now ≡ false }
-    ensures { OnOk result (out.new.items ≡ out.old.items ++ 1 ∷ user_bytes user.now) }
+    ensures { OnOk result (out.new.items ≡ out.old.items ++ 3 ∷ user_bytes user.now) }
 {
-    put_byte(out, 1)?;
+    put_byte(out, 3)?;
     put_text(out, user.handle.as_bytes())?;
     put_masks(out, user.masks.as_slice())?;
     put_flags(out, user.global)?;
     put_entries(out, user.channels.as_slice())?;
-    put_flags(out, user.bot)
+    put_flags(out, user.bot)?;
+    put_text(out, user.info.as_bytes())
 }
 
 fn put_masks(out: &mut Vec<u8>, masks: &[Hostmask]) -> Result<(), NoMemory>

@@ -1,7 +1,7 @@
 // Fields at the end of some bytes.
 ghost use Rattle.std.specs.Prelude.{◌≡◌, ◌++◌, ◌∷◌, [], ◌<◌, OnOk, length};
 ghost use Rattle.std.specs.Int.{w16, w32, w64};
-ghost use Rattle.usercodec.specs.Fields.{number, text, flags};
+ghost use Rattle.usercodec.specs.Fields.{number, text, flags, mark};
 
 use bytetext::NoMemory;
 use flagexpr::Flags;
@@ -46,6 +46,12 @@ pub(crate) fn put_flags(out: &mut Vec<u8>, letters: Flags) -> Result<(), NoMemor
     ensures { OnOk result (out.new.items ≡ out.old.items ++ flags letters) }
 {
     put_u64(out, letters.bits())
+}
+
+pub(crate) fn put_mark(out: &mut Vec<u8>, on: bool) -> Result<(), NoMemory>
+    ensures { OnOk result (out.new.items ≡ out.old.items ++ mark on) }
+{
+    put_byte(out, if on { 1 } else { 0 })
 }
 
 // No text of a change or a record has more than 120 bytes.

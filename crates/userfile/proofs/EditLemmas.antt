@@ -4,7 +4,7 @@ use Rattle.bytetext.specs.declared.memory.NoMemory.{NoMemory}
 use Rattle.userfile.specs.Apply.{with_mask}
 use Rattle.userfile.specs.declared.user.User.{User}
 use Rattle.userfile.specs.declared.edits.Edit.{Edit}
-use Rattle.userfile.specs.declared.edits.Edit.TheVariants.{DelMask, SetGlobal, DelChannel, SetChannels, SetBot}
+use Rattle.userfile.specs.declared.edits.Edit.TheVariants.{DelMask, SetGlobal, DelChannel, SetChannels, SetBot, SetInfo}
 use Rattle.userfile.specs.Edits.{edited}
 
 -- an edit keeps the handle
@@ -14,6 +14,7 @@ handle-edited (SetGlobal f) user = refl
 handle-edited (DelChannel c) user = refl
 handle-edited (SetChannels es) user = refl
 handle-edited (SetBot f) user = refl
+handle-edited (SetInfo i) user = refl
 
 -- one more mask does, and so does one for which there is no memory
 pub handle-with_mask : (r : Result (Unit {0}) NoMemory) (m : List ℕ) (old new : User) → OnOk r (new ≡ with_mask m old) → OnErr r (new ≡ old)

@@ -38,7 +38,7 @@ fresh (y ∷ ys) zs x apart =
 -- a good user's handle is short
 pub short_handle : (ys zs : List User) (x : User) → list_all is_user (ys ++ x ∷ zs) ≡ true → length x.handle ≤ MAX_HANDLE
 unfolding is_user
-short_handle ys zs x good = is_handle-length _ (and_true (and_true (list_all-middle is_user ys zs x good)).0).0
+short_handle ys zs x good = is_handle-length _ (and_true (and_true (and_true (list_all-middle is_user ys zs x good)).0).0).0
 
 -- the next user goes last
 pub one_more : (all ys zs : List User) (u : User) (es new : List Entry) (k : Vec ℕ Global) → list_all is_user all ≡ true → repeats_handle all ≡ false

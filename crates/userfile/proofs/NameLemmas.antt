@@ -12,7 +12,7 @@ use Rattle.userfile.specs.declared.user.User.{User}
 use Rattle.userfile.specs.declared.index.Listing.{Listing}
 use Rattle.userfile.specs.declared.index.TailIndex.{TailIndex}
 use Rattle.userfile.specs.declared.edits.Edit.{Edit}
-use Rattle.userfile.specs.declared.edits.Edit.TheVariants.{DelMask, SetGlobal, DelChannel, SetChannels, SetBot}
+use Rattle.userfile.specs.declared.edits.Edit.TheVariants.{DelMask, SetGlobal, DelChannel, SetChannels, SetBot, SetInfo}
 use Rattle.userfile.specs.Apply.{with_mask, without_mask}
 use Rattle.userfile.specs.Edits.{edited, is_of_masks}
 use Rattle.userfile.specs.Held.{with_user, users_without}
@@ -136,6 +136,7 @@ edited_same index h (SetGlobal f) other us is = IsIndexOf-edited index h (edited
 edited_same index h (DelChannel c) other us is = IsIndexOf-edited index h (edited (DelChannel c)) (λ u. refl) us is
 edited_same index h (SetChannels es) other us is = IsIndexOf-edited index h (edited (SetChannels es)) (λ u. refl) us is
 edited_same index h (SetBot f) other us is = IsIndexOf-edited index h (edited (SetBot f)) (λ u. refl) us is
+edited_same index h (SetInfo i) other us is = IsIndexOf-edited index h (edited (SetInfo i)) (λ u. refl) us is
 
 pub IsIndexOf-push : (index : TailIndex) (us : List User) (u : User) → u.masks ≡ [] → IsIndexOf index us → IsIndexOf index (us ++ u ∷ [])
 IsIndexOf-push index us u none is = record {

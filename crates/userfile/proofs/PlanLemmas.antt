@@ -14,9 +14,9 @@ use Rattle.userfile.specs.Shapes.{is_handle, is_hostmask, is_comment}
 use Rattle.userfile.specs.Together.{AreSound}
 use Rattle.userfile.specs.declared.user.User.{User}
 use Rattle.userfile.specs.declared.plan.Plan.{Plan}
-use Rattle.userfile.specs.declared.plan.Plan.TheVariants.{Later, Added, Channels}
+use Rattle.userfile.specs.declared.plan.Plan.TheVariants.{Later, Added, Channels, Info}
 use Rattle.userfile.specs.declared.change.Change.{Change}
-use Rattle.userfile.specs.declared.change.Change.TheVariants.{AddUser, DelUser, AddHost, DelHost, SetGlobal, SetChan, SetBot, AddBan, DelBan}
+use Rattle.userfile.specs.declared.change.Change.TheVariants.{AddUser, DelUser, AddHost, DelHost, SetGlobal, SetChan, SetBot, AddBan, DelBan, SetInfo, SetSticky}
 use Rattle.userfile.specs.declared.error.ChangeFault.{ChangeFault}
 use Rattle.userfile.specs.declared.error.ChangeFault.TheVariants.{BadHandle, BadMask, BadComment, NoSuchUser, NoSuchMask, NoSuchBan}
 use Rattle.userfile.proofs.RepeatLemmas.{or_false, and_both, is_some-find}
@@ -126,6 +126,8 @@ refusal-taken_back old (SetGlobal h f) free adding = absurd (true≢false (sym a
 refusal-taken_back old (SetChan h ch f) free adding = absurd (true≢false (sym adding))
 refusal-taken_back old (SetBot h f) free adding = absurd (true≢false (sym adding))
 refusal-taken_back old (DelBan ch m) free adding = absurd (true≢false (sym adding))
+refusal-taken_back old (SetInfo h i) free adding = absurd (true≢false (sym adding))
+refusal-taken_back old (SetSticky ch m on) free adding = absurd (true≢false (sym adding))
 
 -- and then the records are as before
 pub changed-taken_back : (old : Records) (c : Change) → refusal old c ≡ None → adds c ≡ true → changed (changed old c) (taken_back c) ≡ old
@@ -144,6 +146,8 @@ changed-taken_back old (SetGlobal h f) free adding = absurd (true≢false (sym a
 changed-taken_back old (SetChan h ch f) free adding = absurd (true≢false (sym adding))
 changed-taken_back old (SetBot h f) free adding = absurd (true≢false (sym adding))
 changed-taken_back old (DelBan ch m) free adding = absurd (true≢false (sym adding))
+changed-taken_back old (SetInfo h i) free adding = absurd (true≢false (sym adding))
+changed-taken_back old (SetSticky ch m on) free adding = absurd (true≢false (sym adding))
 
 -- ---- plans
 
@@ -153,20 +157,24 @@ pub planned-sound : {E : Type 0} (result : Result Plan E) (old held : Records) (
 planned-sound (Ok Later) old held c s free ok err = subst AreSound (sym ok.0) s
 planned-sound (Ok Added) old held c s free ok err = subst AreSound (sym ok.0) (changed-sound old c s free)
 planned-sound (Ok (Channels h es)) old held c s free ok err = subst AreSound (sym ok.0) s
+planned-sound (Ok (Info h i)) old held c s free ok err = subst AreSound (sym ok.0) s
 planned-sound (Err _) old held c s free ok err = subst AreSound (sym err) s
 
 pub IsPlanFor-before : (plan : Plan) (c : Change) (old held : Records) → refusal old c ≡ None → IsPlanFor plan c old held → before plan c held ≡ old
 IsPlanFor-before Later c old held free is = is.0
 IsPlanFor-before Added c old held free is = ap (λ r. changed r (taken_back c)) is.0 ∙ changed-taken_back old c free is.1
 IsPlanFor-before (Channels h es) c old held free is = is.0
+IsPlanFor-before (Info h i) c old held free is = is.0
 
 pub IsPlanFor-after : (plan : Plan) (c : Change) (old held : Records) → IsPlanFor plan c old held → after plan c held ≡ changed old c
 IsPlanFor-after Later c old held is = ap (λ r. changed r c) is.0
 IsPlanFor-after Added c old held is = is.0
 IsPlanFor-after (Channels h es) c old held is = ap (λ r. changed r c) is.0
+IsPlanFor-after (Info h i) c old held is = ap (λ r. changed r c) is.0
 
 pub IsPlanFor-Suits : (plan : Plan) (c : Change) (old held : Records) → refusal old c ≡ None → IsPlanFor plan c old held → Suits plan c held
 IsPlanFor-Suits Later c old held free is = (subst (λ r. refusal r c ≡ None) (sym is.0) free, is.1)
 IsPlanFor-Suits Added c old held free is =
     (subst (λ r. refusal r (taken_back c) ≡ None) (sym is.0) (refusal-taken_back old c free is.1), is.1)
 IsPlanFor-Suits (Channels h es) c old held free is = subst (λ r. Suits (Channels h es) c r) (sym is.0) (free, is.1)
+IsPlanFor-Suits (Info h i) c old held free is = subst (λ r. Suits (Info h i) c r) (sym is.0) (free, is.1)

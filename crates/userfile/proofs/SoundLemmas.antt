@@ -7,18 +7,18 @@ use Rattle.std.specs.Cmp.Lexicographic.{pointwise}
 use Rattle.rfccase.specs.Casemapping.{folded, is_same}
 use Rattle.rfccase.specs.Channels.{is_channel_name}
 use Rattle.userfile.specs.Records.{Records}
-use Rattle.userfile.specs.Shapes.{is_handle, is_ban_channel, is_comment}
+use Rattle.userfile.specs.Shapes.{is_handle, is_ban_channel, is_comment, is_info}
 use Rattle.userfile.specs.Apply.{fault_if, fault_unless, first_of_two, bad_shape, of_user, add_mask_fault, set_channel_fault, not_taken}
-use Rattle.userfile.specs.Apply.{refusal, new_user, with_mask, without_mask, with_global, set_channel, with_channel, with_bot, user_edited, new_ban}
-use Rattle.userfile.specs.Apply.{changed}
-use Rattle.userfile.specs.Held.{user_of, with_user, entry_of, has_entry, entries_without, with_entry, is_ban}
+use Rattle.userfile.specs.Apply.{refusal, new_user, with_mask, without_mask, with_global, set_channel, with_channel, with_bot, with_info, user_edited, new_ban}
+use Rattle.userfile.specs.Apply.{marked, with_sticky, changed}
+use Rattle.userfile.specs.Held.{user_of, with_user, entry_of, has_entry, entries_without, with_entry, is_ban, has_ban}
 use Rattle.userfile.specs.Together.{repeats_channel, is_entry, is_user, is_good_ban, repeats_handle, repeats_mask, repeats_ban, is_over}
 use Rattle.userfile.specs.Together.{records_fault, AreSound}
 use Rattle.userfile.specs.declared.user.User.{User}
 use Rattle.userfile.specs.declared.channel_flags.ChannelFlags.{ChannelFlags}
 use Rattle.userfile.specs.declared.ban.Ban.{Ban}
 use Rattle.userfile.specs.declared.change.Change.{Change}
-use Rattle.userfile.specs.declared.change.Change.TheVariants.{AddUser, DelUser, AddHost, DelHost, SetGlobal, SetChan, SetBot, AddBan, DelBan}
+use Rattle.userfile.specs.declared.change.Change.TheVariants.{AddUser, DelUser, AddHost, DelHost, SetGlobal, SetChan, SetBot, AddBan, DelBan, SetInfo, SetSticky}
 use Rattle.userfile.specs.declared.error.ChangeFault.{ChangeFault}
 use Rattle.rfccase.proofs.SameLemmas.{is_same-sym, is_same-Decides}
 use Rattle.userfile.proofs.RepeatLemmas.{or_false, or_both, and_true, and_both, list_all-filter, list_all-push, length-filter-le}
@@ -139,30 +139,39 @@ record IsSoundUser (u : User) : Type 0 where
   channels : AreGoodEntries u.channels
   apart : repeats_mask u.masks ≡ false
   within : length u.masks ≤ 16
+  info : is_info u.info ≡ true
 
 sound_user : (u : User) → is_user u ≡ true → repeats_mask u.masks ≡ false → is_over u ≡ false → IsSoundUser u
 unfolding is_user
 sound_user u good apart over = record {
-  handle = (and_true (and_true good).0).0;
+  handle = (and_true (and_true (and_true good).0).0).0;
   channels = record {
-    good = (and_true (and_true good).0).1;
-    apart = not_true (and_true good).1;
+    good = (and_true (and_true (and_true good).0).0).1;
+    apart = not_true (and_true (and_true good).0).1;
     within = ltb-false 16 (length u.channels)
         (or_false over).1;
   };
   apart = apart;
   within = ltb-false 16 (length u.masks) (or_false over).0;
+  info = (and_true good).1;
 }
 
 good_of : (u : User) → IsSoundUser u → is_user u ≡ true
 unfolding is_user
-good_of u s = and_both (and_both s.handle s.channels.good) (ap not s.channels.apart)
+good_of u s = and_both (and_both (and_both s.handle s.channels.good) (ap not s.channels.apart)) s.info
 
 within_of : (u : User) → IsSoundUser u → is_over u ≡ false
 within_of u s = or_both (le-ltb 16 (length u.masks) s.within) (le-ltb 16 (length u.channels) s.channels.within)
 
 sound-new_user : (handle : List ℕ) → is_handle handle ≡ true → IsSoundUser (new_user handle)
-sound-new_user handle good = record { handle = good; channels = record { good = refl; apart = refl; within = omega arith }; apart = refl; within = omega arith }
+unfolding is_info
+sound-new_user handle good = record {
+  handle = good;
+  channels = record { good = refl; apart = refl; within = omega arith };
+  apart = refl;
+  within = omega arith;
+  info = refl;
+}
 
 sound-with_mask : (mask : List ℕ) (u : User) → add_mask_fault mask u ≡ None → IsSoundUser u → IsSoundUser (with_mask mask u)
 sound-with_mask mask u free s =
@@ -174,6 +183,7 @@ sound-with_mask mask u free s =
       apart = repeats-push is_same is_same-sym u.masks mask s.apart (if_none _ n.0);
       within = omega
           (arith, room, length-append u.masks (mask ∷ []));
+      info = s.info;
     }
 
 sound-without_mask : (mask : List ℕ) (u : User) → IsSoundUser u → IsSoundUser (without_mask mask u)
@@ -182,10 +192,11 @@ sound-without_mask mask u s = record {
   channels = s.channels;
   apart = repeats-filter is_same (λ m. not (is_same mask m)) u.masks s.apart;
   within = omega (arith, s.within, length-filter-le (λ m. not (is_same mask m)) u.masks);
+  info = s.info;
 }
 
 sound-with_global : (flags : ℕ) (u : User) → IsSoundUser u → IsSoundUser (with_global flags u)
-sound-with_global flags u s = record { handle = s.handle; channels = s.channels; apart = s.apart; within = s.within }
+sound-with_global flags u s = record { handle = s.handle; channels = s.channels; apart = s.apart; within = s.within; info = s.info }
 
 sound-with_channel : (channel : List ℕ) (flags : ℕ) (u : User) → is_channel_name channel ≡ true → set_channel_fault channel flags u ≡ None → IsSoundUser u
     → IsSoundUser (with_channel channel flags u)
@@ -195,10 +206,14 @@ sound-with_channel channel flags u named free s = record {
       (unless_none _ free) s.channels;
   apart = s.apart;
   within = s.within;
+  info = s.info;
 }
 
 sound-with_bot : (flags : ℕ) (u : User) → IsSoundUser u → IsSoundUser (with_bot flags u)
-sound-with_bot flags u s = record { handle = s.handle; channels = s.channels; apart = s.apart; within = s.within }
+sound-with_bot flags u s = record { handle = s.handle; channels = s.channels; apart = s.apart; within = s.within; info = s.info }
+
+sound-with_info : (info : List ℕ) (u : User) → is_info info ≡ true → IsSoundUser u → IsSoundUser (with_info info u)
+sound-with_info info u good s = record { handle = s.handle; channels = s.channels; apart = s.apart; within = s.within; info = good }
 
 -- ---- all users
 
@@ -330,6 +345,51 @@ bans-sym : (a b : Ban) → is_ban a.channel a.mask b ≡ is_ban b.channel b.mask
 bans-sym a b = ap (λ t. t && is_same a.mask b.mask) (is_same-sym a.channel b.channel)
     ∙ ap (λ t. is_same b.channel a.channel && t) (is_same-sym a.mask b.mask)
 
+-- ---- a mark
+
+-- a mark is no part of what makes a ban good or tells it from others
+module _ (ch m : List ℕ) (on : Bool) where
+  good-marked : (b : Ban) → is_good_ban (marked ch m on b) ≡ is_good_ban b
+  unfolding is_good_ban
+  good-marked b = by (is_ban ch m b)
+    where
+      by : (t : Bool) → is_good_ban (cond t (record b { sticky = on }) b) ≡ is_good_ban b
+      by true = refl
+      by false = refl
+
+  is_ban-marked : (c k : List ℕ) (b : Ban) → is_ban c k (marked ch m on b) ≡ is_ban c k b
+  is_ban-marked c k b = by (is_ban ch m b)
+    where
+      by : (t : Bool) → is_ban c k (cond t (record b { sticky = on }) b) ≡ is_ban c k b
+      by true = refl
+      by false = refl
+
+  has_ban-marked : (b : Ban) (bs : List Ban) → has_ban (marked ch m on b).channel (marked ch m on b).mask bs ≡ has_ban b.channel b.mask bs
+  has_ban-marked b bs = by (is_ban ch m b)
+    where
+      by : (t : Bool) → has_ban (cond t (record b { sticky = on }) b).channel (cond t (record b { sticky = on }) b).mask bs ≡ has_ban b.channel b.mask bs
+      by true = refl
+      by false = refl
+
+  all_good-with_sticky : (bs : List Ban) → list_all is_good_ban (with_sticky ch m on bs) ≡ list_all is_good_ban bs
+  all_good-with_sticky [] = refl
+  all_good-with_sticky (b ∷ bs) = rw (good-marked b, all_good-with_sticky bs) refl
+
+  has_ban-with_sticky : (c k : List ℕ) (bs : List Ban) → has_ban c k (with_sticky ch m on bs) ≡ has_ban c k bs
+  has_ban-with_sticky c k [] = refl
+  has_ban-with_sticky c k (b ∷ bs) = rw (is_ban-marked c k b, has_ban-with_sticky c k bs) refl
+
+  repeats-with_sticky : (bs : List Ban) → repeats_ban (with_sticky ch m on bs) ≡ repeats_ban bs
+  repeats-with_sticky [] = refl
+  repeats-with_sticky (b ∷ bs) =
+      ap (λ t. t || repeats_ban (with_sticky ch m on bs))
+      (has_ban-marked b (with_sticky ch m on bs) ∙ has_ban-with_sticky b.channel b.mask bs)
+      ∙ ap (λ t. has_ban b.channel b.mask bs || t) (repeats-with_sticky bs)
+
+  length-with_sticky : (bs : List Ban) → length (with_sticky ch m on bs) ≡ length bs
+  length-with_sticky [] = refl
+  length-with_sticky (b ∷ bs) = ap suc (length-with_sticky bs)
+
 keeps_parts : (r : Records) (c : Change) → Parts r.users r.bans → bad_shape c ≡ None → not_taken r c ≡ None → Parts (changed r c).users (changed r c).bans
 keeps_parts r (AddUser h) p shape taken =
     let n = first_none taken in
@@ -384,6 +444,16 @@ keeps_parts r (DelBan ch m) p shape taken =
       apart = repeats-filter (λ (x y : Ban). is_ban x.channel x.mask y) keep r.bans p.apart;
       few_bans = omega (arith, p.few_bans, length-filter-le keep r.bans);
     }
+keeps_parts r (SetInfo h i) p shape taken =
+    edit_keeps r h (with_info i) (λ u. refl) p (λ u at s. sound-with_info i u (unless_none _ (first_none shape).1) s)
+keeps_parts r (SetSticky ch m on) p shape taken = record {
+  users = p.users;
+  handles = p.handles;
+  few_users = p.few_users;
+  bans = all_good-with_sticky ch m on r.bans ∙ p.bans;
+  apart = repeats-with_sticky ch m on r.bans ∙ p.apart;
+  few_bans = omega (arith, length-with_sticky ch m on r.bans, p.few_bans);
+}
 
 pub changed-sound : (r : Records) (c : Change) → AreSound r → refusal r c ≡ None → AreSound (changed r c)
 changed-sound r c s free = sound_of (changed r c)

@@ -1,19 +1,19 @@
 -- What a change makes of the records, and when it is refused. The changes are those of Eggdrop's .+user, .-user, .+host,
--- .-host, .chattr, .botattr, .+ban and .-ban; the order of the refusals is our own choice.
-use Rattle.std.specs.Prelude.{◌≡◌, ℕ, List, [], ◌∷◌, ◌++◌, Bool, true, false, not, ◌||◌, nat_lt, ◌==◌, length, if◌then◌else◌, Option, None, Some, Result}
+-- .-host, .chattr, .botattr, .+ban, .-ban, .chinfo, .stick and .unstick; the order of the refusals is our own choice.
+use Rattle.std.specs.Prelude.{◌≡◌, ℕ, List, [], ◌∷◌, ◌++◌, Bool, true, false, not, ◌||◌, nat_lt, ◌==◌, length, map, if◌then◌else◌, Option, None, Some, Result}
 use Rattle.std.specs.Prelude.{Ok, Err}
 use Rattle.bytetext.specs.declared.failure.Failure.{Failure}
 use Rattle.bytetext.specs.declared.failure.Failure.TheVariants.{Refused, NoMemory}
 use Rattle.rfccase.specs.Channels.{is_channel_name}
-use Rattle.userfile.specs.Shapes.{is_handle, is_ban_channel, is_hostmask, is_comment}
+use Rattle.userfile.specs.Shapes.{is_handle, is_ban_channel, is_hostmask, is_comment, is_info}
 use Rattle.userfile.specs.Records.{Records}
 use Rattle.userfile.specs.Held.{user_of, has_user, users_without, with_user, has_mask, masks_without, has_entry, entries_without, with_entry, has_ban}
-use Rattle.userfile.specs.Held.{bans_without}
+use Rattle.userfile.specs.Held.{is_ban, bans_without}
 use Rattle.userfile.specs.declared.user.User.{User}
 use Rattle.userfile.specs.declared.channel_flags.ChannelFlags.{ChannelFlags}
 use Rattle.userfile.specs.declared.ban.Ban.{Ban}
 use Rattle.userfile.specs.declared.change.Change.{Change}
-use Rattle.userfile.specs.declared.change.Change.TheVariants.{AddUser, DelUser, AddHost, DelHost, SetGlobal, SetChan, SetBot, AddBan, DelBan}
+use Rattle.userfile.specs.declared.change.Change.TheVariants.{AddUser, DelUser, AddHost, DelHost, SetGlobal, SetChan, SetBot, AddBan, DelBan, SetInfo, SetSticky}
 use Rattle.userfile.specs.declared.error.ChangeFault.{ChangeFault}
 use Rattle.userfile.specs.declared.error.ChangeFault.TheVariants.{BadHandle, BadMask, BadChannel, BadComment, NoSuchUser, UserExists, MaskExists}
 use Rattle.userfile.specs.declared.error.ChangeFault.TheVariants.{NoSuchMask, BanExists, NoSuchBan, Full}
@@ -34,7 +34,8 @@ abbrev pub first_of_two : Option ChangeFault → Option ChangeFault → Option C
 first_of_two None later = later
 first_of_two (Some fault) later = Some fault
 
--- the refusal for the change's own shape: its handle or creator, its mask, its channel, its comment, in this order
+-- the refusal for the change's own shape: its handle or creator, its mask, its channel, its comment or info text, in this
+-- order
 abbrev pub bad_shape : Change → Option ChangeFault
 bad_shape (AddUser handle) = fault_unless (is_handle handle) BadHandle
 bad_shape (DelUser handle) = fault_unless (is_handle handle) BadHandle
@@ -49,6 +50,8 @@ bad_shape (AddBan channel mask creator expires comment) =
     (first_of_two (fault_unless (is_ban_channel channel) BadChannel)
     (fault_unless (is_comment comment) BadComment)))
 bad_shape (DelBan channel mask) = first_of_two (fault_unless (is_hostmask mask) BadMask) (fault_unless (is_ban_channel channel) BadChannel)
+bad_shape (SetInfo handle info) = first_of_two (fault_unless (is_handle handle) BadHandle) (fault_unless (is_info info) BadComment)
+bad_shape (SetSticky channel mask on) = first_of_two (fault_unless (is_hostmask mask) BadMask) (fault_unless (is_ban_channel channel) BadChannel)
 
 -- the refusal of a user's edit: there is no such user, or what the edit says of the user that there is
 abbrev pub of_user : Option User → (User → Option ChangeFault) → Option ChangeFault
@@ -82,6 +85,8 @@ not_taken old (SetBot handle flags) = fault_unless (has_user handle old.users) N
 not_taken old (AddBan channel mask creator expires comment) =
     first_of_two (fault_if (has_ban channel mask old.bans) BanExists) (fault_unless (nat_lt (length old.bans) MAX_BANS) Full)
 not_taken old (DelBan channel mask) = fault_unless (has_ban channel mask old.bans) NoSuchBan
+not_taken old (SetInfo handle info) = fault_unless (has_user handle old.users) NoSuchUser
+not_taken old (SetSticky channel mask on) = fault_unless (has_ban channel mask old.bans) NoSuchBan
 
 -- the first refusal that holds, in the order: shape, what is held, limits
 abbrev pub refusal : Records → Change → Option ChangeFault
@@ -89,9 +94,9 @@ refusal old change = first_of_two (bad_shape change) (not_taken old change)
 
 -- ---- what a change makes
 
--- a user without hostmasks and flags
+-- a user without hostmasks, flags and an info text
 abbrev pub new_user : List ℕ → User
-new_user handle = record { handle = handle; masks = []; global = 0; channels = []; bot = 0 }
+new_user handle = record { handle = handle; masks = []; global = 0; channels = []; bot = 0; info = [] }
 
 -- the user with one more hostmask, after the others
 abbrev pub with_mask : List ℕ → User → User
@@ -118,14 +123,26 @@ with_channel channel flags user = record user { channels = set_channel channel f
 abbrev pub with_bot : ℕ → User → User
 with_bot flags user = record user { bot = flags }
 
+-- the user with this info text
+abbrev pub with_info : List ℕ → User → User
+with_info info user = record user { info = info }
+
 -- the records with the user of the handle as the edit leaves it
 abbrev pub user_edited : Records → List ℕ → (User → User) → Records
 user_edited old handle edit = record old { users = with_user handle edit old.users }
 
--- the ban of these fields
+-- the ban of these fields, which isn't sticky
 abbrev pub new_ban : List ℕ → List ℕ → List ℕ → ℕ → List ℕ → Ban
 new_ban channel mask creator expires comment =
-    record { channel = channel; mask = mask; creator = creator; expires = expires; comment = comment }
+    record { channel = channel; mask = mask; creator = creator; expires = expires; comment = comment; sticky = false }
+
+-- a ban, marked as sticky or not where it is the one of this channel and mask
+abbrev pub marked : List ℕ → List ℕ → Bool → Ban → Ban
+marked channel mask on ban = if is_ban channel mask ban then record ban { sticky = on } else ban
+
+-- the bans in their order, the one of this channel and mask marked
+abbrev pub with_sticky : List ℕ → List ℕ → Bool → List Ban → List Ban
+with_sticky channel mask on bans = map (marked channel mask on) bans
 
 -- the records after a change that isn't refused
 abbrev pub changed : Records → Change → Records
@@ -138,6 +155,8 @@ changed old (SetChan handle channel flags) = user_edited old handle (with_channe
 changed old (SetBot handle flags) = user_edited old handle (with_bot flags)
 changed old (AddBan channel mask creator expires comment) = record old { bans = old.bans ++ new_ban channel mask creator expires comment ∷ [] }
 changed old (DelBan channel mask) = record old { bans = bans_without channel mask old.bans }
+changed old (SetInfo handle info) = user_edited old handle (with_info info)
+changed old (SetSticky channel mask on) = record old { bans = with_sticky channel mask on old.bans }
 
 -- what applying a change answers, and what it leaves
 abbrev pub Applies : Records → Change → Result Unit (Failure ChangeFault) → Records → Type 0
@@ -146,6 +165,7 @@ Applies old change (Err (Refused fault)) new = (refusal old change ≡ Some faul
 Applies old change (Err NoMemory) new = (refusal old change ≡ None) × (new ≡ old)
 
 -- whether a change is one that memory is asked for: it adds a user, a hostmask or a ban, or sets flags on a channel
+-- or an info text
 abbrev pub grows : Change → Bool
 grows (AddUser handle) = true
 grows (DelUser handle) = false
@@ -156,3 +176,5 @@ grows (SetChan handle channel flags) = not (flags == 0)
 grows (SetBot handle flags) = false
 grows (AddBan channel mask creator expires comment) = true
 grows (DelBan channel mask) = false
+grows (SetInfo handle info) = not (length info == 0)
+grows (SetSticky channel mask on) = false

@@ -1,11 +1,11 @@
 -- What an edit of one user makes of the user.
 use Rattle.std.specs.Prelude.{List, ℕ, Bool, true, false}
-use Rattle.userfile.specs.Apply.{without_mask, with_global, with_bot}
+use Rattle.userfile.specs.Apply.{without_mask, with_global, with_bot, with_info}
 use Rattle.userfile.specs.Held.{entries_without}
 use Rattle.userfile.specs.declared.channel_flags.ChannelFlags.{ChannelFlags}
 use Rattle.userfile.specs.declared.user.User.{User}
 use Rattle.userfile.specs.declared.edits.Edit.{Edit}
-use Rattle.userfile.specs.declared.edits.Edit.TheVariants.{DelMask, SetGlobal, DelChannel, SetChannels, SetBot}
+use Rattle.userfile.specs.declared.edits.Edit.TheVariants.{DelMask, SetGlobal, DelChannel, SetChannels, SetBot, SetInfo}
 
 -- the user with these flags on channels
 abbrev pub with_channels : List ChannelFlags → User → User
@@ -22,6 +22,7 @@ edited (SetGlobal flags) user = with_global flags user
 edited (DelChannel channel) user = without_channel channel.now user
 edited (SetChannels entries) user = with_channels entries user
 edited (SetBot flags) user = with_bot flags user
+edited (SetInfo info) user = with_info info user
 
 -- whether the edit is one of the user's masks
 abbrev pub is_of_masks : Edit → Bool
@@ -30,3 +31,4 @@ is_of_masks (SetGlobal flags) = false
 is_of_masks (DelChannel channel) = false
 is_of_masks (SetChannels entries) = false
 is_of_masks (SetBot flags) = false
+is_of_masks (SetInfo info) = false

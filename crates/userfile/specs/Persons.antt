@@ -1,4 +1,4 @@
--- Who a person is, what flags a person has, and whom a ban keeps off.
+-- Who a person is, what flags and info text a person has, whom a ban keeps off, and which ban comes back.
 use Rattle.std.specs.Prelude.{◌≡◌, ◌<◌, ◌≤◌, ◌⊎◌, ℕ, ◌+◌, ◌*◌, ◌==◌, nat_lt, nat_le, Bool, ◌&&◌, ◌||◌, List, [], ◌∷◌, ◌++◌, length, map, filter, find}
 use Rattle.std.specs.Prelude.{slice_get, codes, if◌then◌else◌, Option, None, Some}
 use Rattle.std.specs.List.{list_all}
@@ -76,6 +76,16 @@ flags_on channel (Some user) = record { global = user.global; chan = entry_flags
 abbrev pub flags_of : List User → List ℕ → List ℕ → PersonFlags
 flags_of users handle channel = flags_on channel (user_of handle users)
 
+-- ---- info texts
+
+abbrev pub info_or_none : Option User → List ℕ
+info_or_none None = []
+info_or_none (Some user) = user.info
+
+-- the info text of the user of a handle, and the empty text where there is no such user
+abbrev pub info_of : List User → List ℕ → List ℕ
+info_of users handle = info_or_none (user_of handle users)
+
 -- ---- bans
 
 -- a ban keeps a person off a channel where it is of that channel or of all, has not ended, and its mask matches
@@ -86,6 +96,16 @@ bars channel who now ban =
 -- the first ban that keeps a person off a channel
 abbrev pub ban_for : List Ban → List ℕ → List ℕ → ℕ → Option Ban
 ban_for bans channel who now = find (bars channel who now) bans
+
+-- a ban comes back to a channel where this mask is taken off it: it is sticky, of that channel or of all, has not ended,
+-- and its mask is the same by casemapping
+abbrev pub returns_to : List ℕ → List ℕ → ℕ → Ban → Bool
+returns_to channel mask now ban =
+    ban.sticky && (length ban.channel == 0 || is_same channel ban.channel) && (ban.expires == 0 || nat_lt now ban.expires) && is_same mask ban.mask
+
+-- the first ban that comes back to a channel where this mask is taken off it
+abbrev pub sticky_ban : List Ban → List ℕ → List ℕ → ℕ → Option Ban
+sticky_ban bans channel mask now = find (returns_to channel mask now) bans
 
 -- the expiry of a ban made now for so many minutes, 0 for ever
 abbrev pub expires_at : ℕ → ℕ → ℕ

@@ -4,7 +4,7 @@ use Rattle.std.specs.List.{list_all}
 use Rattle.std.specs.Option.{is_none}
 use Rattle.rfccase.specs.Channels.{is_channel_name}
 use Rattle.wildmask.specs.Masks.{host_fault}
-use Rattle.userfile.specs.declared.limits.TheConstants.{MAX_HANDLE, MAX_COMMENT}
+use Rattle.userfile.specs.declared.limits.TheConstants.{MAX_HANDLE, MAX_COMMENT, MAX_INFO}
 
 -- A handle's bytes are printable, and none of them is a space or one of * , : @ (Eggdrop's handles, without the bytes
 -- that a line of a script or a list of handles needs)
@@ -30,3 +30,7 @@ is_line_byte b = not (b == 0) && not (b == 13) && not (b == 10)
 -- a comment has at most 100 such bytes
 unfoldable pub is_comment : List ℕ → Bool
 is_comment bytes = nat_le (length bytes) MAX_COMMENT && list_all is_line_byte bytes
+
+-- an info text has at most 80 such bytes
+unfoldable pub is_info : List ℕ → Bool
+is_info bytes = nat_le (length bytes) MAX_INFO && list_all is_line_byte bytes

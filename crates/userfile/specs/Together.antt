@@ -4,7 +4,7 @@ use Rattle.std.specs.List.{list_any, list_all}
 use Rattle.bytetext.specs.declared.failure.Failure.{Failure}
 use Rattle.bytetext.specs.declared.failure.Failure.TheVariants.{Refused, NoMemory}
 use Rattle.rfccase.specs.Channels.{is_channel_name}
-use Rattle.userfile.specs.Shapes.{is_handle, is_ban_channel, is_comment}
+use Rattle.userfile.specs.Shapes.{is_handle, is_ban_channel, is_comment, is_info}
 use Rattle.userfile.specs.Records.{Records}
 use Rattle.rfccase.specs.Casemapping.{is_same}
 use Rattle.userfile.specs.Held.{is_ban}
@@ -31,9 +31,10 @@ repeats_channel entries = repeats (λ a b. is_same a.channel b.channel) entries
 abbrev pub is_entry : ChannelFlags → Bool
 is_entry e = is_channel_name e.channel && not (e.flags == 0)
 
--- a user's own texts are good, and each channel is named once, with flags
+-- a user's own texts are good, the info text among them, and each channel is named once, with flags
 unfoldable pub is_user : User → Bool
-is_user user = is_handle user.handle && list_all is_entry user.channels && not (repeats_channel user.channels)
+is_user user =
+    is_handle user.handle && list_all is_entry user.channels && not (repeats_channel user.channels) && is_info user.info
 
 -- a ban's own texts are good
 unfoldable pub is_good_ban : Ban → Bool

@@ -19,12 +19,14 @@ pub struct Ban {
     pub expires: u64,
     /// What the banned are told.
     pub comment: Text,
+    /// Whether the ban is sticky: it is to come back where somebody takes it off a channel. No ban is at first.
+    pub sticky: bool,
 }
 
 impl Ban {
     ghost use Rattle.std.specs.Prelude.{◌≡◌};
     ghost use Rattle.userfile.specs.Held.{is_ban};
-    ghost use Rattle.userfile.specs.Persons.{bars};
+    ghost use Rattle.userfile.specs.Persons.{bars, returns_to};
 
     // Whether the ban is the one of this channel and mask.
     pub(crate) fn is_of(&self, channel: &[u8], mask: &[u8]) -> bool
@@ -41,6 +43,16 @@ impl Ban {
             && (self.expires == 0 || now < self.expires)
             && self.mask.matches(who)
     }
+
+    // Whether the ban comes back to the channel at that second, where this mask is taken off it.
+    pub(crate) fn returns_to(&self, channel: &[u8], mask: &[u8], now: u64) -> bool
+        ensures { result ≡ returns_to channel.now mask.now now self.now }
+    {
+        self.sticky
+            && (self.channel.is_empty() || is_same(channel, self.channel.as_bytes()))
+            && (self.expires == 0 || now < self.expires)
+            && is_same(mask, self.mask.as_bytes())
+    }
 }
 
 impl TryCopy for Ban {
@@ -51,6 +63,7 @@ impl TryCopy for Ban {
             creator: self.creator.copy(alloc)?,
             expires: self.expires,
             comment: self.comment.copy(alloc)?,
+            sticky: self.sticky,
         })
     }
 }

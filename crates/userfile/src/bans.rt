@@ -1,7 +1,7 @@
 // The list of the bans.
 ghost use Rattle.std.specs.Prelude.{◌≡◌, true, IfOk, IfErr};
 ghost use Rattle.bytetext.specs.declared.failure.Failure.TheVariants.{NoMemory as no_memory};
-ghost use Rattle.userfile.specs.Apply.{new_ban};
+ghost use Rattle.userfile.specs.Apply.{new_ban, marked, with_sticky};
 ghost use Rattle.userfile.specs.Held.{has_ban, bans_without};
 ghost use Rattle.userfile.specs.Shapes.{is_hostmask};
 
@@ -18,7 +18,7 @@ pub(crate) fn has_ban(bans: &[Ban], channel: &[u8], mask: &[u8]) -> bool
     bans.iter().any(|ban| ban.is_of(channel, mask))
 }
 
-// The ban of copies of these texts, the mask being a hostmask.
+// The ban of copies of these texts, the mask being a hostmask. It isn't sticky.
 pub(crate) fn ban_of(
     alloc: Global,
     channel: &Text,
@@ -38,6 +38,7 @@ pub(crate) fn ban_of(
         creator: creator.copy(alloc)?,
         expires,
         comment: comment.copy(alloc)?,
+        sticky: false,
     })
 }
 
@@ -46,4 +47,22 @@ pub(crate) fn keep_other_bans(bans: &mut Vec<Ban>, channel: &[u8], mask: &[u8])
     ensures { bans.new.items ≡ bans_without channel.now mask.now bans.old.items }
 {
     bans.retain(|ban| !ban.is_of(channel, mask));
+}
+
+// Marks the ban of this channel and mask as sticky, or as one that isn't.
+pub(crate) fn set_sticky(bans: &mut [Ban], channel: &[u8], mask: &[u8], on: bool)
+    ensures { bans.new ≡ with_sticky channel.now mask.now on bans.old }
+{
+    for ban in bans.iter_mut() {
+        mark(ban, channel, mask, on);
+    }
+}
+
+// Marks a ban where it is the one of this channel and mask.
+fn mark(ban: &mut Ban, channel: &[u8], mask: &[u8], on: bool)
+    ensures { ban.new ≡ marked channel.now mask.now on ban.old }
+{
+    if ban.is_of(channel, mask) {
+        ban.sticky = on;
+    }
 }

@@ -76,6 +76,22 @@ pub enum Change {
         /// The ban's hostmask.
         mask: Text,
     },
+    /// Sets a user's info text.
+    SetInfo {
+        /// The user's handle.
+        handle: Text,
+        /// The text, in the place of the one before; the empty text for none.
+        info: Text,
+    },
+    /// Sets whether a ban is sticky.
+    SetSticky {
+        /// The ban's channel, or the empty text for a ban of all channels.
+        channel: Text,
+        /// The ban's hostmask.
+        mask: Text,
+        /// Whether it is sticky from now on.
+        on: bool,
+    },
 }
 
 // By hand, so that this is proved once, and not in each function in which a change ends.
@@ -109,6 +125,12 @@ impl Drop for Change {
             Change::DelBan {
                 channel: _,
                 mask: _,
+            } => {}
+            Change::SetInfo { handle: _, info: _ } => {}
+            Change::SetSticky {
+                channel: _,
+                mask: _,
+                on: _,
             } => {}
         }
     }
@@ -151,6 +173,11 @@ impl TryCopy for Change {
                 Ok((channel, mask)) => Ok(Change::DelBan { channel, mask }),
                 Err(NoMemory) => Err(NoMemory),
             },
+            Change::SetInfo { handle, info } => match pair_of(alloc, handle, info) {
+                Ok((handle, info)) => Ok(Change::SetInfo { handle, info }),
+                Err(NoMemory) => Err(NoMemory),
+            },
+            Change::SetSticky { channel, mask, on } => set_sticky_copy(alloc, channel, mask, *on),
         }
     }
 }
@@ -217,4 +244,12 @@ fn ban_copy(
         expires,
         comment,
     })
+}
+
+// A mark to be set of the ban of copies of these texts.
+fn set_sticky_copy(alloc: Global, channel: &Text, mask: &Text, on: bool) -> Result<Change, NoMemory>
+    ensures { IfOk result (λ c. c ≡ Change.SetSticky channel.now mask.now on) }
+{
+    let (channel, mask) = pair_of(alloc, channel, mask)?;
+    Ok(Change::SetSticky { channel, mask, on })
 }

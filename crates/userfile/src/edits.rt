@@ -57,6 +57,8 @@ pub(crate) enum Edit<'a> {
     SetChannels(ChannelEntries),
     // Sets the flags as a bot.
     SetBot(Flags),
+    // Puts this info text in the place of the one before.
+    SetInfo(Text),
 }
 
 // Makes an edit.
@@ -69,6 +71,7 @@ pub(crate) fn make_edit(user: &mut User, edit: Edit<'_>)
         Edit::DelChannel(channel) => user.channels.remove(channel),
         Edit::SetChannels(entries) => user.channels = entries,
         Edit::SetBot(flags) => user.bot = flags,
+        Edit::SetInfo(info) => user.info = info,
     }
 }
 

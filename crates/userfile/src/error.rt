@@ -19,8 +19,8 @@ pub enum ChangeFault {
     /// comma or control G.
     #[error("a channel begins with & # + or !, and has at most 100 bytes without spaces and commas")]
     BadChannel,
-    /// U10: the comment has more than 100 bytes, or holds NUL, CR or LF.
-    #[error("a comment has at most 100 bytes and is one line")]
+    /// U10: the comment has more than 100 bytes or the info text more than 80, or it holds NUL, CR or LF.
+    #[error("a comment has at most 100 bytes, an info text at most 80, and each is one line")]
     BadComment,
     /// U3: no user has the handle.
     #[error("no user has this handle: add the user first")]

@@ -10,8 +10,9 @@
 //!
 //! Handles, hostmasks and channels are compared by casemapping (RFC 2812 section 2.2) and kept as they were given.
 //! [`Userfile::handle_of`] says who a person is, written as `nick!user@host`: of all hostmasks that match, the one with
-//! most literals decides, then the earlier user, then the earlier mask. [`Userfile::flags_of`] gives a user's flags, and
-//! [`Userfile::ban_for`] the first ban that keeps a person off a channel. These take no memory.
+//! most literals decides, then the earlier user, then the earlier mask. [`Userfile::flags_of`] gives a user's flags,
+//! [`Userfile::info_of`] the info text, [`Userfile::ban_for`] the first ban that keeps a person off a channel, and
+//! [`Userfile::sticky_ban`] the first that comes back where its mask is taken off a channel. These take no memory.
 //!
 //! ```text
 //! let mut userfile = Userfile::new(alloc);
@@ -59,10 +60,12 @@ pub use crate::error::{ChangeError, ChangeFault};
 pub use crate::expiry::expires_at;
 pub use crate::flags::PersonFlags;
 pub use crate::hostmask::{Hostmask, Hostmasks};
-pub use crate::limits::{MAX_BANS, MAX_CHANNELS, MAX_COMMENT, MAX_HANDLE, MAX_MASKS, MAX_USERS};
+pub use crate::limits::{
+    MAX_BANS, MAX_CHANNELS, MAX_COMMENT, MAX_HANDLE, MAX_INFO, MAX_MASKS, MAX_USERS,
+};
 pub use crate::plan::Plan;
 pub use crate::refusals::shape;
-pub use crate::shapes::{is_ban_channel, is_comment, is_handle, is_hostmask, is_one_line};
+pub use crate::shapes::{is_ban_channel, is_comment, is_handle, is_hostmask, is_info, is_one_line};
 pub use crate::together::{are_bans, are_users, is_ban, is_user};
 pub use crate::update::Update;
 pub use crate::user::User;

@@ -18,3 +18,6 @@ pub const MAX_HANDLE: usize = 32;
 
 /// The most bytes that a comment has.
 pub const MAX_COMMENT: usize = 100;
+
+/// The most bytes that a user's info text has.
+pub const MAX_INFO: usize = 80;

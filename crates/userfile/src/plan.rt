@@ -12,7 +12,7 @@ ghost use Rattle.userfile.specs.Plans.{IsPlanFor, taken_back, adds};
 ghost use Rattle.userfile.specs.Together.{repeats_handle};
 
 use crate::ban::Ban;
-use crate::bans::{ban_of, keep_other_bans};
+use crate::bans::{ban_of, keep_other_bans, set_sticky};
 use crate::change::Change;
 use crate::channel_flags::ChannelEntries;
 use crate::edits::{Edit, hostmask_of};
@@ -36,6 +36,8 @@ pub enum Plan {
     Added,
     /// The entries that the user of a handle will have.
     Channels(Text, ChannelEntries),
+    /// The info text that the user of a handle will have.
+    Info(Text, Text),
 }
 
 // Makes what a change asks for that isn't refused.
@@ -87,11 +89,19 @@ pub(crate) fn plan_for(
             let entries = entries_with(users, alloc, handle.as_bytes(), channel, *flags)?;
             Ok(Plan::Channels(handle.copy(alloc)?, entries))
         }
+        Change::SetInfo { handle, info } => {
+            if info.is_empty() {
+                return Ok(Plan::Later);
+            }
+            let info = info.copy(alloc)?;
+            Ok(Plan::Info(handle.copy(alloc)?, info))
+        }
         Change::DelUser { .. } => Ok(Plan::Later),
         Change::DelHost { .. } => Ok(Plan::Later),
         Change::SetGlobal { .. } => Ok(Plan::Later),
         Change::SetBot { .. } => Ok(Plan::Later),
         Change::DelBan { .. } => Ok(Plan::Later),
+        Change::SetSticky { .. } => Ok(Plan::Later),
     }
 }
 
@@ -154,6 +164,19 @@ pub(crate) fn take_in(
         Change::DelBan { channel, mask } => {
             keep_other_bans(bans, channel.as_bytes(), mask.as_bytes());
         }
+        // Only an empty info text takes no memory.
+        Change::SetInfo { handle, .. } => {
+            let nothing = Text::empty(*users.allocator());
+            edit_user(users, handle.as_bytes(), Edit::SetInfo(nothing));
+        }
+        Change::SetSticky { channel, mask, on } => {
+            set_sticky(
+                bans.as_mut_slice(),
+                channel.as_bytes(),
+                mask.as_bytes(),
+                *on,
+            );
+        }
         // These take memory.
         Change::AddUser { .. } => {}
         Change::AddHost { .. } => {}
@@ -191,5 +214,7 @@ pub(crate) fn take_back(
         Change::SetChan { .. } => {}
         Change::SetBot { .. } => {}
         Change::DelBan { .. } => {}
+        Change::SetInfo { .. } => {}
+        Change::SetSticky { .. } => {}
     }
 }

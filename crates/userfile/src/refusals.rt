@@ -6,7 +6,7 @@ ghost use Rattle.userfile.specs.declared.error.ChangeFault.TheVariants.{BadHandl
 
 use crate::change::Change;
 use crate::error::ChangeFault;
-use crate::shapes::{is_ban_channel, is_comment, is_handle, is_hostmask};
+use crate::shapes::{is_ban_channel, is_comment, is_handle, is_hostmask, is_info};
 use rfccase::is_channel_name;
 
 /// The refusal of a change for its own shape, whatever a userfile holds; none where the shape is good. Takes no memory.
@@ -42,7 +42,13 @@ pub fn shape(change: &Change) -> Option<ChangeFault>
                 fault_unless(is_comment(comment.as_bytes()), ChangeFault::BadComment),
             ),
         ),
-        Change::DelBan { channel, mask } => ban_fault(channel.as_bytes(), mask.as_bytes()),
+        Change::SetInfo { handle, info } => first_of_two(
+            handle_fault(handle.as_bytes()),
+            fault_unless(is_info(info.as_bytes()), ChangeFault::BadComment),
+        ),
+        Change::DelBan { channel, mask } | Change::SetSticky { channel, mask, .. } => {
+            ban_fault(channel.as_bytes(), mask.as_bytes())
+        }
     }
 }
 

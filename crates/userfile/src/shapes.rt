@@ -1,9 +1,9 @@
 // Which texts may stand in a change or a record.
 ghost use Rattle.std.specs.Prelude.{◌≡◌};
 ghost use Rattle.std.specs.List.{list_all};
-ghost use Rattle.userfile.specs.Shapes.{is_handle_byte, is_handle, is_ban_channel, is_hostmask, is_line_byte, is_comment};
+ghost use Rattle.userfile.specs.Shapes.{is_handle_byte, is_handle, is_ban_channel, is_hostmask, is_line_byte, is_comment, is_info};
 
-use crate::limits::{MAX_COMMENT, MAX_HANDLE};
+use crate::limits::{MAX_COMMENT, MAX_HANDLE, MAX_INFO};
 use rfccase::is_channel_name;
 use wildmask::host_fault;
 
@@ -49,6 +49,14 @@ pub fn is_comment(bytes: &[u8]) -> bool
     ensures { result ≡ is_comment bytes.now }
 {
     bytes.len() <= MAX_COMMENT && is_one_line(bytes)
+}
+
+/// Whether these bytes may be a user's info text: at most 80 bytes, none of them NUL, CR or LF.
+#[tactic(auto, unfolding(crate::specs::Shapes::is_info))]
+pub fn is_info(bytes: &[u8]) -> bool
+    ensures { result ≡ is_info bytes.now }
+{
+    bytes.len() <= MAX_INFO && is_one_line(bytes)
 }
 
 /// Whether none of these bytes is NUL, CR or LF.

@@ -11,12 +11,13 @@ use crate::error::ChangeFault;
 use crate::hostmask::{Hostmask, has_mask};
 use crate::limits::{MAX_BANS, MAX_CHANNELS, MAX_MASKS, MAX_USERS};
 use crate::refusals::{fault_if, first_of_two};
-use crate::shapes::{is_ban_channel, is_comment, is_handle};
+use crate::shapes::{is_ban_channel, is_comment, is_handle, is_info};
 use crate::texts::is_same;
 use crate::user::User;
 use rfccase::is_channel_name;
 
-/// Whether a user's handle is one, and each channel is named once, is a channel name and has flags.
+/// Whether a user's handle is one, each channel is named once, is a channel name and has flags, and the info text may
+/// be one.
 #[tactic(auto, unfolding(crate::specs::Together::is_user))]
 pub fn is_user(user: &User) -> bool
     ensures { result ≡ is_user user.now }
@@ -24,6 +25,7 @@ pub fn is_user(user: &User) -> bool
     is_handle(user.handle.as_bytes())
         && are_entries(user.channels.as_slice())
         && !repeats_channel(user.channels.as_slice())
+        && is_info(user.info.as_bytes())
 }
 
 /// Whether a ban's creator is a handle, its channel may be a ban's, and its comment too.

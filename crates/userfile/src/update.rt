@@ -26,7 +26,7 @@ impl Userfile {
     ///
     /// # Errors
     /// `Refused` with the first fault that holds, or `NoMemory`, only for a change that adds a user, a hostmask or a ban,
-    /// or that sets flags on a channel. Both leave the userfile as it was.
+    /// that sets flags on a channel, or that sets an info text that isn't empty. Both leave the userfile as it was.
     pub fn ready<'a, 'c>(
         &'a mut self,
         alloc: Global,

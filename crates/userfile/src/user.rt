@@ -20,13 +20,15 @@ pub struct User {
     pub channels: ChannelEntries,
     /// The flags of the user as a bot.
     pub bot: Flags,
+    /// What the user or others say of the user: 0 to 80 bytes on one line, none at first.
+    pub info: Text,
 }
 
 impl User {
     ghost use Rattle.std.specs.Prelude.{◌≡◌};
     ghost use Rattle.userfile.specs.Apply.{new_user};
 
-    // The user of this handle, without hostmasks and flags.
+    // The user of this handle, without hostmasks, flags and an info text.
     pub(crate) fn new(alloc: Global, handle: Text) -> User
         ensures { result ≡ new_user handle }
     {
@@ -36,6 +38,7 @@ impl User {
             global: Flags::empty(),
             channels: ChannelEntries::empty(alloc),
             bot: Flags::empty(),
+            info: Text::empty(alloc),
         }
     }
 }
@@ -48,6 +51,7 @@ impl TryCopy for User {
             global: self.global,
             channels: self.channels.copy(alloc)?,
             bot: self.bot,
+            info: self.info.copy(alloc)?,
         })
     }
 }

@@ -54,7 +54,7 @@ impl Userfile {
     ghost use Rattle.userfile.specs.Plans.{IsPlanFor, Suits, before, after};
     ghost use Rattle.bytetext.specs.declared.failure.Failure.TheVariants.{NoMemory as no_memory};
     ghost use Rattle.userfile.specs.Held.{user_of};
-    ghost use Rattle.userfile.specs.Persons.{ban_for, flags_of, handle_of, IsHandleFor};
+    ghost use Rattle.userfile.specs.Persons.{ban_for, flags_of, handle_of, info_of, sticky_ban, IsHandleFor};
 
     /// The userfile without records. Takes no memory.
     pub fn new(alloc: Global) -> Userfile
@@ -158,12 +158,33 @@ impl Userfile {
         }
     }
 
+    /// The info text of the user of a handle; the empty text where the user has none, or there is no such user. Takes no
+    /// memory.
+    pub fn info_of(&self, handle: &[u8]) -> &[u8]
+        ensures { result.now ≡ info_of self.now.users handle.now }
+    {
+        match self.user(handle) {
+            Some(user) => user.info.as_bytes(),
+            None => b"",
+        }
+    }
+
     /// The first ban that keeps this person, written as `nick!user@host`, off a channel at this second: it is of that
     /// channel or of all, its mask matches, and it has not ended.
     pub fn ban_for(&self, channel: &[u8], who: &[u8], now: u64) -> Option<&Ban>
         ensures { option_copied result ≡ ban_for self.now.bans channel.now who.now now }
     {
         self.bans.iter().find(|ban| ban.bars(channel, who, now))
+    }
+
+    /// The first ban that comes back to a channel at this second where somebody takes this mask off it: it is sticky, of
+    /// that channel or of all, it has not ended, and its mask is this one by casemapping. Takes no memory.
+    pub fn sticky_ban(&self, channel: &[u8], mask: &[u8], now: u64) -> Option<&Ban>
+        ensures { option_copied result ≡ sticky_ban self.now.bans channel.now mask.now now }
+    {
+        self.bans
+            .iter()
+            .find(|ban| ban.returns_to(channel, mask, now))
     }
 
     /// The first refusal that holds of a change, without making it. Takes no memory.
@@ -190,7 +211,8 @@ impl Userfile {
             ),
             Change::DelUser { handle }
             | Change::SetGlobal { handle, .. }
-            | Change::SetBot { handle, .. } => fault_unless(
+            | Change::SetBot { handle, .. }
+            | Change::SetInfo { handle, .. } => fault_unless(
                 self.user(handle.as_bytes()).is_some(),
                 ChangeFault::NoSuchUser,
             ),
@@ -217,10 +239,11 @@ impl Userfile {
                 ),
                 fault_unless(self.bans.len() < MAX_BANS, ChangeFault::Full),
             ),
-            Change::DelBan { channel, mask } => fault_unless(
-                has_ban(self.bans.as_slice(), channel.as_bytes(), mask.as_bytes()),
-                ChangeFault::NoSuchBan,
-            ),
+            Change::DelBan { channel, mask } | Change::SetSticky { channel, mask, .. } =>
+                fault_unless(
+                    has_ban(self.bans.as_slice(), channel.as_bytes(), mask.as_bytes()),
+                    ChangeFault::NoSuchBan,
+                ),
         }
     }
 
@@ -268,6 +291,9 @@ impl Userfile {
                     Edit::SetChannels(entries),
                 );
             }
+            Plan::Info(handle, info) => {
+                edit_user(&mut self.users, handle.as_bytes(), Edit::SetInfo(info));
+            }
         }
     }
 
@@ -280,6 +306,7 @@ impl Userfile {
             Plan::Later => {}
             Plan::Added => take_back(&mut self.users, &mut self.index, &mut self.bans, change),
             Plan::Channels(_, _) => {}
+            Plan::Info(_, _) => {}
         }
     }
 }

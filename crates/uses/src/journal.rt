@@ -4,9 +4,13 @@ use bytejournal::Journal;
 use disks::MemDisk;
 use std::alloc::Global;
 
+// The number of a layout, which is for whoever reads the base and the entries.
+const LAYOUT: u8 = 1;
+
 /// How many entries a journal has, after one was appended and what was not synced is lost.
 pub fn kept(alloc: Global) -> Result<usize, Error> {
-    let made = Journal::create(alloc, MemDisk::new(alloc), MemDisk::new(alloc), b"base");
+    let (first, second) = (MemDisk::new(alloc), MemDisk::new(alloc));
+    let made = Journal::create(alloc, first, second, LAYOUT, b"base");
     let mut journal = match made {
         Ok(journal) => journal,
         Err(returned) => return Err(returned.error.into()),

@@ -46,7 +46,7 @@ fn packet_of(alloc: Global, kind: &[u8], words: &[Text]) -> Result<Packet, CaseE
         return Err(BAD_WORDS);
     };
     match (*kind, words) {
-        (Kind::Hello, [leaf, version]) => hello(leaf, version),
+        (Kind::Hello, [layout, leaf, version]) => hello(layout, leaf, version),
         (Kind::Change, [place, origin, request, change]) => {
             changed(place, origin, request, change_of(alloc, change)?)
         }
@@ -60,12 +60,20 @@ fn packet_of(alloc: Global, kind: &[u8], words: &[Text]) -> Result<Packet, CaseE
     }
 }
 
-fn hello(leaf: &Text, version: &Text) -> Result<Packet, CaseError>
+fn hello(layout: &Text, leaf: &Text, version: &Text) -> Result<Packet, CaseError>
     ensures { IfOk result (λ packet. CanBeWritten packet) }
 {
+    let layout: u8 = number(layout.as_bytes())?;
+    if layout == 0 {
+        return Err(BAD_NUMBER);
+    }
     let leaf = number(leaf.as_bytes())?;
     let version = number(version.as_bytes())?;
-    Ok(Packet::Hello { leaf, version })
+    Ok(Packet::Hello {
+        layout,
+        leaf,
+        version,
+    })
 }
 
 fn changed(place: &Text, origin: &Text, request: &Text, change: Change) -> Result<Packet, CaseError>
@@ -209,12 +217,14 @@ fn put_feed(alloc: Global, feed: &Feed, out: &mut Sink) {
 // A packet in the words that `frame` takes.
 fn put_packet(alloc: Global, packet: &Packet, out: &mut Sink) {
     match packet {
-        Packet::Hello { leaf, version } => put_numbers(
-            b"hello",
-            u64::from(*leaf),
-            u64::from(*version),
-            out,
-        ),
+        Packet::Hello {
+            layout,
+            leaf,
+            version,
+        } => {
+            put_numbers(b"hello", u64::from(*layout), u64::from(*leaf), out);
+            put_number(u64::from(*version), out);
+        }
         Packet::Change {
             number,
             origin,

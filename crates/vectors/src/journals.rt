@@ -11,9 +11,9 @@ use disks::{MemDisk, Tear};
 use std::alloc::Global;
 
 /// `journal STEP..`: what each step answers, with ` ; ` between. A step is one word: `append ENTRY`, `rebase BASE`,
-/// `fail DISK CALL TEAR` or `restart`.
+/// `renew LAYOUT BASE`, `layout`, `fail DISK CALL TEAR` or `restart`.
 pub fn journal(alloc: Global, words: &[Text], out: &mut Sink) -> Result<(), CaseError> {
-    let made = Journal::create(alloc, MemDisk::new(alloc), MemDisk::new(alloc), b"base");
+    let made = Journal::create(alloc, MemDisk::new(alloc), MemDisk::new(alloc), 1, b"base");
     let Some(mut journal) = or_told(made, out)? else {
         return Ok(());
     };
@@ -32,14 +32,18 @@ pub fn journal(alloc: Global, words: &[Text], out: &mut Sink) -> Result<(), Case
 enum Step {
     Append,
     Fail,
+    Layout,
     Rebase,
+    Renew,
     Restart,
 }
 
-const STEPS: [(&[u8], Step); 4] = [
+const STEPS: [(&[u8], Step); 6] = [
     (b"append", Step::Append),
     (b"fail", Step::Fail),
+    (b"layout", Step::Layout),
     (b"rebase", Step::Rebase),
+    (b"renew", Step::Renew),
     (b"restart", Step::Restart),
 ];
 
@@ -65,8 +69,19 @@ fn make(
             Ok(Some(journal))
         }
         Step::Rebase => {
-            let answer = journal.rebase(alloc, short(rest)?);
+            let layout = journal.layout();
+            let answer = journal.rebase(alloc, layout, short(rest)?);
             tell(answer, out)?;
+            Ok(Some(journal))
+        }
+        Step::Renew => {
+            let (layout, base) = cut(rest, b' ');
+            let answer = journal.rebase(alloc, number(layout)?, short(base)?);
+            tell(answer, out)?;
+            Ok(Some(journal))
+        }
+        Step::Layout => {
+            out.number(u64::from(journal.layout()));
             Ok(Some(journal))
         }
         Step::Fail => planned(alloc, journal, rest, out),

@@ -22,6 +22,7 @@
 //! | `binds STEP..` | what each step answers |
 //! | `spell CHANGE` | the bytes that spell the change, or the code of its shape |
 //! | `change BYTES`, `record BYTES` | how many bytes spell a change or record, and what they spell, or the code |
+//! | `oldchange BYTES`, `oldrecord BYTES` | the same of a change or record of layout 1 |
 //! | `respell change\|record BYTES` | the bytes that spell what was read, or the code |
 //! | `frame PACKET` | the bytes that spell the packet |
 //! | `frames PIECE..` | of each piece of a stream the packets that end in it and the code of the fault, or `none` |
@@ -33,6 +34,8 @@
 //! | `person WHO CHANGE..` | the handle of who WHO is, `*` for nobody |
 //! | `userflags HANDLE CHANNEL CHANGE..` | the user's flags everywhere, on the channel and as a bot, `-` for none |
 //! | `ban CHANNEL WHO MOMENT CHANGE..` | channel (`*` for all) and mask of the ban that keeps WHO off, or `no ban` |
+//! | `info HANDLE CHANGE..` | the user's info text between quotes, empty for no user |
+//! | `sticky CHANNEL MASK MOMENT CHANGE..` | channel and mask of the ban that comes back where MASK is taken off, or `no ban` |
 //! | `chan NICK LINE.. members CHANNEL` | the members in order, each as `@%+nick!user@host`, or `nobody` |
 //! | `chan NICK LINE.. topic CHANNEL` | `topic 'TEXT'` or `not held` |
 //! | `chan NICK LINE.. op CHANNEL NICK` | `op` or `no op` |
@@ -57,8 +60,9 @@
 //! `drain NOW`, which answer the lines that go or `none`; and `len QUEUE` and `clear QUEUE`, which answer a number. QUEUE is
 //! `mode`, `server` or `help`, for the last two `all` too. Each step is one word, and ` ; ` stands between the answers.
 //!
-//! `journal` makes a journal with the base `base` on two empty disks in memory. Its steps are `append ENTRY` and `rebase
-//! BASE`, which answer `ok` or the code; `fail DISK CALL TEAR`, by which the stated write or sync of the `first` or
+//! `journal` makes a journal of layout 1 with the base `base` on two empty disks in memory. Its steps are `append ENTRY`,
+//! `rebase BASE` and `renew LAYOUT BASE`, a rebase that writes another layout, which answer `ok` or the code; `layout`,
+//! which answers that of the journal; `fail DISK CALL TEAR`, by which the stated write or sync of the `first` or
 //! `second` disk, counted from now on, fails and all later ones of it, until a restart, which then finds what TEAR says in
 //! the ranges that weren't kept: `old` or `new` bytes, or this number in each byte; and `restart`, which answers the base
 //! and the entries, with `, ` between, or the code.
@@ -68,7 +72,7 @@
 //! SUBJECT of cron is a moment, whose minute is that of UTC; and `list`, which answers `NUMBER KIND FLAGS PROC MASK` of
 //! each bind. The last two answer `none` where there is none.
 //!
-//! A PACKET is words: `hello LEAF VERSION`, `change NUMBER ORIGIN REQUEST CHANGE`, `request LEAF REQUEST CHANGE`,
+//! A PACKET is words: `hello LAYOUT LEAF VERSION`, `change NUMBER ORIGIN REQUEST CHANGE`, `request LEAF REQUEST CHANGE`,
 //! `accepted LEAF REQUEST NUMBER`, `refused LEAF REQUEST CODE` or `text FROM TO TEXT`. `frames` also writes `part VERSION
 //! PART COUNT RECORDS`, RECORDS being how many records it has.
 //!

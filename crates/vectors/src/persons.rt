@@ -54,6 +54,42 @@ pub fn ban(alloc: Global, words: &[Text], out: &mut Sink) -> Result<(), CaseErro
     Ok(())
 }
 
+/// `info HANDLE CHANGE..`: the info text of the user of this handle between quotes, or the code of the first change that is
+/// refused.
+pub fn info(alloc: Global, words: &[Text], out: &mut Sink) -> Result<(), CaseError> {
+    let [handle, changes @ ..] = words else {
+        return Err(BAD_WORDS);
+    };
+    let mut userfile = Userfile::new(alloc);
+    match make_all(alloc, &mut userfile, changes)? {
+        None => {
+            out.put(b"'");
+            out.put(userfile.info_of(handle.as_bytes()));
+            out.put(b"'");
+        }
+        Some(fault) => out.put(fault.code().as_bytes()),
+    }
+    Ok(())
+}
+
+/// `sticky CHANNEL MASK MOMENT CHANGE..`: the first ban that comes back to the channel at this second where the mask is taken
+/// off it, or the code of the first change that is refused.
+pub fn sticky(alloc: Global, words: &[Text], out: &mut Sink) -> Result<(), CaseError> {
+    let [channel, mask, moment, changes @ ..] = words else {
+        return Err(BAD_WORDS);
+    };
+    let moment = number(moment.as_bytes())?;
+    let mut userfile = Userfile::new(alloc);
+    match make_all(alloc, &mut userfile, changes)? {
+        None => ban_shown(
+            userfile.sticky_ban(channel.as_bytes(), mask.as_bytes(), moment),
+            out,
+        ),
+        Some(fault) => out.put(fault.code().as_bytes()),
+    }
+    Ok(())
+}
+
 fn three_shown(alloc: Global, flags: PersonFlags, out: &mut Sink) {
     out.flags(alloc, flags.global);
     out.put(b" ");

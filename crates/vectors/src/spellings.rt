@@ -2,7 +2,10 @@
 use bytetext::Text;
 use caselines::{BAD_WORDS, CaseError, Sink, put_change, put_record};
 use std::alloc::Global;
-use usercodec::{CodecError, read_change, read_record, write_change, write_record};
+use usercodec::{
+    CodecError, Decoded, Record, read_change, read_change_old, read_record, read_record_old,
+    write_change, write_record,
+};
 use userfile::{Change, shape};
 
 /// `spell CHANGE`: the bytes that spell a change, or the code of what is wrong with its shape.
@@ -26,10 +29,38 @@ fn spell_change(alloc: Global, change: &Change, out: &mut Sink) -> Result<(), Ca
 
 /// `change BYTES`: how many bytes spell a change, and the change, or the code.
 pub fn change(alloc: Global, words: &[Text], out: &mut Sink) -> Result<(), CaseError> {
-    let [bytes] = words else {
-        return Err(BAD_WORDS);
-    };
-    match read_change(alloc, bytes.as_bytes()) {
+    change_shown(alloc, read_change(alloc, only(words)?), out)
+}
+
+/// `oldchange BYTES`: the same of layout 1.
+pub fn old_change(alloc: Global, words: &[Text], out: &mut Sink) -> Result<(), CaseError> {
+    change_shown(alloc, read_change_old(alloc, only(words)?), out)
+}
+
+/// `record BYTES`: how many bytes spell a record, and the record, or the code.
+pub fn record(alloc: Global, words: &[Text], out: &mut Sink) -> Result<(), CaseError> {
+    record_shown(alloc, read_record(alloc, only(words)?), out)
+}
+
+/// `oldrecord BYTES`: the same of layout 1.
+pub fn old_record(alloc: Global, words: &[Text], out: &mut Sink) -> Result<(), CaseError> {
+    record_shown(alloc, read_record_old(alloc, only(words)?), out)
+}
+
+// The bytes of a case that has them alone.
+fn only(words: &[Text]) -> Result<&[u8], CaseError> {
+    match words {
+        [bytes] => Ok(bytes.as_bytes()),
+        _ => Err(BAD_WORDS),
+    }
+}
+
+fn change_shown(
+    alloc: Global,
+    answer: Result<Decoded<Change>, CodecError>,
+    out: &mut Sink,
+) -> Result<(), CaseError> {
+    match answer {
         Ok(read) => {
             out.number(read.used as u64);
             out.put(b" ");
@@ -40,12 +71,12 @@ pub fn change(alloc: Global, words: &[Text], out: &mut Sink) -> Result<(), CaseE
     }
 }
 
-/// `record BYTES`: how many bytes spell a record, and the record, or the code.
-pub fn record(alloc: Global, words: &[Text], out: &mut Sink) -> Result<(), CaseError> {
-    let [bytes] = words else {
-        return Err(BAD_WORDS);
-    };
-    match read_record(alloc, bytes.as_bytes()) {
+fn record_shown(
+    alloc: Global,
+    answer: Result<Decoded<Record>, CodecError>,
+    out: &mut Sink,
+) -> Result<(), CaseError> {
+    match answer {
         Ok(read) => {
             out.number(read.used as u64);
             out.put(b" ");

@@ -1,4 +1,4 @@
-use Rattle.std.proofs.Common.{◌≡◌, ℕ, Bool, true, false, List, Option, refl, ap, ◌∙◌}
+use Rattle.std.proofs.Common.{◌≡◌, ◌≢◌, ℕ, Bool, true, false, List, Option, refl, ap, ◌∙◌}
 use Rattle.std.specs.Prelude.{codes, if◌then◌else◌, unwrap_or}
 use Rattle.std.specs.List.{flat_map}
 use Rattle.ircline.specs.declared.message.Message.{Message}
@@ -18,30 +18,32 @@ use Rattle.botcore.proofs.JoiningLemmas.{watched-after}
 use Rattle.botcore.proofs.automatic_laws.laws_of_automatic_lines.Goals as goal
 
 -- the command whose cue is JOIN
-second_of : (a b c d : Bool)
-    → (if a then cue.Ping else (if b then cue.Join else (if c then cue.RplWelcome else (if d then cue.ErrNicknameInUse else cue.Other)))) ≡ cue.Join
-    → b ≡ true
-second_of true b c d is = cc
-second_of false true c d is = refl
-second_of false false true d is = cc
-second_of false false false true is = cc
-second_of false false false false is = cc
+second_of : (a b c d e : Bool)
+    → (if a then cue.Ping else (if b then cue.Join else (if c then cue.Mode else (if d then cue.RplWelcome else (if e then cue.ErrNicknameInUse else cue.Other)))))
+    ≡ cue.Join → b ≡ true
+second_of true b c d e is = cc
+second_of false true c d e is = refl
+second_of false false true d e is = cc
+second_of false false false true e is = cc
+second_of false false false false true is = cc
+second_of false false false false false is = cc
 
 join_verb : (command : List ℕ) → cue_of command ≡ cue.Join → verb_of command ≡ verb.Join
-join_verb command is = ap verb_of (pointwise-same command (codes "JOIN") (second_of _ _ _ _ is))
+join_verb command is = ap verb_of (pointwise-same command (codes "JOIN") (second_of _ _ _ _ _ is))
 
 alike : (c : Cue) (config : Config) (s : ChanState) (bans : List Ban) (last : Option ℕ) (welcomed : Bool) (message : Message)
-    → cue_of message.command ≡ c
+    → cue_of message.command ≡ c → c ≢ cue.Mode
     → lines_by c config (after message s) bans last welcomed message ≡ lines_by c config s bans last welcomed message
-alike cue.Ping config s bans last welcomed message is = refl
-alike cue.Join config s bans last welcomed message is =
+alike cue.Ping config s bans last welcomed message is other = refl
+alike cue.Join config s bans last welcomed message is other =
     let from = source_of message.prefix in
     ap (flat_map (barred bans (unwrap_or last 0) from))
     (ap (λ (v : Verb). watched from message.params (steps (items_by v from message.params) s)) (join_verb message.command is)
     ∙ watched-after from message.params s)
-alike cue.RplWelcome config s bans last welcomed message is = refl
-alike cue.ErrNicknameInUse config s bans last welcomed message is = refl
-alike cue.Other config s bans last welcomed message is = refl
+alike cue.Mode config s bans last welcomed message is other = absurd (other refl)
+alike cue.RplWelcome config s bans last welcomed message is other = refl
+alike cue.ErrNicknameInUse config s bans last welcomed message is other = refl
+alike cue.Other config s bans last welcomed message is other = refl
 
 pub returns : goal.returns
-returns c = λ config s bans last welcomed message. alike (cue_of message.command) config s bans last welcomed message refl
+returns c = λ config s bans last welcomed message other. alike (cue_of message.command) config s bans last welcomed message refl other

@@ -1,12 +1,13 @@
 use Rattle.std.proofs.Common.{◌∙◌, ◌++◌, ap, sym}
 use Rattle.ircline.specs.Stream.{lines_of}
 use Rattle.botdrive.specs.Outboxes.{course_of}
-use Rattle.botdrive.proofs.DrivingLemmas.{HearsFirst-none, HearsFirst-if, OnErr-of}
+use Rattle.botcore.proofs.BackLemmas.{on_err}
+use Rattle.botdrive.proofs.DrivingLemmas.{HearsFirst-none, HearsFirst-if}
 use Rattle.botdrive.proofs.hearing.hear_bytes.Goals as goal
 
 pub returns-in_err-ended-clause-err : goal.returns-in_err-ended-clause-err
 returns-in_err-ended-clause-err g c =
-    OnErr-of c.from_residual.result
+    on_err c.from_residual.result
     (HearsFirst-none g.P.Promise.promised c.args.store.now (course_of c.args.bot.now c.args.outbox.now)
     c.args.lines.now c.args.bytes.now)
 

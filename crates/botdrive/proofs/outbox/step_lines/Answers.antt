@@ -1,5 +1,6 @@
 use Rattle.botdrive.specs.Outboxes.{course_of}
-use Rattle.botdrive.proofs.DrivingLemmas.{Makes-none, Makes-next, MakesFirst-at, OnErr-of}
+use Rattle.botcore.proofs.BackLemmas.{on_err}
+use Rattle.botdrive.proofs.DrivingLemmas.{Makes-none, Makes-next, MakesFirst-at}
 use Rattle.botdrive.proofs.outbox.step_lines.Goals as goal
 
 pub loop-line-init : goal.loop-line-init
@@ -7,7 +8,7 @@ loop-line-init g c = Makes-none g.P.Promise.promised c.args.store.now (course_of
 
 pub returns-in_err-step_line-clause-err : goal.returns-in_err-step_line-clause-err
 returns-in_err-step_line-clause-err g c =
-    OnErr-of c.from_residual.result
+    on_err c.from_residual.result
     (MakesFirst-at g.P.Promise.promised c.args.store.now (course_of c.args.bot.now c.args.outbox.now)
     (course_of c.loop-line.bot c.loop-line.outbox) (course_of c.step_line.new.bot c.step_line.new.outbox)
     c.args.lines.now c.loop-line.line-index c.loop-line.invariant c.in_err-step_line.ensures.err)

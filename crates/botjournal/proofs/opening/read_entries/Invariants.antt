@@ -8,4 +8,4 @@ use Rattle.botjournal.proofs.opening.read_entries.Given as goal
 -- those so far before those that are left are all of them, and each has a spelling
 abbrev pub invariant-loop-text : goal.invariant-loop-text
 invariant-loop-text l =
-    (entries_in l.texts ≡ all_before l.entries.items (entries_in (drop l.text-index l.texts))) × AllByRecursion IsGoodEntry l.entries.items
+    (entries_in l.layout l.texts ≡ all_before l.entries.items (entries_in l.layout (drop l.text-index l.texts))) × AllByRecursion IsGoodEntry l.entries.items

@@ -4,7 +4,8 @@ use Rattle.rfccase.specs.Casemapping.{is_same}
 use Rattle.chanstate.specs.Seats.{seated}
 use Rattle.chanstate.specs.Firsts.{first_changed, first_removed}
 use Rattle.chanstate.specs.Members.{is_called, with_nick}
-use Rattle.chanstate.proofs.SeatLemmas.{has-none, has-is, none-is}
+use Rattle.chanstate.proofs.FindLemmas.{none-is}
+use Rattle.chanstate.proofs.SeatLemmas.{has-none, has-is}
 use Rattle.chanstate.proofs.seats.rename_in.Goals as goal
 
 pub returns-then-is_none-clause-renamed : goal.returns-then-is_none-clause-renamed

@@ -1,5 +1,5 @@
 use Rattle.eggprocs.specs.declared.which.Which.TheVariants as which
-use Rattle.eggprocs.proofs.LawLemmas.{asks-no-change, is_master-lacks, plus_user-asks, minus_user-asks, plus_host-asks, minus_host-asks, chattr-asks, whois-asks}
+use Rattle.eggprocs.proofs.LawLemmas.{asks-no-change, is_master-lacks, plus_user-asks, minus_user-asks, plus_host-asks, minus_host-asks, chattr-asks, whois-asks, stick-asks, unstick-asks, bans-asks}
 use Rattle.eggprocs.proofs.laws.changes_want_a_master.Goals as goal
 
 pub returns-clause-plus_user : goal.returns-clause-plus_user
@@ -25,3 +25,15 @@ returns-clause-chattr c = λ call seen master owner.
 pub returns-clause-whois : goal.returns-clause-whois
 returns-clause-whois c = λ call seen master owner.
     asks-no-change which.Whois call seen (whois-asks call seen)
+
+pub returns-clause-stick : goal.returns-clause-stick
+returns-clause-stick c = λ call seen master owner.
+    asks-no-change which.Stick call seen (stick-asks call seen (is_master-lacks call seen master owner))
+
+pub returns-clause-unstick : goal.returns-clause-unstick
+returns-clause-unstick c = λ call seen master owner.
+    asks-no-change which.Unstick call seen (unstick-asks call seen (is_master-lacks call seen master owner))
+
+pub returns-clause-bans : goal.returns-clause-bans
+returns-clause-bans c = λ call seen master owner.
+    asks-no-change which.Bans call seen (bans-asks call seen)

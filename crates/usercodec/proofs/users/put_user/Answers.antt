@@ -9,3 +9,6 @@ put_text-requires c = short_as c.as_bytes.result.now c.args.user.now.handle c.as
 
 pub put_entries-requires-clause-good : goal.put_entries-requires-clause-good
 put_entries-requires-clause-good c = ap (list_all is_entry) c.as_slice-2.ensures ∙ (user_texts c.args.user.now c.requires.own).1
+
+pub put_text-requires-2 : goal.put_text-requires-2
+put_text-requires-2 c = short_as c.as_bytes-2.result.now c.args.user.now.info c.as_bytes-2.ensures (user_texts c.args.user.now c.requires.own).2

@@ -6,7 +6,7 @@ use Rattle.bytejournal.proofs.Pairs.{either_comm, pair}
 use Rattle.bytejournal.proofs.Appending.{nothing_happens}
 use Rattle.botjournal.specs.Entries.{entry_bytes}
 use Rattle.botjournal.proofs.LengthLaws.{entry_is_short}
-use Rattle.botjournal.proofs.JournalLaws.{append_moments, append_row, append_sound}
+use Rattle.botjournal.proofs.JournalLaws.{texts_current, append_moments, append_row, append_sound}
 use Rattle.botjournal.proofs.journal.Journal.append.Goals as goal
 
 pub returns-in_err-text-clause-any_moment : goal.returns-in_err-text-clause-any_moment
@@ -16,7 +16,7 @@ returns-in_err-text-clause-any_moment g c going =
     let entry = c.args.entry.now in
     let after = option_map (added_text (entry_bytes entry)) (texts_of state j) in
     let rest = c.requires.sound going in
-    append_moments state j entry (entry_bytes entry) c.requires.good refl rest.some j
+    append_moments state j entry (entry_bytes entry) c.requires.good refl rest.some (texts_current state j rest c.requires.current) j
     (pair state j.swapped _ _ _ _ _ (either_comm (HoldsOne state j) (texts_of state j) after)
     (nothing_happens state j rest.texts after))
 
@@ -27,16 +27,17 @@ append_text-requires-clause-small g c =
 pub returns-clause-sound : goal.returns-clause-sound
 returns-clause-sound g c =
     append_sound g.D.Disk.state c.args.self.now c.append_text.new.self c.args.entry.now c.deref.result.now
-    c.requires.good (c.deref.ensures.value ∙ c.in_ok-text.ensures) c.requires.sound c.append_text.ensures.any_moment c.append_text.ensures.sound
+    c.requires.good (c.deref.ensures.value ∙ c.in_ok-text.ensures) c.requires.sound c.requires.current c.append_text.ensures.any_moment c.append_text.ensures.sound
     c.append_text.result c.append_text.ensures.row
 
 pub returns-clause-row : goal.returns-clause-row
 returns-clause-row g c =
     append_row g.D.Disk.state c.args.self.now c.append_text.new.self c.args.entry.now c.deref.result.now
-    c.requires.good (c.deref.ensures.value ∙ c.in_ok-text.ensures) c.requires.sound c.append_text.ensures.any_moment c.append_text.result
+    c.requires.good (c.deref.ensures.value ∙ c.in_ok-text.ensures) c.requires.sound c.requires.current c.append_text.ensures.any_moment c.append_text.result
     c.append_text.ensures.row
 
 pub returns-clause-any_moment : goal.returns-clause-any_moment
 returns-clause-any_moment g c going =
     append_moments g.D.Disk.state c.args.self.now c.args.entry.now c.deref.result.now c.requires.good
-    (c.deref.ensures.value ∙ c.in_ok-text.ensures) (c.requires.sound going).some c.append_text.new.self (c.append_text.ensures.any_moment going)
+    (c.deref.ensures.value ∙ c.in_ok-text.ensures) (c.requires.sound going).some
+    (texts_current g.D.Disk.state c.args.self.now (c.requires.sound going) c.requires.current) c.append_text.new.self (c.append_text.ensures.any_moment going)

@@ -4,6 +4,7 @@ use Rattle.bytejournal.specs.Meaning.{rebased as rebased_text}
 use Rattle.bytejournal.specs.Journal.{HoldsOne, contents_of as texts_of}
 use Rattle.bytejournal.proofs.Pairs.{either_comm, pair}
 use Rattle.bytejournal.proofs.Appending.{nothing_happens}
+use Rattle.botjournal.specs.declared.TheConstants.{LAYOUT}
 use Rattle.botjournal.specs.Bases.{base_bytes}
 use Rattle.botjournal.proofs.LengthLaws.{base_is_short, shapes_are}
 use Rattle.botjournal.proofs.JournalLaws.{rebase_moments, rebase_row, rebase_sound}
@@ -14,7 +15,7 @@ returns-then-generations_spent-clause-any_moment g c going =
     let j = c.args.self.now in
     let state = g.D.Disk.state in
     let base = c.args.base.now in
-    let after = option_map (rebased_text (base_bytes base)) (texts_of state j) in
+    let after = option_map (rebased_text LAYOUT (base_bytes base)) (texts_of state j) in
     let rest = c.requires.sound going in
     rebase_moments state j base (base_bytes base) c.requires.good refl rest.some j
     (pair state j.swapped _ _ _ _ _ (either_comm (HoldsOne state j) (texts_of state j) after)
@@ -28,7 +29,7 @@ returns-in_err-text-clause-any_moment g c going =
     let j = c.args.self.now in
     let state = g.D.Disk.state in
     let base = c.args.base.now in
-    let after = option_map (rebased_text (base_bytes base)) (texts_of state j) in
+    let after = option_map (rebased_text LAYOUT (base_bytes base)) (texts_of state j) in
     let rest = c.requires.sound going in
     rebase_moments state j base (base_bytes base) c.requires.good refl rest.some j
     (pair state j.swapped _ _ _ _ _ (either_comm (HoldsOne state j) (texts_of state j) after)

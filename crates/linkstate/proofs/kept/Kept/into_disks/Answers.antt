@@ -1,7 +1,7 @@
 use Rattle.std.proofs.Common.{subst}
 use Rattle.std.specs.Option.{option_map}
 use Rattle.linkstate.specs.Kept.{Kept, AreOf}
-use Rattle.linkstate.proofs.KeptLaws.{leaves-own}
+use Rattle.linkstate.proofs.KeptLaws.{leaves-own, current-left}
 use Rattle.linkstate.proofs.kept.Kept.into_disks.Goals as goal
 
 pub returns : goal.returns
@@ -11,4 +11,6 @@ returns g c = record {
       subst (λ (k : Kept g.row.S.Denot g.row.S-Record.Denot). AreOf (g.S.EndState.meaning k.who) g.S.EndState.folded k.state k.doubt x y) c.self.view_is
       (leaves-own (g.S.EndState.meaning inside.who) g.S.EndState.folded inside.state inside.down (option_map (λ d. d.value) inside.doubt)
       inside.ledger.account x y c.self.invariant.2 (c.into_disks.ensures.left x y left right));
+  current = λ x y left right.
+      current-left c.self.inside.ledger.account x y c.self.invariant.3 (c.into_disks.ensures.left x y left right);
 }

@@ -1,5 +1,5 @@
 use Rattle.std.specs.Option.{option_map}
-use Rattle.linkstate.proofs.KeptLaws.{leaves-own, up-certain}
+use Rattle.linkstate.proofs.KeptLaws.{leaves-own, up-certain, current-left}
 use Rattle.linkstate.proofs.kept.Kept.know_disks.Goals as goal
 
 pub returns : goal.returns
@@ -9,6 +9,8 @@ returns g c =
     (record {
       left = λ x y left right. leaves-own (g.S.EndState.meaning inside.who) g.S.EndState.folded inside.state inside.down
           (option_map (λ d. d.value) inside.doubt) inside.ledger.account x y c.self.invariant.2 (c.know_disks.ensures.left x y left right);
+      current = λ x y left right.
+          current-left inside.ledger.account x y c.self.invariant.3 (c.know_disks.ensures.left x y left right);
       certain = up-certain (g.S.EndState.meaning inside.who) g.S.EndState.folded inside.state inside.down
           (option_map (λ d. d.value) inside.doubt) inside.ledger.account c.self.invariant.2;
     })

@@ -4,7 +4,7 @@ use Rattle.protocol.specs.Notes.Note.{Served}
 use Rattle.linkcalls.specs.Calls.{outgoings_of}
 use Rattle.hublink.specs.Link.{HubEnd, hello_sends}
 use Rattle.hublink.proofs.PacketLaws.{hello-served}
-use Rattle.hublink.proofs.link.HubLink.receive_hello.Goals as goal
+use Rattle.hublink.proofs.link.HubLink.meet_hello.Goals as goal
 
 pub returns-clause-row : goal.returns-clause-row
 returns-clause-row g c =

@@ -1,0 +1,56 @@
+// How changes and records are spelled, by the layout.
+ghost use Rattle.std.specs.Prelude.{◌≡◌};
+ghost use Rattle.usercodec.specs.Answers.{Makes, Finds};
+ghost use Rattle.botjournal.specs.Layouts.{layout_of, change_by, so_many_records_by};
+
+use crate::LAYOUT;
+use std::alloc::Global;
+use usercodec::{CodecError, Reader, Record};
+use userfile::Change;
+
+/// A layout that is read.
+#[derive(Clone, Copy)]
+pub(crate) enum Layout {
+    /// The layout 1, which had no info texts and no sticky bans. Nothing is written in it any more.
+    First,
+    /// The layout that is written.
+    Second,
+}
+
+/// The layout of this number, where it is one that is read.
+pub(crate) fn layout_of(number: u8) -> Option<Layout>
+    ensures { result ≡ layout_of number }
+{
+    match number {
+        1 => Some(Layout::First),
+        LAYOUT => Some(Layout::Second),
+        _ => None,
+    }
+}
+
+pub(crate) fn change(
+    alloc: Global,
+    layout: Layout,
+    reader: &mut Reader<'_>,
+) -> Result<Change, CodecError>
+    ensures { Makes (λ change. (change, reader.new)) result (change_by layout reader.old) }
+{
+    match layout {
+        Layout::First => reader.change_old(alloc),
+        Layout::Second => reader.change(alloc),
+    }
+}
+
+pub(crate) fn so_many_records(
+    alloc: Global,
+    layout: Layout,
+    reader: &mut Reader<'_>,
+    count: usize,
+) -> Result<Vec<Record>, CodecError>
+    ensures { Finds (λ records. (records.items, reader.new)) result (so_many_records_by layout count reader.old) }
+{
+    match layout {
+        Layout::First => reader.records_old(alloc, count),
+        Layout::Second => reader.records(alloc, count),
+    }
+}

@@ -1,0 +1,56 @@
+-- What `info` and `greet` ask for, by the info lines of users.
+use Rattle.std.specs.Prelude.{ℕ, ◌==◌, not, ◌&&◌, List, [], ◌∷◌, ◌++◌, length, if◌then◌else◌, codes}
+use Rattle.std.specs.Str.{bytes_eq}
+use Rattle.userfile.specs.declared.change.Change.{Change}
+use Rattle.userfile.specs.declared.change.Change.TheVariants.{SetInfo}
+use Rattle.userfile.specs.Apply.{refusal}
+use Rattle.userfile.specs.Held.{has_user}
+use Rattle.userfile.specs.Persons.{info_of}
+use Rattle.outqueue.specs.declared.queue.Queue.TheVariants.{Help}
+use Rattle.procstore.specs.declared.action.Action.{Action}
+use Rattle.procstore.specs.declared.call.Call.{Call}
+use Rattle.procstore.specs.Seen.{Seen}
+use Rattle.eggprocs.specs.Args.{nick_of, handle_of, channel_of, told_of, or_else}
+use Rattle.eggprocs.specs.Channel.{put}
+use Rattle.eggprocs.specs.Lines.{privmsg}
+use Rattle.eggprocs.specs.People.{told, asked_unless}
+use Rattle.eggprocs.specs.Rights.{is_join, is_msg}
+
+-- the info line of who calls
+abbrev pub info_by : Call → Seen → List ℕ
+info_by call seen = info_of seen.sight.records.users (handle_of call)
+
+-- ---- info
+
+-- the info line that a text means: itself, and an empty one for the word none
+abbrev pub info_in : List ℕ → List ℕ
+info_in text = if bytes_eq text (codes "none") then [] else text
+
+-- the change that a text means: of the info line of who calls
+abbrev pub set_by : Call → Change
+set_by call = SetInfo (handle_of call) (info_in (told_of call))
+
+-- what `info` asks for of whom the userfile knows: to be told the own info line, or that it is what the text means
+abbrev pub asked_by_known : Call → Seen → List Action
+asked_by_known call seen =
+    if length (told_of call) == 0 then told call (or_else (info_by call seen) (codes "you have no info line")) ∷ []
+    else asked_unless (refusal seen.sight.records (set_by call)) call (set_by call)
+
+abbrev pub asked_by_info : Call → Seen → List Action
+asked_by_info call seen =
+    if not (is_msg call.kind) then []
+    else if has_user (handle_of call) seen.sight.records.users then asked_by_known call seen
+    else told call (codes "you are not known here") ∷ []
+
+-- ---- greet
+
+-- [NICK] TEXT
+abbrev pub greeting : List ℕ → List ℕ → List ℕ
+greeting nick info = codes "[" ++ nick ++ codes "] " ++ info
+
+-- what `greet` asks for: that the info line of who joins is said on the channel, where there is one
+abbrev pub asked_by_greet : Call → Seen → List Action
+asked_by_greet call seen =
+    if is_join call.kind && not (length (info_by call seen) == 0)
+    then put Help (privmsg (channel_of call) (greeting (nick_of call) (info_by call seen))) ∷ []
+    else []

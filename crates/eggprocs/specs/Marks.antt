@@ -1,0 +1,56 @@
+-- What `stick`, `unstick` and `bans` ask for.
+use Rattle.std.specs.Prelude.{ℕ, ◌-◌, Bool, true, false, List, [], ◌∷◌, ◌++◌, map, take, drop, if◌then◌else◌, unwrap_or, codes, Option, Some, None}
+use Rattle.scriptwords.specs.Words.{number_below}
+use Rattle.userfile.specs.declared.change.Change.{Change}
+use Rattle.userfile.specs.declared.change.Change.TheVariants.{SetSticky}
+use Rattle.userfile.specs.declared.ban.Ban.{Ban}
+use Rattle.chanstate.specs.Speech.{first_word, after_word}
+use Rattle.procstore.specs.declared.action.Action.{Action}
+use Rattle.procstore.specs.declared.call.Call.{Call}
+use Rattle.procstore.specs.declared.limits.TheConstants.{MAX_ACTIONS}
+use Rattle.procstore.specs.Seen.{Seen}
+use Rattle.eggprocs.specs.declared.rights.Standing.{Standing}
+use Rattle.eggprocs.specs.declared.rights.Standing.TheVariants.{Elsewhere, Stranger, Master}
+use Rattle.eggprocs.specs.Args.{told_of, has_word, or_else}
+use Rattle.eggprocs.specs.People.{told, for_masters}
+
+-- ---- the changes that texts mean
+
+-- MASK CHANNEL: of the ban of all channels where no channel is named
+abbrev pub marked : List ℕ → Bool → Option Change
+marked text on = if has_word text then Some (SetSticky (first_word (after_word text)) (first_word text) on) else None
+
+abbrev pub stick : List ℕ → Option Change
+stick text = marked text true
+
+abbrev pub unstick : List ℕ → Option Change
+unstick text = marked text false
+
+-- ---- bans
+
+-- a sticky ban's mark
+abbrev pub mark_text : Bool → List ℕ
+mark_text true = codes ", sticky"
+mark_text false = []
+
+-- CHANNEL MASK by HANDLE, with * for all channels
+abbrev pub ban_text : Ban → List ℕ
+ban_text ban = or_else ban.channel (codes "*") ++ codes " " ++ ban.mask ++ codes " by " ++ ban.creator ++ mark_text ban.sticky
+
+abbrev pub told_ban : Call → Ban → Action
+told_ban call ban = told call (ban_text ban)
+
+-- how many bans a text leaves out: those before the number that it begins with, counted from 1
+abbrev pub left_out : List ℕ → ℕ
+left_out text = unwrap_or (number_below 65536 (first_word text)) 1 - 1
+
+-- a line for each ban, and one where there is none
+abbrev pub told_bans : Call → List Ban → List Action
+told_bans call [] = told call (codes "there is no such ban") ∷ []
+told_bans call (ban ∷ bans) = map (told_ban call) (ban ∷ bans)
+
+-- what `bans` asks for: that a master is told the bans, as many as an answer has room for
+abbrev pub asked_by_bans : Standing → Call → Seen → List Action
+asked_by_bans Elsewhere call seen = []
+asked_by_bans Stranger call seen = told call for_masters ∷ []
+asked_by_bans Master call seen = told_bans call (take MAX_ACTIONS (drop (left_out (told_of call)) seen.sight.records.bans))

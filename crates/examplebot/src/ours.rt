@@ -1,0 +1,56 @@
+// What runs under the names, and what it promises.
+use crate::procs::{NAMES, actions_of};
+use bytetext::{NoMemory, Text};
+use procstore::{AddError, Call, Code, Proc, ProcStore, Promise, Reply, Run, View};
+use std::alloc::Global;
+
+/// What the procs of this program promise: `specs/Ours.antt` has it, proc by proc.
+#[derive(Drop)]
+pub struct Ours;
+
+impl Promise for Ours {
+    ghost use Rattle.examplebot.specs.Ours.{ours};
+
+    ghost promised = { ours };
+}
+
+/// The proc of a name. It makes its answers on an allocator of its own.
+#[derive(Drop)]
+pub struct OurProc {
+    alloc: Global,
+    name: Text,
+}
+
+impl Run for OurProc {
+    ghost use Rattle.std.specs.Prelude.{◌≡◌, IfOk};
+    ghost use Rattle.examplebot.specs.Ours.{reply_of};
+
+    ghost can_run = { λ proc. Unit {0} };
+
+    ghost answers = { λ proc call seen answer. IfOk answer (λ reply. reply ≡ reply_of proc.name call seen) };
+
+    fn run(&self, call: &Call, view: &View<'_>) -> Result<Reply, NoMemory> {
+        let code = Code::Zero;
+        let actions = actions_of(self.alloc, self.name.as_bytes(), call, view)?;
+        Ok(Reply { code, actions })
+    }
+}
+
+/// A store of all of them.
+///
+/// # Errors
+/// `NameTaken` where two have one name, and `NoMemory` where room is refused.
+pub(crate) fn store(alloc: Global) -> Result<ProcStore<Ours, OurProc>, AddError> {
+    let mut store = ProcStore::new(alloc);
+    for name in NAMES {
+        let name = Text::from_slice(alloc, name)?;
+        let body = OurProc {
+            alloc,
+            name: Text::from_slice(alloc, name.as_bytes())?,
+        };
+        if let Err(refused) = store.add(alloc, Proc::new(name, body)) {
+            return Err(refused.why);
+        }
+    }
+    Ok(store)
+}

@@ -1,0 +1,15 @@
+use Rattle.std.proofs.Common.{arith}
+use Rattle.usercodec.proofs.OldLaws.{record_sort_old}
+use Rattle.usercodec.proofs.SortLaws.{decodes}
+use Rattle.usercodec.proofs.old.decode_record.Goals as goal
+
+pub overflow_sub-result : goal.overflow_sub-result
+overflow_sub-result c =
+    (decodes record_sort_old c.args.bytes.now c.new-reader.result c.in_ok-value.value c.tagged_record_old.new.reader c.len.result
+    (λ i. omega (arith, c.type_inv.bytes i)) c.new-reader.ensures c.len.ensures c.in_ok-value.ensures).0
+
+pub returns : goal.returns
+returns c =
+    let whole = (decodes record_sort_old c.args.bytes.now c.new-reader.result c.in_ok-value.value c.tagged_record_old.new.reader c.len.result
+    (λ i. omega (arith, c.type_inv.bytes i)) c.new-reader.ensures c.len.ensures c.in_ok-value.ensures).1 in
+    (whole.0, whole.1)

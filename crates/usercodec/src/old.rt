@@ -1,0 +1,123 @@
+// Changes and records as layout 1 spelled them. Nothing writes them any more; a journal that has them is read once.
+ghost use Rattle.std.specs.Prelude.{◌≡◌, ℕ, List, ◌++◌, length, take, IfOk};
+ghost use Rattle.userfile.specs.declared.change.Change.{Change};
+ghost use Rattle.usercodec.specs.declared.records.Record.{Record};
+ghost use Rattle.usercodec.specs.Answers.{Makes, Decodes, Reads};
+ghost use Rattle.usercodec.specs.Old.{change_bytes_old, IsGoodChangeOld, fields_at_old, change_at_old};
+ghost use Rattle.usercodec.specs.Old.{record_bytes_old, IsGoodRecordOld, record_fields_at_old, record_at_old};
+
+use crate::bans::ban_fields;
+use crate::change_fields::fields;
+use crate::decoded::Decoded;
+use crate::fault::{CodecError, CodecFault};
+use crate::reader::Reader;
+use crate::records::Record;
+use crate::user_fields::plain_user_fields;
+use bytetext::Failure;
+use std::alloc::Global;
+use userfile::Change;
+
+/// The change at the front of some bytes, as layout 1 spelled it: as now, but without the tags 10 and 11.
+///
+/// # Errors
+/// As of [`read_change`](crate::read_change).
+pub fn read_change_old(alloc: Global, bytes: &[u8]) -> Result<Decoded<Change>, CodecError>
+    ensures good { IfOk result (λ read. IsGoodChangeOld read.value) }
+    // What is read was spelled so by layout 1.
+    ensures front { IfOk result (λ read. take read.used bytes.now ≡ change_bytes_old read.value) }
+    ensures used { IfOk result (λ read. read.used ≡ length (change_bytes_old read.value)) }
+    // What layout 1 spelled is read.
+    ensures only { (change : Change) (rest : List ℕ) → IsGoodChangeOld change
+        → bytes.now ≡ change_bytes_old change ++ rest → Reads result change (length (change_bytes_old change)) }
+    // Which fault it is.
+    ensures exact { Decodes bytes.now result (change_at_old bytes.now) }
+{
+    decode_change(alloc, bytes)
+}
+
+fn decode_change(alloc: Global, bytes: &[u8]) -> Result<Decoded<Change>, CodecError>
+    ensures { Decodes bytes.now result (change_at_old bytes.now) }
+{
+    let mut reader = Reader::new(bytes);
+    let value = change_old(alloc, &mut reader)?;
+    Ok(Decoded {
+        value,
+        used: bytes.len() - reader.len(),
+    })
+}
+
+#[tactic(auto, unfolding(crate::specs::Old::change_at_old))]
+pub(crate) fn change_old(alloc: Global, reader: &mut Reader<'_>) -> Result<Change, CodecError>
+    ensures { Makes (λ change. (change, reader.new)) result (change_at_old reader.old) }
+{
+    let tag = reader.byte()?;
+    fields_old(alloc, tag, reader)
+}
+
+#[tactic(auto, unfolding(crate::specs::Old::fields_at_old))]
+fn fields_old(alloc: Global, tag: u8, reader: &mut Reader<'_>) -> Result<Change, CodecError>
+    ensures { Makes (λ change. (change, reader.new)) result (fields_at_old tag reader.old) }
+{
+    if 1 <= tag && tag <= 9 {
+        return fields(alloc, tag, reader);
+    }
+    Err(Failure::Refused(CodecFault::BadTag))
+}
+
+/// The record at the front of some bytes, as layout 1 spelled it: the tags 1 and 2, a user without an info text and a
+/// ban that isn't sticky.
+///
+/// # Errors
+/// As of [`read_record`](crate::read_record).
+pub fn read_record_old(alloc: Global, bytes: &[u8]) -> Result<Decoded<Record>, CodecError>
+    ensures good { IfOk result (λ read. IsGoodRecordOld read.value) }
+    // What is read was spelled so by layout 1.
+    ensures front { IfOk result (λ read. take read.used bytes.now ≡ record_bytes_old read.value) }
+    ensures used { IfOk result (λ read. read.used ≡ length (record_bytes_old read.value)) }
+    // What layout 1 spelled is read.
+    ensures only { (value : Record) (rest : List ℕ) → IsGoodRecordOld value
+        → bytes.now ≡ record_bytes_old value ++ rest → Reads result value (length (record_bytes_old value)) }
+    // Which fault it is.
+    ensures exact { Decodes bytes.now result (record_at_old bytes.now) }
+{
+    decode_record(alloc, bytes)
+}
+
+fn decode_record(alloc: Global, bytes: &[u8]) -> Result<Decoded<Record>, CodecError>
+    ensures { Decodes bytes.now result (record_at_old bytes.now) }
+{
+    let mut reader = Reader::new(bytes);
+    let value = tagged_record_old(alloc, &mut reader)?;
+    Ok(Decoded {
+        value,
+        used: bytes.len() - reader.len(),
+    })
+}
+
+#[tactic(auto, unfolding(crate::specs::Old::record_at_old))]
+pub(crate) fn tagged_record_old(
+    alloc: Global,
+    reader: &mut Reader<'_>,
+) -> Result<Record, CodecError>
+    ensures { Makes (λ value. (value, reader.new)) result (record_at_old reader.old) }
+{
+    let tag = reader.byte()?;
+    record_fields_old(alloc, tag, reader)
+}
+
+#[tactic(auto, unfolding(crate::specs::Old::record_fields_at_old))]
+fn record_fields_old(alloc: Global, tag: u8, reader: &mut Reader<'_>) -> Result<Record, CodecError>
+    ensures { Makes (λ value. (value, reader.new)) result (record_fields_at_old tag reader.old) }
+{
+    match tag {
+        1 => {
+            let user = plain_user_fields(reader)?;
+            Ok(Record::User(user.copy(alloc)?))
+        }
+        2 => {
+            let ban = ban_fields(reader)?;
+            Ok(Record::Ban(ban.copy(alloc)?))
+        }
+        _ => Err(Failure::Refused(CodecFault::BadTag)),
+    }
+}
