@@ -56,6 +56,20 @@ def crates(names=()):
     return sorted(found, key=lambda it: len(it.below()))
 
 
+def take_kept(found):
+    """Gives crates, lowest first, what `rt ci` proved of the same text on this machine, and yields for each whether it could."""
+    rt.Crate.allowed = rt.handles_of(TOP)
+    kept = rt.Kept(found)
+    for crate in found:
+        given = [crate.makes_rlib() and crate.is_built() or kept.give(crate, False, kept.key(crate))]
+        given += [kept.give(crate, True, kept.key(crate))] if given[0] and crate.has_tests() else []
+        if crate.makes_rlib() and given[0]:
+            with open(f"{crate.folder}/out/rlib/stamp", "w", encoding="utf-8") as it:
+                it.write(crate.stamp())
+        kept.is_built(crate)
+        yield crate, all(given)
+
+
 def lanes():
     """Returns how many checks go side by side: as many as processors and free memory bear, or what RT_JOBS says."""
     said = os.environ.get("RT_JOBS", "")

@@ -14,8 +14,8 @@ PATIENCE = 20  # seconds
 
 
 def program_of(words):
-    """The program to try: the first word that is no number, else EGGNET, else ours, proved or unproved."""
-    named = [word for word in words if not word.isdigit()]
+    """The program to try: the first word that begins with no digit, else EGGNET, else ours, proved or unproved."""
+    named = [word for word in words if not word[:1].isdigit()]
     if named or os.environ.get("EGGNET"):
         return os.path.abspath(named[0] if named else os.environ["EGGNET"])
     ours = TOP / "crates/eggnet/out/eggnet"
@@ -85,6 +85,7 @@ class Server:
     """An IRC server of this machine, at a port that it keeps when it is stopped and started again."""
 
     password = ""
+    host = "127.0.0.1"  # as bots reach it
 
     def __init__(self, room):
         self.room, self.port, self.process = room, free_port(), None
@@ -255,11 +256,13 @@ class Guest:
 class Bot:
     """A bot of a configuration file, as a process."""
 
+    where = ()  # words that start its program at a place of its own
+
     def __init__(self, program, room, name, servers, lines=(), nick="egg"):
         self.program, self.name, self.nick = program, name, nick
         self.folder, self.config, self.log = f"{room}/{name}", f"{room}/{name}.conf", f"{room}/{name}.log"
         said = [f"data {self.folder}", f"nick {nick}"]
-        said += [f"server 127.0.0.1 {it.port} {it.password}".rstrip() for it in servers]
+        said += [f"server {it.host} {it.port} {it.password}".rstrip() for it in servers]
         Path(self.config).write_text("\n".join([*said, *lines]) + "\n", encoding="utf-8")
         self.process = None
 
@@ -282,8 +285,9 @@ class Bot:
         with open(self.log, "ab") as log:
             # The log goes through a pipe where files are limited, so that the limit is the journal's alone.
             out = subprocess.PIPE if limit is not None else log
-            self.process = subprocess.Popen([self.program, "run", self.config], stdin=subprocess.DEVNULL, stdout=out,
-                                            stderr=subprocess.STDOUT, preexec_fn=prepare, restore_signals=limit is None)
+            self.process = subprocess.Popen([*self.where, self.program, "run", self.config], stdin=subprocess.DEVNULL,
+                                            stdout=out, stderr=subprocess.STDOUT, preexec_fn=prepare,
+                                            restore_signals=limit is None)
         if limit is not None:
             self.drain = threading.Thread(target=self.keep_log, args=(self.process.stdout,), daemon=True)
             self.drain.start()

@@ -1,12 +1,16 @@
 """A hub, its leaves and a proxy between them, for trials/net."""
 import os
+import random
+import re
 import select
 import socket
+import struct
 import threading
 import time
 from pathlib import Path
 
 from bots import PATIENCE, Bot, free_port
+from spaces import Loopback
 
 SECRET = b"a secret of all bots of this trial"
 
@@ -23,18 +27,23 @@ def records_of(shown):
 
 
 class Net:
-    """A hub and leaves of one server; the leaves reach the hub by a proxy."""
+    """A hub and leaves of one server, each in a space of its own; the leaves reach the hub by a proxy in the middle.
+    They are at loopback addresses where no spaces are given."""
 
-    def __init__(self, program, room, server, leaves):
-        secret = f"{room}/secret"
+    def __init__(self, program, room, server, leaves, spaces=None):
+        self.server, spaces, secret = server, spaces or Loopback(), f"{room}/secret"
         Path(secret).write_bytes(SECRET + b"\n")
-        self.port, self.leaves = free_port(), leaves
-        self.proxy = Proxy(self.port)
-        hub = [f"bot 0 of {leaves}", f"listen 127.0.0.1 {self.port}", f"secret {secret}", "channel #egg"]
+        self.address, self.leaves, self.spaces = (spaces.address(0), free_port()), leaves, spaces
+        self.proxy = Proxy(((spaces.middle, 0), self.address))
+        self.doors = [self.proxy, *([door_of(server, spaces)] if spaces.are_apart else [])]
+        hub = [f"bot 0 of {leaves}", f"listen {self.address[0]} {self.address[1]}", f"secret {secret}", "channel #egg",
+               "bind msg - +user +user"]
         self.bots = [Bot(program, room, "hub", [server], hub, nick="egg0")]
         for number in range(1, leaves + 1):
-            lines = [f"bot {number} of {leaves}", f"hub 127.0.0.1 {self.proxy.port}", *hub[2:]]
+            lines = [f"bot {number} of {leaves}", f"hub {spaces.middle} {self.proxy.port}", *hub[2:]]
             self.bots.append(Bot(program, room, f"leaf{number}", [server], lines, nick=f"egg{number}"))
+        for place, bot in enumerate(self.bots):
+            bot.where = spaces.words(place)
 
     @staticmethod
     def ask(bot, line, count=2):
@@ -42,6 +51,21 @@ class Net:
         with Operator(bot) as operator:
             operator.say(line)
             return [operator.hears() for _ in range(count)]
+
+
+def door_of(server, spaces):
+    """Lets bots in other namespaces reach a server, which listens at 127.0.0.1 alone."""
+    server.host = spaces.middle
+    return Proxy(((spaces.middle, server.port), ("127.0.0.1", server.port)))
+
+
+def pull_a_wire(spaces, count):
+    """Pulls the wire of one of so many bots for some seconds. Whose it was."""
+    place = random.randrange(count)
+    spaces.plug(place, False)
+    time.sleep(random.uniform(1, 5))
+    spaces.plug(place, True)
+    return place
 
 
 class Operator:
@@ -78,17 +102,81 @@ class Operator:
             self.heard += came
 
 
-class Asker:
-    """Asks a bot for changes, one after another, and notes which were acknowledged, and under which numbers: users of
-    its own are added, and above so many of them the oldest is taken away again."""
+def adding(record):
+    return f"addban * {record} asker 0" if "!" in record else f"adduser {record}"
 
-    MOST = 30
+
+def taking(record):
+    return f"delban * {record}" if "!" in record else f"deluser {record}"
+
+
+def handles_and_masks(shown):
+    """The handles of the users, and the masks of the bans of all channels, in what a bot shows."""
+    words = [line.split() for line in records_of(shown)]
+    return [it[1] for it in words if it[0] == "user"] + [it[2] for it in words if it[:2] == ["ban", "*"]]
+
+
+class Claims:
+    """What somebody was told of users and bans that he asked for, which nobody else asks for."""
+
+    def __init__(self, name):
+        # Those that are there, and those of which it is not known; the numbers of what was acknowledged; how many were
+        # asked.
+        self.name, self.here, self.doubtful, self.numbers, self.asked = name, [], set(), [], 0
+
+    def wrong(self, records):
+        """Those of its own that should be there once and are not, or are there and should not be."""
+        own = [it for it in records if it.startswith(f"{self.name}x")]
+        lacks = [it for it in self.here if own.count(it) != 1]
+        known = {*self.here, *self.doubtful}
+        return lacks + [it for it in own if it not in known or own.count(it) != 1]
+
+
+class Speaker(Claims):
+    """A master on IRC, who asks one bot after another for users by messages."""
+
+    WAITS, AVOIDS = 30, 60
+
+    def __init__(self, bots, guest):
+        super().__init__("speaker")
+        self.bots, self.guest, self.goes_on, self.avoided, self.strange = bots, guest, True, {}, None
+        self.thread = threading.Thread(target=self.run, daemon=True)
+        self.thread.start()
+
+    def run(self):
+        while self.goes_on and self.guest.is_open:
+            self.ask(random.choice(self.bots))
+            time.sleep(1)
+
+    def ask(self, bot):
+        # What a bot says late is of another user than the one that is asked for next: it is left alone for some time.
+        if time.monotonic() < self.avoided.get(bot.nick, 0):
+            return
+        user = f"{self.name}x{self.asked}"
+        self.asked += 1
+        heard = self.guest.asks(f"PRIVMSG {bot.nick} :+user {user}", rf"^:{bot.nick}!\S+ NOTICE \S+ :", self.WAITS)
+        told = re.search(r" :accepted under number (\d+)$", heard or "")
+        if told:
+            self.here.append(user)
+            self.numbers.append(int(told[1]))
+        else:
+            self.doubtful.add(user)
+            self.avoided[bot.nick] = time.monotonic() + self.AVOIDS
+
+    def end(self):
+        self.goes_on = False
+        self.thread.join(self.WAITS + 5)
+
+
+class Asker(Claims):
+    """An operator who asks a bot for changes, one after another, and notes which were acknowledged, and under which
+    numbers: users and bans of its own are added, and above so many of them the oldest is taken away again."""
+
+    MOST, REST = 30, float(os.environ.get("REST", "0.02"))
 
     def __init__(self, bot, name):
-        self.bot, self.name, self.goes_on = bot, name, True
-        # Users that are there, and those of whom it is not known; the numbers of what was acknowledged; how many were
-        # asked.
-        self.here, self.doubtful, self.numbers, self.asked, self.strange = [], set(), [], 0, None
+        super().__init__(name)
+        self.bot, self.goes_on, self.strange = bot, True, None
         self.thread = threading.Thread(target=self.run, daemon=True)
         self.thread.start()
 
@@ -104,66 +192,71 @@ class Asker:
         """Asks until the bot is gone."""
         while self.goes_on and not self.strange:
             if len(self.here) > self.MOST:
-                user = self.here.pop(0)
-                line = f"deluser {user}"
+                record = self.here.pop(0)
+                line = taking(record)
             else:
-                user = f"{self.name}x{self.asked}"
-                line = f"adduser {user}"
+                record = f"{self.name}x{self.asked}{'!*@*' if self.asked % 3 == 2 else ''}"
+                line = adding(record)
             self.asked += 1
-            self.doubtful.add(user)
+            self.doubtful.add(record)
             operator.say(line)
             answer = operator.hears()
             if answer == "queued\n":
                 answer = operator.hears()
             if answer is None:
                 return
+            if answer.startswith("refused U11 "):
+                # Full of those of which it is not known: others make room.
+                self.doubtful.remove(record)
+                time.sleep(1)
+                continue
             if not answer.startswith("accepted "):
                 self.strange = f"{line}: {answer!r}"
                 return
             self.numbers.append(int(answer.split()[1]))
-            self.doubtful.remove(user)
+            self.doubtful.remove(record)
             if line.startswith("add"):
-                self.here.append(user)
-            time.sleep(0.02)
+                self.here.append(record)
+            time.sleep(self.REST)
 
     def end(self):
         self.goes_on = False
         self.thread.join(95)
 
-    def wrong(self, users):
-        """Those of its users that should be there once and are not, or are there and should not be."""
-        own = [user for user in users if user.startswith(f"{self.name}x")]
-        lacks = [user for user in self.here if own.count(user) != 1]
-        known = {*self.here, *self.doubtful}
-        return lacks + [user for user in own if user not in known or own.count(user) != 1]
-
 
 class Proxy:
-    """Carries bytes between leaves and their hub. It can cut, stall and delay them."""
+    """Carries bytes between leaves and their hub. It can cut, tear, part, stall and delay them. Each of its doors is
+    the address where it listens and the one to which it carries."""
 
-    def __init__(self, to):
-        self.to, self.delay, self.stalled_until, self.pairs, self.lock = to, 0, 0, [], threading.Lock()
-        self.door = socket.create_server(("127.0.0.1", 0))
-        self.port = self.door.getsockname()[1]
-        threading.Thread(target=self.let_in, daemon=True).start()
+    ACTS = ("cut", "cut", "tear", "part", "stall", "delay")
 
-    def let_in(self):
+    def __init__(self, *doors):
+        self.delay, self.stalled_until, self.parted_until = 0, 0, 0
+        self.pairs, self.lock = [], threading.Lock()
+        self.doors = [socket.create_server(here) for here, _ in doors]
+        self.port = self.doors[0].getsockname()[1]
+        for door, (_, there) in zip(self.doors, doors):
+            threading.Thread(target=self.let_in, args=(door, there), daemon=True).start()
+
+    def let_in(self, door, there):
         while True:
             try:
-                here, _ = self.door.accept()
+                source, _ = door.accept()
             except OSError:
                 return
             try:
-                there = socket.create_connection(("127.0.0.1", self.to), 5)
+                if time.monotonic() < self.parted_until:
+                    raise ConnectionRefusedError
+                pair = Pair(source, socket.create_connection(there, 5))
             except OSError:
-                here.close()
+                source.close()
                 continue
             with self.lock:
-                self.pairs.append((here, there))
-            for ends in ((here, there), (there, here)):
-                threading.Thread(target=self.carry, args=ends, daemon=True).start()
+                self.pairs = [it for it in self.pairs if it.goes_on] + [pair]
+            for ends in (pair.ends, pair.ends[::-1]):
+                threading.Thread(target=self.carry, args=(pair, *ends), daemon=True).start()
 
-    def carry(self, source, sink):
+    def carry(self, pair, source, sink):
         try:
             while True:
                 select.select([source], [], [])
@@ -173,31 +266,75 @@ class Proxy:
                 came = source.recv(1500)
                 if not came:
                     break
+                if pair.is_torn:
+                    sink.sendall(came[:(len(came) + 1) // 2])
+                    break
                 sink.sendall(came)
         except (OSError, ValueError):
             pass
-        shut(source, sink)
+        pair.shut()
+
+    def disturb(self, act):
+        """Does one of its acts."""
+        if act == "cut":
+            self.cut()
+        elif act == "tear":
+            self.tear()
+        elif act == "part":
+            self.part(random.uniform(2, 6))
+        elif act == "stall":
+            self.stall(random.uniform(1, 4))
+        elif act == "delay":
+            self.delay = random.choice([0, 0.05, 0.2])
 
     def cut(self):
         """Ends all connections, in the midst of what they carry."""
         with self.lock:
             pairs, self.pairs = self.pairs, []
         for pair in pairs:
-            shut(*pair)
+            pair.shut()
+
+    def tear(self):
+        """Of what they carry next, all connections carry a half, and are reset."""
+        with self.lock:
+            for pair in self.pairs:
+                pair.is_torn = True
+        time.sleep(1)
+        self.cut()
+
+    def part(self, seconds):
+        """Ends all connections, and lets nobody in for so long."""
+        self.parted_until = time.monotonic() + seconds
+        self.cut()
 
     def stall(self, seconds):
         """Carries nothing for so long."""
         self.stalled_until = time.monotonic() + seconds
 
+    def mend(self):
+        """Disturbs nothing any more."""
+        self.delay = self.stalled_until = self.parted_until = 0
+
     def stop(self):
-        self.door.close()
+        for door in self.doors:
+            door.close()
         self.cut()
 
 
-def shut(*those):
-    for it in those:
-        try:
-            it.shutdown(socket.SHUT_RDWR)
-        except OSError:
-            pass
-        it.close()
+class Pair:
+    """Two connections, one for each side of what the proxy carries."""
+
+    def __init__(self, *ends):
+        self.ends, self.goes_on, self.is_torn = ends, True, False
+
+    def shut(self):
+        """Ends both. They are reset where they were torn."""
+        self.goes_on = False
+        for it in self.ends:
+            try:
+                if self.is_torn:
+                    it.setsockopt(socket.SOL_SOCKET, socket.SO_LINGER, struct.pack("ii", 1, 0))
+                it.shutdown(socket.SHUT_RDWR)
+            except OSError:
+                pass
+            it.close()

@@ -180,6 +180,27 @@ def folders(tally, program, room):
     says(tally, "a journal that lacks a file", [program, "run", other.config], 3, lacks)
     other.move_to(f"{room}/deep/below")
     says(tally, "a folder below none", [program, "run", other.config], 3, f"eggnet: {room}/deep/below can't be made")
+    last_generation(tally, program, room)
+
+
+def last_generation(tally, program, room):
+    """A journal of layout 1 of the last generation, 4,294,967,295, and one of the generation before."""
+    bot = Bot(program, room, "spent", [Ours(room, program)])
+    try:
+        bot.start()
+        bot.end()
+        first = Path(f"{bot.folder}/journal/first")
+        held = first.read_bytes()
+        tally.note("a new journal has layout 2", held[:6] == b"\1EGGJ\2", held[:6])
+        spent = held[:5] + b"\1" + b"\xff" * 4 + held[10:]
+        first.write_bytes(spent)
+        used_up = f"eggnet: {bot.folder} holds a journal of an older layout that can't be written anew"
+        says(tally, "a journal whose generations are used up", [program, "run", bot.config], 1, used_up)
+        tally.note("it is as it was", first.read_bytes() == spent)
+        first.write_bytes(spent[:9] + b"\xfe" + spent[10:])
+        tally.note("one with a generation left is written anew", bot.start(), bot.logged()[-200:])
+    finally:
+        end_all(bot)
 
 
 def growing():

@@ -16,7 +16,7 @@ class Stranger:
 
     def __init__(self, net):
         self.net = net
-        self.socket = socket.create_connection(("127.0.0.1", net.port), 15)
+        self.socket = socket.create_connection(net.address, 15)
         self.nonce = self.line().split()[2]
 
     def line(self):
@@ -55,8 +55,8 @@ class Stranger:
 
 
 def hello(leaf, version):
-    """The frame of a hello."""
-    return struct.pack(">HBHI", 7, 1, leaf, version)
+    """The frame of a hello, of a leaf of layout 2."""
+    return struct.pack(">HBBHI", 8, 8, 2, leaf, version)
 
 
 def strangers(tally, net):
@@ -141,7 +141,7 @@ def many(tally, net):
     those, refused = [], 0
     for _ in range(150):
         try:
-            those.append(socket.create_connection(("127.0.0.1", net.port), 5))
+            those.append(socket.create_connection(net.address, 5))
         except OSError:
             refused += 1
     answer = net.bots[0].answers("status")

@@ -7,7 +7,11 @@ file `stdout` has to be:
 
 It was written from the format (docs/FORMATS.md has it), and from no code of this repository.
 """
+import os
 import sys
+
+sys.path.insert(0, os.path.join(os.path.dirname(os.path.realpath(__file__)), ".."))
+from stopping import Disk, Fault
 
 LAYOUT = 2
 LAST = 4294967295
@@ -16,10 +20,6 @@ FLAGS = 1 << 52
 
 class Bad(Exception):
     """Bytes that spell nothing."""
-
-
-class Fault(Exception):
-    """A device call that failed."""
 
 
 class Code(Exception):
@@ -239,49 +239,6 @@ def entry_bytes(entry):
     if kind == 2:
         return b"\2" + num(entry[1], 2) + num(entry[2], 4) + num(entry[3], 1)
     return num(kind, 1) + num(entry[1], 4) + b"".join(map(change_bytes, entry[2:]))
-
-
-# ---- disks
-
-class Disk:
-    """Between two syncs each written range may hold anything after a crash; the plan says what it holds."""
-
-    def __init__(self, data=b""):
-        self.seen = bytearray(data)      # what a read gives
-        self.kept = bytearray(data)      # as of the last sync
-        self.pending = []                # ranges written since
-        self.works = None                # how many more writes and syncs work
-        self.reads = None                # how many more reads work
-        self.tear = "old"
-
-    def call(self):
-        if self.works is not None:
-            if self.works == 0:
-                raise Fault
-            self.works -= 1
-
-    def write(self, at, data):
-        self.pending.append((at, data))
-        self.call()
-        self.seen[at:at + len(data)] = data
-
-    def sync(self):
-        self.call()
-        self.kept, self.pending = bytearray(self.seen), []
-
-    def read(self):
-        if self.reads is not None:
-            self.reads -= 1
-            if self.reads < 0:
-                self.reads = None
-                raise Fault
-        return bytes(self.seen)
-
-    def crash(self):
-        for at, data in self.pending:
-            if self.tear != "old":
-                self.kept[at:at + len(data)] = data if self.tear == "new" else bytes([self.tear]) * len(data)
-        self.seen, self.pending, self.works = bytearray(self.kept), [], None
 
 
 # ---- a journal

@@ -4,7 +4,11 @@ It reads the steps of the program `linkcases` on standard input and prints what 
 of the link, of a journal on two disks and of a userfile (docs/FORMATS.md has the formats), and from no code of this
 repository. `scripts.py` beside it writes the steps.
 """
+import os
 import sys
+
+sys.path.insert(0, os.path.join(os.path.dirname(os.path.realpath(__file__)), ".."))
+from stopping import Disk, Fault
 
 LAST = 4294967295
 LAYOUT = 2    # what is written; layout 1 is read, and put anew where a link is opened
@@ -385,62 +389,6 @@ def read_frame(data):
         raise Bad
     r.done()
     return packet
-
-
-# ---- disks
-
-class Fault(Exception):
-    """A device call that failed."""
-
-
-class Disk:
-    """Between two syncs each written range may hold anything after a crash; the plan says what it holds."""
-
-    def __init__(self, data=b""):
-        self.seen = bytearray(data)      # what a read gives
-        self.kept = bytearray(data)      # as of the last sync
-        self.pending = []                # ranges written since
-        self.left = None                 # how many more calls work
-        self.tear = "old"
-        self.reads = None                # how many more reads work
-
-    def plan(self, call, tear):
-        self.left, self.tear = call - 1, tear
-
-    def call(self):
-        if self.left is not None:
-            if self.left == 0:
-                raise Fault
-            self.left -= 1
-
-    def write(self, at, data):
-        assert at <= len(self.seen)
-        self.pending.append((at, data))
-        self.call()
-        self.seen[at:at + len(data)] = data
-
-    def sync(self):
-        self.call()
-        self.kept = bytearray(self.seen)
-        self.pending = []
-
-    def read(self):
-        if self.reads is not None:
-            if self.reads == 0:
-                self.reads = None
-                raise Fault
-            self.reads -= 1
-        return bytes(self.seen)
-
-    def crash(self):
-        for at, data in self.pending:
-            if self.tear == "new":
-                self.kept[at:at + len(data)] = data
-            elif self.tear != "old":
-                self.kept[at:at + len(data)] = bytes([self.tear]) * len(data)
-        self.seen = bytearray(self.kept)
-        self.pending = []
-        self.left = None
 
 
 # ---- a journal

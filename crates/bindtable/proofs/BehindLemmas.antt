@@ -21,7 +21,8 @@ use Rattle.bindtable.specs.Calls.{Occurrence, called, is_called, takes_event, ta
 use Rattle.bindtable.specs.Masks.{needs_of, entry_of}
 use Rattle.bindtable.specs.Sound.{AreRising}
 use Rattle.bindtable.specs.Behind.{AreKnown, HaveRisen, Tells, behind, bind_of}
-use Rattle.bindtable.proofs.OnceLemmas.{AtMostOnce, find-once, find-none}
+use Rattle.bytetext.proofs.Lists.{find-none}
+use Rattle.bindtable.proofs.OnceLemmas.{AtMostOnce, find-once}
 use Rattle.bindtable.proofs.MaskLemmas.{takes_event-needs}
 
 -- ---- one entry

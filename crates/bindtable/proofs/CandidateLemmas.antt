@@ -31,7 +31,7 @@ use Rattle.bindtable.specs.Sound.{AreApart, is_good}
 use Rattle.bindtable.specs.Behind.{AreKnown, HaveRisen, behind}
 use Rattle.bindtable.proofs.WordLemmas.{Key, texts_of}
 use Rattle.bindtable.proofs.OnceLemmas.{AtMostOnce, fails_before, list_any-at}
-use Rattle.bottimers.proofs.Places.{list_any-None}
+use Rattle.bytetext.proofs.Lists.{list_any-no_position}
 use Rattle.bindtable.proofs.ApartLemmas.{any_bind, same_kind, is_kind-refl, swapped_texts, once-replaced}
 use Rattle.bindtable.proofs.MaskLemmas.{takes-keyword}
 use Rattle.bindtable.proofs.SoundLemmas.{apart-filter}
@@ -225,7 +225,7 @@ candidates-call event held index some risen apart is = by_kind (is_single event.
         let words : words_of index ≡ map key_of xs = is.words ∙ ap (λ s. if s then map key_of xs else []) single in
         let none : list_any (bytes_eq (folded event.subject)) (map key_of xs) ≡ false =
         ap (list_any (bytes_eq (folded event.subject))) (sym words)
-        ∙ sym (any_texts (folded event.subject) index.words.keys) ∙ list_any-None (λ key. bytes_eq (folded event.subject) key.items) index.words.keys place in
+        ∙ sym (any_texts (folded event.subject) index.words.keys) ∙ list_any-no_position (λ key. bytes_eq (folded event.subject) key.items) index.words.keys place in
         let nobody : called event xs ≡ [] =
         filter-nothing (is_called event) (is_replaced event.kind event.subject) (called-word event single) xs (none-word event.kind event.subject xs none) in
         from_some event held [] some tt is_some (sym nobody ∙ called-of_kind event held)

@@ -3,7 +3,7 @@ use Rattle.std.proofs.Common.{◌≡◌, ℕ, zero, suc, ◌<◌, Bool, true, fa
 use Rattle.std.proofs.lemmas.Bool.{or_parts}
 use Rattle.std.proofs.Common.{set, Option, Some, None, refl, sym, ap, ◌∙◌, arith}
 use Rattle.std.specs.List.{list_any, remove, position}
-use Rattle.bottimers.proofs.Places.{list_any-None}
+use Rattle.bytetext.proofs.Lists.{list_any-no_position}
 use Rattle.bindtable.specs.Wishes.{IsAt}
 use Rattle.std.proofs.lemmas.List.Quantifiers.{position-Some}
 
@@ -74,12 +74,6 @@ find-once t (x ∷ xs) zero d once within passes = ap (λ b. cond b (Some x) (fi
 find-once t (x ∷ xs) (suc i) d once within passes =
     ap (λ b. cond b (Some x) (find t xs)) (fails_before t x xs i d once.0 (omega arith) passes) ∙ find-once t xs i d once.1 (omega arith) passes
 
-pub find-none : {X : Type 0} (t : X → Bool) (xs : List X) → list_any t xs ≡ false → find t xs ≡ None
-find-none t [] none = refl
-find-none t (x ∷ xs) none =
-    let parts = or_parts (t x) (list_any t xs) none in
-    ap (λ b. cond b (Some x) (find t xs)) parts.0 ∙ find-none t xs parts.1
-
 -- what passes neither of two tests together is not found among those that pass both
 pub list_any-kept : {X Y : Type 0} (f : Y → Bool) (g : X → Y) (p q : X → Bool) → ((x : X) → p x ≡ true → q x ≡ true → f (g x) ≡ false) → (xs : List X)
     → list_any f (map g (filter p (filter q xs))) ≡ false
@@ -103,4 +97,4 @@ IsAt-position {X} t xs ys r i d same found is =
 
 -- what it has not found
 pub none-found : {X : Type 0} (t : X → Bool) (xs ys : List X) (r : Option ℕ) → ys ≡ xs → r ≡ position t ys → r ≡ None → list_any t xs ≡ false
-none-found t xs ys r same found is = list_any-None t xs (ap (position t) (sym same) ∙ (sym found ∙ is))
+none-found t xs ys r same found is = list_any-no_position t xs (ap (position t) (sym same) ∙ (sym found ∙ is))

@@ -17,7 +17,8 @@ use Rattle.chanstate.specs.Steps.{steps}
 use Rattle.chanstate.specs.Takes.{came_each}
 use Rattle.chanstate.specs.Views.{is_op, members_of}
 use Rattle.chanstate.proofs.ComeLemmas.{steps-own, steps-came}
-use Rattle.chanstate.proofs.FindLemmas.{find-end, or_else, is_same-sym}
+use Rattle.rfccase.proofs.SameLemmas.{is_same-sym}
+use Rattle.chanstate.proofs.FindLemmas.{find-end, or_else}
 use Rattle.chanstate.proofs.LookLemmas.{or_else-right}
 use Rattle.botcore.specs.Automatic.{guarded_as, guarded, guarded_if, watched}
 

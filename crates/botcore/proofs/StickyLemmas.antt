@@ -29,7 +29,8 @@ use Rattle.chanstate.specs.Items.{singles, single_at, sign_after, arguments_afte
 use Rattle.chanstate.specs.Members.{is_called, with_mark}
 use Rattle.chanstate.specs.Steps.{after, step, each_step, steps}
 use Rattle.chanstate.specs.Views.{channel_in, is_op, member_in, members_of}
-use Rattle.chanstate.proofs.FindLemmas.{is_same-refl, pointwise-same, none-is}
+use Rattle.rfccase.proofs.SameLemmas.{is_same-refl}
+use Rattle.chanstate.proofs.FindLemmas.{pointwise-same, none-is}
 use Rattle.chanstate.proofs.LookLemmas.{find-changed}
 use Rattle.botcore.specs.declared.cue.Cue.TheVariants as cue
 use Rattle.botcore.specs.Automatic.{cue_of, guarded_as, is_own, mode_wishes, modes_in, set_again}

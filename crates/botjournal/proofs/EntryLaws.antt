@@ -8,13 +8,12 @@ use Rattle.usercodec.specs.Changes.{both, made, change_bytes}
 use Rattle.usercodec.proofs.Steps.{IsBytes, chosen, bind_ok, ok_is, Takes}
 use Rattle.botjournal.specs.declared.entry.Entry.{Entry}
 use Rattle.botjournal.specs.declared.entry.Entry.TheVariants.{Accepted, Settled, Applied, ReqOut, ReqDone}
-use Rattle.usercodec.specs.FaultBytes.{fault_byte, fault_at}
 use Rattle.botjournal.specs.declared.layouts.Layout.{Layout}
 use Rattle.botjournal.specs.Layouts.{IsGoodChangeBy, change_by}
 use Rattle.botjournal.specs.Entries.{entry_bytes, IsGoodEntry, IsGoodEntryBy, accepted_at, settled_at, applied_at, request_out_at, request_done_at, entry_fields_at, entry_at}
 use Rattle.botjournal.specs.Entries.{entry_in, IsEntryOf}
 use Rattle.usercodec.proofs.PartLaws.{IsPart, both_part}
-use Rattle.usercodec.proofs.ReaderLaws.{u16_part, u32_part, fault_part}
+use Rattle.usercodec.proofs.ReaderLaws.{u16_part, u32_part, refused_part}
 use Rattle.botjournal.proofs.WholeLaws.{whole_again, whole_spelled}
 use Rattle.botjournal.proofs.LayoutLaws.{change_part_by, change_good}
 
@@ -24,10 +23,6 @@ accepted_part : (layout : Layout)
     → IsPart (both (number_at w16) (both (number_at w32) (change_by layout))) (λ x. number w16 x.0 ++ (number w32 x.1.0 ++ change_bytes x.1.1))
     (λ x. (x.0 < 2 ^ 16) × ((x.1.0 < 2 ^ 32) × IsGoodChangeBy layout x.1.1))
 accepted_part layout = both_part u16_part (both_part u32_part (change_part_by layout))
-
-settled_part : IsPart (both (number_at w16) (both (number_at w32) fault_at)) (λ x. number w16 x.0 ++ (number w32 x.1.0 ++ fault_byte x.1.1 ∷ []))
-    (λ x. (x.0 < 2 ^ 16) × ((x.1.0 < 2 ^ 32) × Unit {0}))
-settled_part = both_part u16_part (both_part u32_part fault_part)
 
 numbered_part : (layout : Layout) → IsPart (both (number_at w32) (change_by layout)) (λ x. number w32 x.0 ++ change_bytes x.1)
     (λ x. (x.0 < 2 ^ 32) × IsGoodChangeBy layout x.1)
@@ -64,7 +59,7 @@ fields_take layout tag bytes x rest fits e =
       | inl p ↦ tagged_takes layout 1 tag (λ x. Accepted x.0 x.1.0 x.1.1) (accepted_part layout) (λ x. refl) (λ x g. g) bytes x rest fits p.0 p.1
       | inr p ↦
           elim (chosen (eqb tag 2) _ _ _ p.1) [
-            | inl p ↦ tagged_takes layout 2 tag (λ x. Settled x.0 x.1.0 x.1.1) settled_part (λ x. refl) (λ x g. (g.0, g.1.0)) bytes x rest fits p.0 p.1
+            | inl p ↦ tagged_takes layout 2 tag (λ x. Settled x.0 x.1.0 x.1.1) refused_part (λ x. refl) (λ x g. (g.0, g.1.0)) bytes x rest fits p.0 p.1
             | inr p ↦
                 elim (chosen (eqb tag 3) _ _ _ p.1) [
                   | inl p ↦ tagged_takes layout 3 tag (λ x. Applied x.0 x.1) (numbered_part layout) (λ x. refl) (λ x g. g) bytes x rest fits p.0 p.1
@@ -92,7 +87,7 @@ entry_part layout = record { takes = takes; again = again }
 
     again : (x : Entry) (rest : List ℕ) → IsGoodEntryBy layout x → entry_at layout (entry_bytes x ++ rest) ≡ Ok (x, rest)
     again (Accepted origin r c) rest good = ap (made (λ x. Accepted x.0 x.1.0 x.1.1)) ((accepted_part layout).again (origin, (r, c)) rest good)
-    again (Settled leaf r fault) rest good = ap (made (λ x. Settled x.0 x.1.0 x.1.1)) (settled_part.again (leaf, (r, fault)) rest (good.0, (good.1, tt)))
+    again (Settled leaf r fault) rest good = ap (made (λ x. Settled x.0 x.1.0 x.1.1)) (refused_part.again (leaf, (r, fault)) rest (good.0, (good.1, tt)))
     again (Applied n c) rest good = ap (made (λ x. Applied x.0 x.1)) ((numbered_part layout).again (n, c) rest good)
     again (ReqOut r c) rest good = ap (made (λ x. ReqOut x.0 x.1)) ((numbered_part layout).again (r, c) rest good)
     again (ReqDone r) rest good = ap (made ReqDone) (u32_part.again r rest good)

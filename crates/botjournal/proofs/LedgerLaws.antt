@@ -28,7 +28,7 @@ use Rattle.botjournal.specs.declared.layouts.Layout.{Layout}
 use Rattle.botjournal.specs.Layouts.{layout_of}
 use Rattle.botjournal.specs.Bases.{base_in}
 use Rattle.botjournal.specs.Journal.{IsEither, Refuses, Opens, contents_of, contents_found}
-use Rattle.botjournal.specs.Ledger.{Ledger, Account, Pending, Device, Failed, Reopens, AtEachMoment, AreStill, Leaves, Restarts, settled, written_if, counted, device_on, without_room}
+use Rattle.botjournal.specs.Ledger.{Ledger, Account, Pending, Device, Failed, Reopens, AtEachMoment, AreStill, NoFewer, Leaves, Restarts, settled, written_if, counted, device_on, without_room}
 use Rattle.botjournal.specs.Stores.{AreIn, IsGoing, Stands, OpensAgain, read_error, shown, device_of}
 use Rattle.botjournal.proofs.MeaningLaws.{contents_in_order, texts_are, typed_moments}
 
@@ -346,6 +346,10 @@ module _ {D : Type 0} (state : D → State) where
   pub still_is : (first second first' second' : D) (device : Device) → device ≡ device_on (state first') (state second')
       → Untouched (state first) (state first') → Untouched (state second) (state second') → AreStill (state first) (state second) device
   still_is first second first' second' device is u v = subst (AreStill (state first) (state second)) (sym is) (u.seen, u.events, v.seen, v.events)
+
+  pub none_forgotten : (first second first' second' : D) (device : Device) → device ≡ device_on (state first') (state second')
+      → Untouched (state first) (state first') → Untouched (state second) (state second') → NoFewer (state first) (state second) device
+  none_forgotten first second first' second' device is u v = subst (NoFewer (state first) (state second)) (sym is) (u.no_fewer, v.no_fewer)
 
   -- ---- between two calls
 

@@ -1,5 +1,5 @@
 -- A ledger as contracts see it, and what its calls answer. What is said of the disks in its hands is its invariant.
-use Rattle.std.specs.Prelude.{◌≡◌, ◌≢◌, ◌⊎◌, ◌+◌, ◌-◌, ◌^◌, ℕ, Bool, true, false, Option, None, Some, List, Result, Ok, Err}
+use Rattle.std.specs.Prelude.{◌≡◌, ◌≢◌, ◌⊎◌, ◌≤◌, ◌+◌, ◌-◌, ◌^◌, ℕ, Bool, true, false, Option, None, Some, List, Result, Ok, Err}
 use Rattle.bytetext.specs.declared.failure.Failure.{Failure}
 use Rattle.bytetext.specs.declared.failure.Failure.TheVariants.{Refused, NoMemory}
 use Rattle.std.specs.List.{AllByRecursion}
@@ -85,6 +85,10 @@ AtEachMoment before now P = EachMoment before.first before.second now.first now.
 abbrev pub AreStill : State → State → Device → Type 0
 AreStill first second device = (device.first.seen ≡ first.seen) × (device.first.events ≡ first.events)
     × (device.second.seen ≡ second.seen) × (device.second.events ≡ second.events)
+
+-- no failure of these disks is forgotten in the device
+abbrev pub NoFewer : State → State → Device → Type 0
+NoFewer first second device = (first.failed ≤ device.first.failed) × (second.failed ≤ device.second.failed)
 
 -- a disk failed while this was written
 abbrev pub FailsAt : Pending → Ledger → Ledger → Type 0

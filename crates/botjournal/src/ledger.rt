@@ -4,7 +4,7 @@ ghost use Rattle.storage.specs.State.{IsSettled};
 ghost use Rattle.botjournal.specs.Bases.{IsGoodBase};
 ghost use Rattle.botjournal.specs.Entries.{IsGoodEntry};
 ghost use Rattle.botjournal.specs.declared.TheConstants.{LAYOUT};
-ghost use Rattle.botjournal.specs.Ledger.{Adding, Rebasing, Creates, Opens, Appends, Rebases, Restarts, Reopens, AreStill, AtEachMoment, LeavesEither, Leaves, IsGoodFound, settled, counted, device_on};
+ghost use Rattle.botjournal.specs.Ledger.{Adding, Rebasing, Creates, Opens, Appends, Rebases, Restarts, Reopens, AreStill, NoFewer, AtEachMoment, LeavesEither, Leaves, IsGoodFound, settled, counted, device_on};
 ghost use Rattle.bytejournal.specs.Journal.{first_disk, second_disk};
 ghost use Rattle.botjournal.specs.Journal.{IsEither, IsAtRest, IsGoodOpened, contents_of};
 ghost use Rattle.botjournal.specs.Stores.{OpensAgain, read_error, shown};
@@ -90,6 +90,8 @@ impl<D: Disk> Ledger<D> {
         ensures row { Opens D.state first second result }
         // Nothing happened to the disks.
         ensures still { IfOk result (λ opened. AreStill (D.state first) (D.state second) opened.0.device) }
+        // Their failures so far count on.
+        ensures no_fewer { IfOk result (λ opened. NoFewer (D.state first) (D.state second) opened.0.device) }
         // What it holds may be appended and put in place again.
         ensures good { IfOk result (λ opened. IsGoodFound opened.1) }
     {

@@ -1,5 +1,5 @@
 -- What the opening of a hub's end, or of a leaf's, says of a bot's end.
-use Rattle.std.proofs.Common.{◌≡◌, ◌≢◌, ◌⊎◌, ◌<◌, inl, inr, ℕ, zero, suc, List, [], Option, None, Some, option_map, Result, Ok, Err, refl, sym, ap, subst, ◌∙◌, arith}
+use Rattle.std.proofs.Common.{◌≡◌, ◌<◌, inl, inr, ℕ, zero, suc, List, [], Option, Some, option_map, Ok, Err, refl, sym, ap, subst, ◌∙◌, arith}
 use Rattle.bytetext.specs.declared.failure.Failure.{Failure}
 use Rattle.bytetext.specs.declared.failure.Failure.TheVariants.{Refused, NoMemory}
 use Rattle.userfile.specs.declared.change.Change.{Change as UserChange}
@@ -7,20 +7,19 @@ use Rattle.storage.specs.State.{State}
 use Rattle.bytejournal.specs.declared.fault.JournalFault.{JournalFault}
 use Rattle.bytejournal.specs.declared.fault.JournalFault.TheVariants.{DiskFault, NotAJournal, Spent, GenerationsSpent}
 use Rattle.bytejournal.specs.declared.opening.Returned.{Returned}
-use Rattle.botjournal.specs.declared.TheConstants.{LAYOUT}
 use Rattle.botjournal.specs.Contents.{Contents, meaning}
 use Rattle.botjournal.specs.Ledger.{Device}
 use Rattle.protocol.specs.HubRules.{HubState, HubRecord}
 use Rattle.protocol.specs.LeafRules.{LeafState, LeafRecord, no_loose}
 use Rattle.protocol.specs.Journals.{hub_meaning, leaf_meaning}
-use Rattle.linkstate.specs.Opening.{Keeps, AreKept, ArePutAnew, IsLeftOf, IsAnothers, FindsNone as FindsNoEnd, MeanTheSame as StaySo, LeavesFound}
+use Rattle.linkstate.specs.Opening.{Keeps, AreKept, IsLeftOf, FindsNone as FindsNoEnd, MeanTheSame as StaySo, LeavesFound}
 use Rattle.linkstate.specs.Ends.{Opens as EndOpens}
 use Rattle.linknet.specs.Ends.{End, AtHub, AtLeaf}
 use Rattle.hublink.specs.Link.{HubEnd, RenewsHub}
 use Rattle.leaflink.specs.Link.{LeafEnd, RenewsLeaf}
 use Rattle.botlink.specs.Ends.{hub_end, leaf_end}
 use Rattle.botlink.specs.Links.{hub_at_rest, leaf_at_rest, end_meaning, compacted, RenewsEnd}
-use Rattle.botlink.specs.Opening.{IsKeptOf, IsLeft, FindsNone, MeanTheSame, Opens}
+use Rattle.botlink.specs.Opening.{IsKeptOf, IsLeft, FindsNone, Opens}
 
 -- ---- an end of either kind, as a bot's
 

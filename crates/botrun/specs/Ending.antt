@@ -1,10 +1,10 @@
 -- With which status a bot's process ends.
 use Rattle.std.specs.Prelude.{ℕ}
 use Rattle.botrun.specs.declared.ending.RunError.{RunError}
-use Rattle.botrun.specs.declared.ending.RunError.TheVariants.{Account, NoServer, BindKind, BindProc, Bind, Config, Secret, NoNet, Listen, Folder, OtherJournal, Control, DiskFailed, System, NoMemory}
+use Rattle.botrun.specs.declared.ending.RunError.TheVariants.{Account, NoServer, BindKind, BindProc, Bind, Config, Secret, NoNet, Listen, Folder, OtherJournal, GenerationsSpent, Control, DiskFailed, System, NoMemory}
 
--- 1 for what the configuration and the file of its secret say, and for a journal that is another bot's or lacks its net's
--- number, 3 for what the machine refuses, 4 for memory
+-- 1 for what the configuration and the file of its secret say, and for a journal that is another bot's, lacks its net's
+-- number or can't be written anew, 3 for what the machine refuses, 4 for memory
 abbrev pub status_of : RunError → ℕ
 status_of Account = 1
 status_of NoServer = 1
@@ -17,6 +17,7 @@ status_of NoNet = 1
 status_of (Listen fault) = 3
 status_of (Folder fault) = 3
 status_of OtherJournal = 1
+status_of GenerationsSpent = 1
 status_of (Control fault) = 3
 status_of (DiskFailed change) = 3
 status_of System = 3

@@ -3,5 +3,6 @@ pub mod Bases
 pub mod Ending
 pub mod Outcomes
 pub mod Stations
+pub mod Sums
 pub mod Taking
 pub mod Told

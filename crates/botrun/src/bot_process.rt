@@ -14,6 +14,7 @@ use crate::operators::Operators;
 use crate::others::Others;
 use crate::process::{Process, Turned};
 use crate::starting::{bind_all, bot_of, folder_of};
+use crate::sums::Sums;
 use crate::uplink::Uplink;
 use botfolder::BotFolder;
 use handshake::Key;
@@ -37,9 +38,9 @@ const EVENTS: usize = 64;
 ///
 /// # Errors
 /// What [`check`] answers, then `Secret`, before anything is opened. Then `Folder`, `System`, `Config`, `OtherJournal`,
-/// `NoNet`, `Listen` and `Control` as they say, before anybody is connected or let in. Later `DiskFailed` and `System` as
-/// they say, and `Folder` where a leaf can't keep the number of its net. `NoMemory` at any time where a growth is
-/// refused. What was told as accepted was journaled before, at the hub.
+/// `GenerationsSpent`, `NoNet`, `Listen` and `Control` as they say, before anybody is connected or let in. Later
+/// `DiskFailed` and `System` as they say, and `Folder` where a leaf can't keep the number of its net. `NoMemory` at any
+/// time where a growth is refused. What was told as accepted was journaled before, at the hub.
 pub fn run<R, P: Promise, B: Run>(
     rt: &R,
     store: &ProcStore<P, B>,
@@ -96,6 +97,7 @@ where
         operators,
         others: Others::new(rt.alloc(), links),
         bases,
+        sums: Sums::new(),
         until: None,
     })
 }

@@ -50,6 +50,8 @@ pub enum RunError {
     Listen(DoorFault),
     /// The folder holds another bot's journal, or none.
     OtherJournal,
+    /// The folder holds a journal of an older layout that can't be written anew, since its generations are used up.
+    GenerationsSpent,
     /// Nobody can be listened to at the socket for operators.
     Control(DoorFault),
     /// A disk failed while the journal was written. Where one fails before, as it is made or opened, that is the
@@ -78,9 +80,9 @@ pub enum Subject {
 }
 
 impl RunError {
-    /// The status with which a program ends: 1 for a configuration, the file of its secret, another bot's journal, or
-    /// one without the number of its net, 3 for what the system, a folder, a socket or a disk refuses, 4 for want of
-    /// memory.
+    /// The status with which a program ends: 1 for a configuration, the file of its secret, another bot's journal, one
+    /// without the number of its net, or one that can't be written anew, 3 for what the system, a folder, a socket or a
+    /// disk refuses, 4 for want of memory.
     pub fn status(self) -> u8
         ensures { result ≡ status_of self }
     {
@@ -93,7 +95,8 @@ impl RunError {
             | RunError::Config
             | RunError::Secret(_)
             | RunError::NoNet
-            | RunError::OtherJournal => 1,
+            | RunError::OtherJournal
+            | RunError::GenerationsSpent => 1,
             RunError::Folder(_)
             | RunError::Listen(_)
             | RunError::Control(_)
@@ -115,6 +118,7 @@ impl RunError {
             | RunError::Secret(_)
             | RunError::Listen(_) => Subject::File,
             RunError::OtherJournal
+            | RunError::GenerationsSpent
             | RunError::NoNet
             | RunError::Folder(_)
             | RunError::DiskFailed { change: _ } => { Subject::Folder }
@@ -146,6 +150,7 @@ impl Display for RunError {
             | RunError::Config
             | RunError::NoNet
             | RunError::OtherJournal
+            | RunError::GenerationsSpent
             | RunError::System
             | RunError::NoMemory => write!(f, "{}", sentence(*self)),
         }
@@ -170,6 +175,8 @@ fn sentence(error: RunError) -> &'static str {
         RunError::Config => "mend the lines bot, nick and channel: one is out of its range",
         RunError::OtherJournal =>
             "holds the journal of another bot, or none that can be read: give the folder of this bot",
+        RunError::GenerationsSpent =>
+            "holds a journal of an older layout that can't be written anew, its generations being used up: run the program of before, or give a leaf an empty folder",
         RunError::NoNet =>
             "holds a journal and not the number of its net: bring back the file net, 16 digits and a line feed",
         RunError::System =>
@@ -224,7 +231,8 @@ pub(crate) fn of_bot(error: BotError) -> RunError {
 // What a journal's fault means. What a disk holds that failed while a journal was made or opened is not known.
 fn of_journal(fault: JournalFault) -> RunError {
     match fault {
-        JournalFault::NotAJournal | JournalFault::GenerationsSpent => RunError::OtherJournal,
+        JournalFault::NotAJournal => RunError::OtherJournal,
+        JournalFault::GenerationsSpent => RunError::GenerationsSpent,
         JournalFault::DiskFault | JournalFault::Spent => RunError::Folder(FolderFault::DiskFails),
     }
 }

@@ -11,6 +11,8 @@ use upkeep::Loss;
 pub(crate) enum Entry<'a> {
     // The bot is up at this version.
     Up(u32),
+    // The bot's records at this version have this sum.
+    Records(u32, &'a [u8]),
     // A connection to a server begins.
     Dialled(&'a [u8], SocketAddr),
     // A try to connect to a server did not begin, and the next one is due at this second.
@@ -76,6 +78,9 @@ impl Display for Entry<'_> {
     fn fmt<W: fmt::Write>(&self, f: &mut fmt::Formatter<W>) -> fmt::Result {
         match *self {
             Entry::Up(version) => write!(f, "up at version {version}"),
+            Entry::Records(version, sum) => {
+                write!(f, "records at version {version}: {}", Shown(sum))
+            }
             Entry::Dialled(host, address) => write!(
                 f,
                 "connecting to {} at {address}",

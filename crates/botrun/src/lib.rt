@@ -17,7 +17,9 @@
 //! same connection. Changes are answered in the order in which they were asked for, those of procs among them.
 //!
 //! The log goes to standard output, a line an event: seconds since 1970-01-01 UTC, and what happened. That it can't be
-//! written ends nothing.
+//! written ends nothing. It tells the bot's version with the sum of its records ([`recordsum`]) as it begins, where the
+//! version has changed and 5 seconds have passed since the last time, and at its end: so the logs of two bots show whether
+//! their records were the same at each version that both tell of.
 //!
 //! ```text
 //! let settings = Settings::read(alloc, bytes)?;
@@ -54,6 +56,7 @@ mod shown;
 mod starting;
 mod status;
 mod steps;
+mod sums;
 mod uplink;
 
 pub use crate::bot_process::run;

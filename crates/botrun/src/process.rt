@@ -6,6 +6,7 @@ use crate::bases::Bases;
 use crate::ending::RunError;
 use crate::operators::Operators;
 use crate::others::Others;
+use crate::sums::Sums;
 use crate::uplink::Uplink;
 use botcore::Bot;
 use bytetext::NoMemory;
@@ -26,6 +27,8 @@ pub(crate) struct Process {
     pub(crate) others: Others,
     // When the journal is written anew.
     pub(crate) bases: Bases,
+    // When the log tells the sum of the records.
+    pub(crate) sums: Sums,
     // The second until which it waits for who has still to be told something, once it is to end.
     pub(crate) until: Option<u64>,
 }
@@ -40,6 +43,7 @@ impl Drop for Process {
             operators: _,
             others: _,
             bases: _,
+            sums: _,
             until: _,
         } = self;
     }
@@ -71,7 +75,8 @@ impl Process {
         self.others.links.wake(tokens);
     }
 
-    // Makes a turn: connects what is lost and due, lets in who waits, reads, steps, writes, and lets go who is over.
+    // Makes a turn: connects what is lost and due, lets in who waits, reads, steps, writes, lets go who is over, and logs the
+    // sum of the records where that is due.
     pub(crate) fn turn<R: AllocGlobal + Net + Print + RandomSource, P: Promise, B: Run>(
         &mut self,
         rt: &R,
@@ -84,7 +89,9 @@ impl Process {
     {
         let more_comes = self.take_in(rt, registry, store, settings, now)?;
         let more_goes = self.give_out(rt, settings, now)?;
-        if self.has_ended(now) {
+        let has_ended = self.has_ended(now);
+        self.tell_sum(rt, has_ended, now)?;
+        if has_ended {
             return Ok(Turned::Ended);
         }
         if more_comes || more_goes {

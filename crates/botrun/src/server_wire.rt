@@ -1,5 +1,5 @@
 // A connection that is told lines and nothing else.
-ghost use Rattle.std.specs.Prelude.{◌≡◌, ◌++◌, IfOk, false};
+ghost use Rattle.std.specs.Prelude.{◌≡◌, IfOk, false};
 ghost use Rattle.upkeep.specs.Lines.{is_line};
 ghost use Rattle.botrun.specs.Told.{ended};
 

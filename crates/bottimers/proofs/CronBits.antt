@@ -1,18 +1,12 @@
 -- The bits of a set of numbers.
-use Rattle.std.proofs.Common.{◌≡◌, ◌≢◌, ℕ, ◌+◌, ◌-◌, ◌*◌, ◌%◌, ◌^◌, ◌<◌, ◌≤◌, Bool, true, false, ltb, eqb, ◌&&◌, ◌||◌, max, bit_or, arith, ap, ◌∙◌, sym, subst, refl, inl, inr}
+use Rattle.std.proofs.Common.{◌≡◌, ◌≢◌, ℕ, ◌+◌, ◌-◌, ◌*◌, ◌%◌, ◌^◌, ◌<◌, ◌≤◌, Bool, true, false, ltb, eqb, ◌&&◌, bit_or, arith, ap, ◌∙◌, sym, subst, refl, inl, inr}
 use Rattle.std.specs.Int.{w64}
-use Rattle.std.proofs.lemmas.Nat.Bits.{bit_at_or, bit_at-lt, bit_at_above, bit_at_set_same, bit_at_set_other, bit_at-pow_other, bit_at-zero}
+use Rattle.std.proofs.lemmas.Nat.Bits.{bit_at_above, bit_at_set_same, bit_at_set_other, bit_at-pow_other, bit_at-zero}
 use Rattle.std.proofs.lemmas.Bool.{cases_eq, and_from, and_right, ne_eqb, lt-ltb, le-leb, eq-eqb}
 use Rattle.std.proofs.lemmas.Bool.Decides.{nat_tests}
 use Rattle.bottimers.specs.declared.span.Span.{Span}
 use Rattle.bottimers.specs.CronSets.{has}
 use Rattle.bottimers.specs.CronText.{in_span}
-
-either_one : (x y : ℕ) → x < 2 → y < 2 → eqb (max x y) 1 ≡ (eqb x 1 || eqb y 1)
-either_one x y h k = grind (arith, nat_tests)
-
-pub has-bit_or : (a b n : ℕ) → has (bit_or a b) n ≡ (has a n || has b n)
-has-bit_or a b n = ap (λ x. eqb x 1) (bit_at_or a b n) ∙ either_one _ _ (bit_at-lt a n) (bit_at-lt b n)
 
 pub has_above : (set k n : ℕ) → set < 2 ^ k → k ≤ n → has set n ≡ false
 has_above set k n fits above = ap (λ x. eqb x 1) (bit_at_above set k n fits above)
@@ -47,10 +41,6 @@ has_same s set n step so_far k =
           so_far k ∙ subst (λ j. (ltb j n && in_span s j) ≡ (ltb j (n + 1) && in_span s j)) (sym same) both
       | inr other ↦ so_far k ∙ ap (λ b. b && in_span s k) (later_test k n other)
     ]
-
-pub or_assoc : (a b c : Bool) → (a || (b || c)) ≡ ((a || b) || c)
-or_assoc true b c = refl
-or_assoc false b c = refl
 
 -- the bit of Sunday alone, and no bit
 pub has_one : (n : ℕ) → has 1 n ≡ eqb n 0

@@ -1,12 +1,11 @@
 -- The first of a list that passes a test, at the place that `position` gives.
-use Rattle.std.proofs.Common.{◌≡◌, ℕ, zero, suc, ◌<◌, ◌≤◌, Bool, true, false, cond, Some, None, List, [], ◌∷◌, length, map}
+use Rattle.std.proofs.Common.{◌≡◌, ℕ, zero, suc, ◌<◌, Bool, true, false, cond, Some, List, [], ◌∷◌, length, map}
 use Rattle.std.proofs.Common.{get_or, position, arith, ap, ◌∙◌, sym, refl}
-use Rattle.std.specs.List.{position_or_len, list_any, remove}
+use Rattle.std.specs.List.{list_any, remove}
 use Rattle.std.specs.Set.{remove_key}
-use Rattle.std.proofs.lemmas.Bool.{cond-true, cond-false, ltb-false}
-use Rattle.std.proofs.lemmas.List.Folds.{list_any_at, list_any_none}
+use Rattle.std.proofs.lemmas.Bool.{cond-true, cond-false}
+use Rattle.std.proofs.lemmas.List.Folds.{list_any_at}
 use Rattle.std.proofs.lemmas.List.Quantifiers.{position-Some}
-use Rattle.std.proofs.lemmas.List.Sums.{fails_before_first}
 use Rattle.bottimers.proofs.EntryLists.{map-cond}
 
 -- one is without the first that passes
@@ -23,20 +22,11 @@ remove-position p xs i d is =
     let found = position-Some p xs i d is in
     remove-first p xs i d found.0 found.1 found.2
 
--- one passes where there is a place, and none where there is none
+-- one passes where there is a place
 pub list_any-Some : {X : Type 0} (p : X → Bool) (xs : List X) (i : ℕ) (d : X) → position p xs ≡ Some i → list_any p xs ≡ true
 list_any-Some p xs i d is =
     let found = position-Some p xs i d is in
     list_any_at p xs i d found.0 found.1
-
-cond-None : {X : Type 0} (b : Bool) (x : X) → cond b (Some x) None ≡ None → b ≡ false
-cond-None true x is = cc
-cond-None false x is = refl
-
-pub list_any-None : {X : Type 0} (p : X → Bool) (xs : List X) → position p xs ≡ None → list_any p xs ≡ false
-list_any-None p xs none =
-    let past : length xs ≤ position_or_len p xs = ltb-false _ _ (cond-None _ _ none) in
-    list_any_none p xs (λ k d less. fails_before_first p xs k d (omega arith))
 
 -- the first that passes is taken out of what f gives
 pub remove_key-map : {A B : Type 0} (p : B → Bool) (f : A → B) (xs : List A) → remove_key p (map f xs) ≡ map f (remove_key (λ x. p (f x)) xs)

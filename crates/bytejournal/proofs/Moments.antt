@@ -1,5 +1,5 @@
 -- How one run of device calls goes on from another.
-use Rattle.std.proofs.Common.{◌≡◌, ⊎_elim, inl, inr, List, ℕ, refl, subst, sym, ◌∙◌, arith}
+use Rattle.std.proofs.Common.{◌≡◌, ◌≤◌, ⊎_elim, inl, inr, List, ℕ, refl, subst, sym, ◌∙◌, arith}
 use Rattle.storage.specs.Events.{Torn}
 use Rattle.storage.specs.State.{State, IsSettled, LeavesOnly, moment, may_leave}
 use Rattle.storage.specs.Calls.{SameBytes, Elapses, Tears}
@@ -78,13 +78,14 @@ torn old new at n settled tears time = record {
         subst (λ (l : List ℕ). Torn at n l image) (settled was.0 was.1) was.2
 
 -- a call that reads
-pub untouched : (old new : State) → IsSettled old → new.events ≡ old.events → SameBytes old new → Untouched old new
-untouched old new settled events is = record {
+pub untouched : (old new : State) → IsSettled old → old.failed ≤ new.failed → new.events ≡ old.events → SameBytes old new → Untouched old new
+untouched old new settled fewer events is = record {
   seen = is.seen;
   events = events;
   settled = λ image left. settled image (is.left image left) ∙ sym is.seen;
+  no_fewer = fewer;
   any_moment = kept old new settled is;
 }
 
 pub untouched_still : (disk : State) → IsSettled disk → Untouched disk disk
-untouched_still disk settled = untouched disk disk settled refl (same disk)
+untouched_still disk settled = untouched disk disk settled (omega arith) refl (same disk)

@@ -1,5 +1,5 @@
 -- How a journal is made and opened.
-use Rattle.std.specs.Prelude.{◌≡◌, ◌⊎◌, ◌+◌, Bool, true, false, if◌then◌else◌, ℕ, Option, None, Some, List, [], ◌∷◌, ◌++◌, length, option_map, Result, Ok, Err}
+use Rattle.std.specs.Prelude.{◌≡◌, ◌⊎◌, ◌+◌, ◌≤◌, Bool, true, false, if◌then◌else◌, ℕ, Option, None, Some, List, [], ◌∷◌, ◌++◌, length, option_map, Result, Ok, Err}
 use Rattle.std.specs.Option.{is_some}
 use Rattle.bytetext.specs.declared.failure.Failure.{Failure}
 use Rattle.bytetext.specs.declared.failure.Failure.TheVariants.{Refused, NoMemory}
@@ -31,6 +31,7 @@ pub record Untouched (old new : State) : Type 0 where
   pub seen : new.seen ≡ old.seen
   pub events : new.events ≡ old.events
   pub settled : IsSettled new
+  pub no_fewer : old.failed ≤ new.failed
   pub any_moment : LeavesOnly old new (λ image. image ≡ old.seen)
 
 -- the disk was crashed and holds what the crash left

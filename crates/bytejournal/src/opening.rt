@@ -61,7 +61,6 @@ fn read_whole<D: Disk>(alloc: Global, disk: &mut D) -> Result<Reading, JournalEr
     requires { IsSettled (D.state disk.old) }
     ensures reads { ReadsDisk (D.state disk.old) result (D.state disk.new) }
     ensures untouched { Untouched (D.state disk.old) (D.state disk.new) }
-    ensures never_fewer { (D.state disk.old).failed ≤ (D.state disk.new).failed }
 {
     let mut bytes = vec![in alloc; 0; disk.len()]?;
     match disk.read(0, &mut bytes) {

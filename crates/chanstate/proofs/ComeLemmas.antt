@@ -18,7 +18,9 @@ use Rattle.chanstate.specs.Memory.{any_adds}
 use Rattle.chanstate.specs.Steps.{steps}
 use Rattle.chanstate.specs.Takes.{came_each}
 use Rattle.chanstate.proofs.BoolLemmas.{or-left, or-right}
-use Rattle.chanstate.proofs.FindLemmas.{find-end, find-none, is_same-refl, or_else, or_else-none}
+use Rattle.bytetext.proofs.Lists.{find-none}
+use Rattle.rfccase.proofs.SameLemmas.{is_same-refl}
+use Rattle.chanstate.proofs.FindLemmas.{find-end, or_else, or_else-none}
 use Rattle.chanstate.proofs.KeptLemmas.{any-kept, first_changed-kept, some_same}
 use Rattle.chanstate.proofs.StepLemmas.{first_changed-twice}
 

@@ -4,7 +4,9 @@ use Rattle.std.specs.List.{list_any}
 use Rattle.rfccase.specs.Casemapping.{is_same}
 use Rattle.chanstate.specs.Firsts.{first_removed, first_changed}
 use Rattle.chanstate.proofs.BoolLemmas.{or-parts}
-use Rattle.chanstate.proofs.FindLemmas.{is_same-left, is_same-sym, any-agree, any-removed, any-changed, any-end, AtMostOne, Within}
+use Rattle.bytetext.proofs.Lists.{list_any-push}
+use Rattle.rfccase.proofs.SameLemmas.{is_same-left, is_same-sym}
+use Rattle.chanstate.proofs.FindLemmas.{any-agree, any-removed, any-changed, AtMostOne, Within}
 
 -- the test for a name
 abbrev pub by : {X : Type 0} → (X → List ℕ) → List ℕ → X → Bool
@@ -48,7 +50,7 @@ pub distinct-end : {X : Type 0} (key : X → List ℕ) (xs : List X) (y : X) →
 distinct-end key [] y distinct none = (refl, tt)
 distinct-end key (x ∷ xs) y distinct none =
     let parts = or-parts (is_same (key y) (key x)) (list_any (by key (key y)) xs) none in
-    (any-end (by key (key x)) xs y distinct.0 (is_same-sym (key x) (key y) ∙ parts.0), distinct-end key xs y distinct.1 parts.1)
+    (list_any-push (by key (key x)) xs y distinct.0 (is_same-sym (key x) (key y) ∙ parts.0), distinct-end key xs y distinct.1 parts.1)
 
 -- what passes p passes q
 pub within-all : {X : Type 0} (p q : X → Bool) → ((x : X) → q x ≡ false → p x ≡ false) → (xs : List X) → Within p q xs

@@ -5,12 +5,11 @@ use Rattle.std.specs.Option.{option_map}
 use Rattle.std.specs.List.{list_any}
 use Rattle.std.specs.Cmp.Lexicographic.{pointwise}
 use Rattle.std.proofs.lemmas.Bool.{cond-true, cond-false, eqb-true, eq-eqb}
+use Rattle.bytetext.proofs.Lists.{find-none}
 use Rattle.chanstate.proofs.BoolLemmas.{or-parts}
-use Rattle.rfccase.specs.Casemapping.{folded}
-use Rattle.rfccase.specs.Casemapping.{is_same}
 use Rattle.chanstate.specs.Firsts.{first_removed, first_changed}
 
--- names that are is_same
+-- texts that are equal byte by byte
 
 both-true : (a b : Bool) → (a && b) ≡ true → (a ≡ true) × (b ≡ true)
 both-true true b is = (refl, is)
@@ -30,34 +29,6 @@ pub pointwise-refl : (xs : List ℕ) → pointwise nat_eq xs xs ≡ true
 pointwise-refl [] = refl
 pointwise-refl (x ∷ xs) = rw (eq-eqb x x refl) (pointwise-refl xs)
 
-pub is_same-refl : (a : List ℕ) → is_same a a ≡ true
-is_same-refl a = pointwise-refl (folded a)
-
-pub folds-same : (a b : List ℕ) → is_same a b ≡ true → folded a ≡ folded b
-folds-same a b is = pointwise-same (folded a) (folded b) is
-
--- is_same names are is_same to the same names
-pub is_same-left : (a b x : List ℕ) → is_same a b ≡ true → is_same a x ≡ is_same b x
-is_same-left a b x is = ap (λ f. pointwise nat_eq f (folded x)) (folds-same a b is)
-
-pub is_same-right : (a b x : List ℕ) → is_same a b ≡ true → is_same x a ≡ is_same x b
-is_same-right a b x is = ap (λ f. pointwise nat_eq (folded x) f) (folds-same a b is)
-
-same-truth : (a b : Bool) → (a ≡ true → b ≡ true) → (b ≡ true → a ≡ true) → a ≡ b
-same-truth true true f g = refl
-same-truth true false f g = sym (f refl)
-same-truth false true f g = g refl
-same-truth false false f g = refl
-
-pub is_same-sym : (a b : List ℕ) → is_same a b ≡ is_same b a
-is_same-sym a b = same-truth (is_same a b) (is_same b a)
-    (λ is. sym (is_same-left a b a is) ∙ is_same-refl a)
-    (λ is. sym (is_same-left b a b is) ∙ is_same-refl b)
-
--- two that are is_same to a third are is_same
-pub is_same-apart : (x y k : List ℕ) → is_same x y ≡ false → is_same y k ≡ true → is_same x k ≡ false
-is_same-apart x y k apart is = sym (is_same-right y k x is) ∙ apart
-
 -- first elements
 
 any_step : {X : Type 0} (b : Bool) (x : X) (xs : List X) (p : X → Bool) → list_any p xs ≡ is_some (find p xs)
@@ -72,9 +43,6 @@ list_any-find p (x ∷ xs) = any_step (p x) x xs p (list_any-find p xs)
 pub none-is : {X : Type 0} (o : Option X) → is_some o ≡ false → o ≡ None
 none-is None is = refl
 none-is (Some x) is = cc
-
-pub find-none : {X : Type 0} (p : X → Bool) (xs : List X) → list_any p xs ≡ false → find p xs ≡ None
-find-none p xs none = none-is (find p xs) (sym (list_any-find p xs) ∙ none)
 
 -- tests that agree find the same
 pub find-agree : {X : Type 0} (p q : X → Bool) → ((x : X) → p x ≡ q x) → (xs : List X) → find p xs ≡ find q xs
@@ -219,7 +187,3 @@ pub any-changed : {X : Type 0} (p q : X → Bool) (f : X → X) (xs : List X) �
 any-changed p q f [] none keeps = refl
 any-changed p q f (x ∷ xs) none keeps = let parts = or-parts (p x) (list_any p xs) none in any_changed_step (q x) p f x xs (first_changed q f xs) parts
     (keeps x parts.0) (any-changed p q f xs parts.1 keeps)
-
-pub any-end : {X : Type 0} (p : X → Bool) (xs : List X) (y : X) → list_any p xs ≡ false → p y ≡ false → list_any p (xs ++ y ∷ []) ≡ false
-any-end p [] y none last = rw last refl
-any-end p (x ∷ xs) y none last = let parts = or-parts (p x) (list_any p xs) none in rw (parts.0) (any-end p xs y parts.1 last)

@@ -1,15 +1,12 @@
 -- Edits of the first element that passes, at the place that `position` gives.
-use Rattle.std.proofs.Common.{◌≡◌, ℕ, zero, suc, ◌<◌, ◌≤◌, Bool, true, false, cond, Option, Some, None, List, [], ◌∷◌, ◌++◌, length, get_or, set, refl, sym}
+use Rattle.std.proofs.Common.{◌≡◌, ℕ, zero, suc, ◌<◌, Bool, true, false, Option, Some, None, List, [], ◌∷◌, ◌++◌, length, get_or, set, refl, sym}
 use Rattle.std.proofs.Common.{ap, ◌∙◌, arith}
-use Rattle.std.specs.List.{position, position_or_len, list_any, remove}
-use Rattle.std.proofs.Common.{ltb}
+use Rattle.std.specs.List.{position, list_any, remove}
 use Rattle.std.specs.Prelude.{find}
 use Rattle.std.proofs.lemmas.List.Quantifiers.{position-Some}
-use Rattle.std.proofs.lemmas.List.Folds.{list_any_none}
 use Rattle.std.proofs.lemmas.List.Edits.{remove-append_left}
-use Rattle.std.proofs.lemmas.List.Sums.{fails_before_first}
 use Rattle.std.proofs.lemmas.Bool.{cond-true, cond-false}
-use Rattle.std.proofs.lemmas.Bool.Decides.{nat_tests}
+use Rattle.bytetext.proofs.Lists.{list_any-no_position}
 use Rattle.chanstate.proofs.BoolLemmas.{or-parts}
 use Rattle.chanstate.specs.Firsts.{first_removed, first_changed}
 
@@ -49,17 +46,6 @@ list_any-first p (x ∷ xs) (suc i) d first =
 -- a place that is given is the first that passes
 pub first-from_position : {X : Type 0} (p : X → Bool) (xs : List X) (i : ℕ) (d : X) → position p xs ≡ Some i → IsFirst p xs i d
 first-from_position p xs i d is = let found = position-Some p xs i d is in record { within = found.0; passes = found.1; before = found.2 }
-
-cond-none : {X : Type 0} (b : Bool) (x : X) → cond b (Some x) None ≡ None → b ≡ false
-cond-none true x is = cc
-cond-none false x is = refl
-
--- where no place is given, no element passes
-pub list_any-no_position : {X : Type 0} (p : X → Bool) (xs : List X) → position p xs ≡ None → list_any p xs ≡ false
-list_any-no_position p xs none =
-    let past : ltb (position_or_len p xs) (length xs) ≡ false = cond-none _ _ none in
-    let long : length xs ≤ position_or_len p xs = grind (arith, nat_tests) in
-    list_any_none p xs (λ k d less. fails_before_first p xs k d (omega arith))
 
 pub first_changed-nowhere : {X : Type 0} (p : X → Bool) (f : X → X) (xs : List X) → list_any p xs ≡ false → first_changed p f xs ≡ xs
 first_changed-nowhere p f [] none = refl

@@ -16,7 +16,8 @@ use Rattle.chanstate.specs.Channels.{is_named, opened, with_topic, with_members,
 use Rattle.chanstate.specs.Items.{Item, Welcomed, Announced, Joined, Left, Departed, Renamed, ModesSet, Marked, Titled, NamesTold, Listed, Addressed}
 use Rattle.chanstate.specs.Steps.{step}
 use Rattle.chanstate.specs.Views.{channel_in, members_of}
-use Rattle.chanstate.proofs.FindLemmas.{is_same-left, is_same-right, is_same-apart, list_any-find, find-agree, find-changed_other, find-removed_same}
+use Rattle.rfccase.proofs.SameLemmas.{is_same-left, is_same-right, is_same-apart}
+use Rattle.chanstate.proofs.FindLemmas.{list_any-find, find-agree, find-changed_other, find-removed_same}
 use Rattle.chanstate.proofs.FindLemmas.{find-changed_new, find-changed_old, find-map}
 use Rattle.chanstate.proofs.DistinctLemmas.{Distinct, at_most_one, distinct-removed, distinct-changed, distinct-end, distinct-renamed, distinct-map}
 use Rattle.chanstate.proofs.DistinctLemmas.{within-all, within-none}

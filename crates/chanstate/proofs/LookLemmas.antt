@@ -6,7 +6,8 @@ use Rattle.chanstate.specs.declared.member.Member.{Member}
 use Rattle.rfccase.specs.Casemapping.{is_same}
 use Rattle.chanstate.specs.Firsts.{first_removed, first_changed}
 use Rattle.chanstate.specs.Members.{is_called, has_member, with_address, with_marks_of, with_nick, arrived, listed}
-use Rattle.chanstate.proofs.FindLemmas.{is_same-left, is_same-apart, list_any-find, find-agree, or_else, or_else-none, or_else-some, find-end}
+use Rattle.rfccase.proofs.SameLemmas.{is_same-left, is_same-apart}
+use Rattle.chanstate.proofs.FindLemmas.{list_any-find, find-agree, or_else, or_else-none, or_else-some, find-end}
 use Rattle.chanstate.proofs.FindLemmas.{find-changed_same, find-changed_other, find-removed_other, find-removed_same}
 use Rattle.chanstate.proofs.DistinctLemmas.{by, Distinct, at_most_one}
 

@@ -17,7 +17,8 @@ use Rattle.chanstate.specs.Steps.{step}
 use Rattle.chanstate.specs.Views.{members_of}
 use Rattle.chanstate.specs.History.{Behind, Rising, member_said, own, on, arrival, joins}
 use Rattle.chanstate.proofs.BoolLemmas.{or-parts, or-right}
-use Rattle.chanstate.proofs.FindLemmas.{is_same-left, is_same-sym, is_same-refl, list_any-find, find-removed_same, Within}
+use Rattle.rfccase.proofs.SameLemmas.{is_same-left, is_same-sym, is_same-refl}
+use Rattle.chanstate.proofs.FindLemmas.{list_any-find, find-removed_same, Within}
 use Rattle.chanstate.proofs.DistinctLemmas.{Distinct, at_most_one, distinct-removed, within-all, within-none}
 use Rattle.chanstate.proofs.ItemLemmas.{nick_of_member, name_of, channel_after, mark_keeps}
 

@@ -21,8 +21,9 @@ use Rattle.chanstate.specs.declared.edit.Edit.TheVariants.{Marked, Listed, Addre
 use Rattle.chanstate.specs.declared.member.Mark.TheVariants.{Op, Voice, HalfOp}
 use Rattle.chanstate.specs.Members.{is_called, with_nick, edited}
 use Rattle.chanstate.specs.Firsts.{first_removed, first_changed}
+use Rattle.bytetext.proofs.Lists.{list_any-no_position}
 use Rattle.chanstate.proofs.FindLemmas.{pointwise-same, pointwise-refl}
-use Rattle.chanstate.proofs.FirstsLemmas.{first-from_position, list_any-no_position}
+use Rattle.chanstate.proofs.FirstsLemmas.{first-from_position}
 
 abbrev pub Places : Type 0
 Places = List (Option Member)

@@ -13,7 +13,8 @@ use Rattle.chanstate.specs.Tasks.{done_by}
 use Rattle.chanstate.specs.Takes.{pick, on_place, given, is_taken, AreKept, Holds}
 use Rattle.chanstate.specs.Channels.{is_named, is_held, with_members, on_channel}
 use Rattle.chanstate.proofs.BoolLemmas.{or-parts}
-use Rattle.chanstate.proofs.FirstsLemmas.{first_changed-first, first-from_position, first_changed-nowhere, list_any-no_position, somewhere}
+use Rattle.bytetext.proofs.Lists.{list_any-no_position}
+use Rattle.chanstate.proofs.FirstsLemmas.{first_changed-first, first-from_position, first_changed-nowhere, somewhere}
 
 -- ---- the channel at a place
 

@@ -32,14 +32,6 @@ pub shown_each-append : (xs ys ms : List Member) → shown_each (xs ++ ys) ms �
 shown_each-append [] ys ms = refl
 shown_each-append (x ∷ xs) ys ms = shown_each-append xs ys (first_changed (is_called x.nick) (with_marks_of x) ms)
 
-pub any-append : {X : Type 0} (p : X → Bool) (xs ys : List X) → list_any p (xs ++ ys) ≡ (list_any p xs || list_any p ys)
-any-append p [] ys = refl
-any-append p (x ∷ xs) ys = ap (λ b. p x || b) (any-append p xs ys) ∙ or_assoc (p x) (list_any p xs) (list_any p ys)
-  where
-    or_assoc : (a b c : Bool) → (a || (b || c)) ≡ ((a || b) || c)
-    or_assoc true b c = refl
-    or_assoc false b c = refl
-
 -- one word among those of a list
 front : {Y : Type 0} (p : Y → Bool) (o : Option Y) (ys : List Y) → list_any p (option_to_list o) ≡ true → list_any p (cons_option o ys) ≡ true
 front p None ys is = cc

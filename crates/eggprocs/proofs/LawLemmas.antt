@@ -1,18 +1,24 @@
 -- Who is not heeded, and what is asked for then.
-use Rattle.std.proofs.Common.{◌≡◌, ◌∙◌, ◌&&◌, ◌||◌, ◌==◌, ◌∷◌, not, ℕ, List, [], length, map, take, drop, Bool, true, false, refl, ap, codes, if◌then◌else◌, Option, Some, None}
+use Rattle.std.proofs.Common.{◌≡◌, ◌∙◌, ◌&&◌, ◌||◌, ◌==◌, ◌∷◌, ◌++◌, not, ℕ, List, [], length, map, take, drop, Bool, true, false, refl, ap, sym, subst, zero, suc, codes, if◌then◌else◌, Option, Some, None}
 use Rattle.std.specs.Prelude.{is_some}
+use Rattle.std.specs.Str.{bytes_eq}
 use Rattle.std.proofs.lemmas.Slice.Eq.{bytes_eq-Decides}
-use Rattle.std.specs.List.{list_all, list_any}
+use Rattle.std.specs.List.{list_all, list_any, filter_map, cons_option}
+use Rattle.std.specs.Option.{option_map}
 use Rattle.flagexpr.specs.Letters.{has_letter}
 use Rattle.userfile.specs.declared.change.Change.{Change}
 use Rattle.userfile.specs.declared.error.ChangeFault.{ChangeFault}
 use Rattle.userfile.specs.declared.ban.Ban.{Ban}
 use Rattle.userfile.specs.declared.user.User.{User}
 use Rattle.userfile.specs.Apply.{refusal}
+use Rattle.userfile.specs.Records.{Records}
 use Rattle.userfile.specs.Held.{has_user, user_of}
 use Rattle.userfile.specs.declared.flags.PersonFlags.{PersonFlags}
+use Rattle.chanstate.specs.declared.member.Member.{Member}
+use Rattle.chanstate.specs.Views.{members_in}
 use Rattle.procstore.specs.declared.action.Action.{Action}
-use Rattle.outqueue.specs.declared.queue.Queue.TheVariants.{Help}
+use Rattle.procstore.specs.declared.action.Action.TheVariants.{Ask, Timer, Utimer, KillTimer, SendBot, Put}
+use Rattle.outqueue.specs.declared.queue.Queue.TheVariants.{Help, Mode as mode_queue, Server}
 use Rattle.procstore.specs.declared.call.Call.{Call}
 use Rattle.procstore.specs.declared.limits.TheConstants.{MAX_ACTIONS}
 use Rattle.procstore.specs.declared.reply.Reply.{Reply}
@@ -23,16 +29,19 @@ use Rattle.eggprocs.specs.declared.rights.Standing.{Standing}
 use Rattle.eggprocs.specs.declared.rights.Standing.TheVariants.{Elsewhere, Stranger, Master}
 use Rattle.eggprocs.specs.declared.which.Which.{Which}
 use Rattle.eggprocs.specs.declared.which.Which.TheVariants as which
-use Rattle.eggprocs.specs.Args.{nick_of, handle_of, channel_of, told_of, or_else}
+use Rattle.eggprocs.specs.Args.{nick_of, handle_of, channel_of, told_of, last_of, has_word, or_else}
+use Rattle.eggprocs.specs.Basics.{is_command}
 use Rattle.eggprocs.specs.Bans.{asked_by_ban, asked_by_unban}
 use Rattle.eggprocs.specs.Channel.{put, asked_for_mode, asked_for_newcomer, change_for, asked_by_kick, asked_by_topic, asked_by_invite}
+use Rattle.eggprocs.specs.Everyone.{is_own_join, gives_bot_op, flags_of_member, is_left, mode_for}
 use Rattle.eggprocs.specs.Infos.{info_by, set_by, asked_by_known, greeting}
-use Rattle.eggprocs.specs.Laws.{Lacks, DoesNothing, AsksNoChange, is_ask, is_ask_for_owners, is_own, IsOnlyWithInfo}
-use Rattle.eggprocs.specs.Lines.{privmsg}
+use Rattle.eggprocs.specs.Laws.{Lacks, DoesNothing, AsksNoChange, is_ask, is_ask_for_owners, is_own, IsOnlyWithInfo, is_due_to, is_due, GivesWhatIsDue, KeepsChannelsApart}
+use Rattle.eggprocs.specs.Lines.{privmsg, mode, who}
 use Rattle.eggprocs.specs.Marks.{stick, unstick, left_out, told_ban, told_bans, asked_by_bans}
 use Rattle.eggprocs.specs.People.{told, for_owners, is_for_owners, asked_unless, asked_by_master, asked_by_command, plus_user, minus_user, plus_host, minus_host, chattr, asked_by_whois}
 use Rattle.eggprocs.specs.Procs.{name_of, actions_by, actions_if, ours}
 use Rattle.eggprocs.specs.Rights.{has_flag, flags_by, is_bot_op, is_from_op, is_from_voice, is_join, is_pub, is_msg, global_by, is_owner, is_master, standing_if, standing_of}
+use Rattle.eggprocs.specs.Whereabouts.{sought, shared, known_text, whereabouts_if}
 use Rattle.eggprocs.proofs.Names.{which_named-name_of}
 
 -- ---- tests
@@ -272,6 +281,137 @@ greet-none call seen none = ungreeted (is_join call.kind) call (info_by call see
 
 pub greet-law : IsOnlyWithInfo (codes "greet")
 greet-law call seen none = does-nothing which.Greet call seen (greet-none call seen none)
+
+-- ---- everyone on a channel
+
+left-true : (a b : Bool) → (a && b) ≡ true → a ≡ true
+left-true true b e = refl
+left-true false b e = cc
+
+right-true : (a b : Bool) → (a && b) ≡ true → b ≡ true
+right-true true b e = e
+right-true false b e = cc
+
+both-true : (a b : Bool) → a ≡ true → b ≡ true → (a && b) ≡ true
+both-true a b e f = ap (λ (x : Bool). x && b) e ∙ f
+
+or-right : (a b : Bool) → b ≡ true → (a || b) ≡ true
+or-right true b e = refl
+or-right false b e = e
+
+all-take : {X : Type 0} (p : X → Bool) (n : ℕ) (xs : List X) → list_all p xs ≡ true → list_all p (take n xs) ≡ true
+all-take p zero xs all = refl
+all-take p (suc n) [] all = refl
+all-take p (suc n) (x ∷ xs) all =
+    both-true (p x) (list_all p (take n xs)) (left-true (p x) (list_all p xs) all)
+    (all-take p n xs (right-true (p x) (list_all p xs) all))
+
+all-of : {X : Type 0} (p q : X → Bool) (xs : List X) → ((x : X) → p x ≡ true → q x ≡ true) → list_all p xs ≡ true → list_all q xs ≡ true
+all-of p q [] more all = refl
+all-of p q (x ∷ xs) more all =
+    both-true (q x) (list_all q xs) (more x (left-true (p x) (list_all p xs) all))
+    (all-of p q xs more (right-true (p x) (list_all p xs) all))
+
+-- each of these is of an element that gives it
+all-given : {X Y : Type 0} (h : X → Option Y) (is_of : Y → X → Bool) → ((x : X) (y : Y) → h x ≡ Some y → is_of y x ≡ true)
+    → (xs : List X) → list_all (λ y. list_any (is_of y) xs) (filter_map h xs) ≡ true
+all-given h is_of gives [] = refl
+all-given {X} {Y} h is_of gives (x ∷ xs) =
+    by (h x) (λ y is. gives x y is)
+    (all-of (λ y. list_any (is_of y) xs) (λ y. list_any (is_of y) (x ∷ xs)) (filter_map h xs)
+    (λ y among. or-right (is_of y x) (list_any (is_of y) xs) among) (all-given h is_of gives xs))
+  where
+    by : (given : Option Y) → ((y : Y) → given ≡ Some y → is_of y x ≡ true)
+        → list_all (λ y. list_any (is_of y) (x ∷ xs)) (filter_map h xs) ≡ true
+        → list_all (λ y. list_any (is_of y) (x ∷ xs)) (cons_option given (filter_map h xs)) ≡ true
+    by None here rest = rest
+    by (Some y) here rest =
+        both-true (list_any (is_of y) (x ∷ xs)) (list_all (λ z. list_any (is_of z) (x ∷ xs)) (filter_map h xs))
+        (ap (λ (b : Bool). b || list_any (is_of y) xs) (here y refl)) rest
+
+-- op by the one flag, or voice by the other
+abbrev is_due_by : Bool → Bool → List ℕ → List ℕ → Action → Bool
+is_due_by op voice channel nick (Put wish) =
+    (op && bytes_eq wish.line (mode channel (codes "+o") nick)) || (voice && bytes_eq wish.line (mode channel (codes "+v") nick))
+is_due_by op voice channel nick (Ask change) = false
+is_due_by op voice channel nick (Timer wish) = false
+is_due_by op voice channel nick (Utimer wish) = false
+is_due_by op voice channel nick (KillTimer name) = false
+is_due_by op voice channel nick (SendBot wish) = false
+
+abbrev is_due_if : Bool → Bool → List ℕ → List ℕ → Option Action → Bool
+is_due_if op voice channel nick None = true
+is_due_if op voice channel nick (Some action) = is_due_by op voice channel nick action
+
+-- the mode of a member is op for the flag a, or voice for the flag g
+due-by : (left op voice voiced : Bool) (channel nick : List ℕ) (action : Action)
+    → option_map (λ change. put mode_queue (mode channel change nick))
+    (if left then None else (if op then Some (codes "+o") else (if voice && not voiced then Some (codes "+v") else None))) ≡ Some action
+    → is_due_by op voice channel nick action ≡ true
+due-by true op voice voiced channel nick action is = cc
+due-by false true voice voiced channel nick action is = subst (λ (one : Option Action). is_due_if true voice channel nick one ≡ true) is
+    (ap (λ (b : Bool). b || (voice && bytes_eq (mode channel (codes "+o") nick) (mode channel (codes "+v") nick)))
+    ((bytes_eq-Decides (mode channel (codes "+o") nick) (mode channel (codes "+o") nick)).1 refl))
+due-by false false true true channel nick action is = cc
+due-by false false true false channel nick action is = subst (λ (one : Option Action). is_due_if false true channel nick one ≡ true) is
+    ((bytes_eq-Decides (mode channel (codes "+v") nick) (mode channel (codes "+v") nick)).1 refl)
+due-by false false false voiced channel nick action is = cc
+
+due-same : (call : Call) (seen : Seen) (member : Member) (action : Action) → is_due_to call seen action member
+    ≡ is_due_by (has_flag AUTO_OP (flags_of_member call seen member)) (has_flag AUTO_VOICE (flags_of_member call seen member))
+    (channel_of call) member.nick action
+due-same call seen member (Put wish) = refl
+due-same call seen member (Ask change) = refl
+due-same call seen member (Timer wish) = refl
+due-same call seen member (Utimer wish) = refl
+due-same call seen member (KillTimer name) = refl
+due-same call seen member (SendBot wish) = refl
+
+due-mode : (call : Call) (seen : Seen) (member : Member) (action : Action) → mode_for call seen member ≡ Some action
+    → is_due_to call seen action member ≡ true
+due-mode call seen member action is =
+    due-same call seen member action
+    ∙ due-by (is_left seen member) (has_flag AUTO_OP (flags_of_member call seen member)) (has_flag AUTO_VOICE (flags_of_member call seen member))
+    member.voice (channel_of call) member.nick action is
+
+opall-due : (call : Call) (seen : Seen) (joins gets : Bool) → joins ≡ false → list_all (is_due call seen)
+    (if joins then put Server (who (channel_of call)) ∷ []
+    else if gets then take MAX_ACTIONS (filter_map (mode_for call seen) (members_in (channel_of call) seen.sight.channels))
+    else []) ≡ true
+opall-due call seen true gets none = cc
+opall-due call seen false false none = refl
+opall-due call seen false true none =
+    all-take (is_due call seen) MAX_ACTIONS (filter_map (mode_for call seen) (members_in (channel_of call) seen.sight.channels))
+    (all-given (mode_for call seen) (is_due_to call seen) (due-mode call seen) (members_in (channel_of call) seen.sight.channels))
+
+pub opall-law : GivesWhatIsDue (codes "opall")
+unfolding actions_by
+opall-law call seen none = λ reply kept.
+    ap (list_all (is_due call seen)) (actions-kept which.OpAll call seen reply kept)
+    ∙ opall-due call seen (is_own_join call seen) (gives_bot_op call seen) none
+
+-- ---- where people are
+
+-- what is said where nobody shares a channel
+abbrev by_these : Call → Records → List Action
+by_these call records =
+    if is_command call.kind
+    then told call (if has_word (last_of call.args) then sought call ++ known_text (has_user (sought call) records.users) else codes "use seen NICK") ∷ []
+    else []
+
+seen-apart : (call : Call) (seen : Seen) → shared call seen ≡ None → actions_by which.Seen call seen ≡ by_these call seen.sight.records
+unfolding actions_by
+seen-apart call seen none =
+    ap (λ (channel : Option (List ℕ)). if is_command call.kind
+    then told call (if has_word (last_of call.args) then whereabouts_if channel call seen else codes "use seen NICK") ∷ [] else []) none
+
+pub seen-law : KeepsChannelsApart (codes "seen")
+seen-law call one other same none-one none-other = λ a b kept-a kept-b.
+    actions-kept which.Seen call one a kept-a
+    ∙ seen-apart call one none-one
+    ∙ ap (by_these call) same
+    ∙ sym (seen-apart call other none-other)
+    ∙ sym (actions-kept which.Seen call other b kept-b)
 
 -- ---- what is for owners alone
 

@@ -1,3 +1,4 @@
 pub mod BanLines
+pub mod EveryoneLemmas
 pub mod LawLemmas
 pub mod Names

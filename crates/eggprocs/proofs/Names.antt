@@ -4,7 +4,7 @@ use Rattle.procstore.specs.declared.reply.Reply.{Reply}
 use Rattle.procstore.specs.Promises.{KeepsPromise}
 use Rattle.eggprocs.specs.declared.which.Which.{Which}
 use Rattle.eggprocs.specs.declared.which.Which.TheVariants.{Quiet, Stop, AddUser, Tick, Tell, Echo, Op, Deop, Voice, Devoice, AutoOp, Kick, Topic, Invite, Ban, Unban, Lift}
-use Rattle.eggprocs.specs.declared.which.Which.TheVariants.{PlusUser, MinusUser, PlusHost, MinusHost, Chattr, Whois, Info, Greet, Stick, Unstick, Bans}
+use Rattle.eggprocs.specs.declared.which.Which.TheVariants.{PlusUser, MinusUser, PlusHost, MinusHost, Chattr, Whois, Info, Greet, Stick, Unstick, Bans, Seen, OpAll}
 use Rattle.eggprocs.specs.Procs.{name_of, which_named, code_if, actions_if, answers_by, ours}
 
 pub which_named-name_of : (which : Which) → which_named (name_of which) ≡ Some which
@@ -37,6 +37,8 @@ which_named-name_of Greet = refl
 which_named-name_of Stick = refl
 which_named-name_of Unstick = refl
 which_named-name_of Bans = refl
+which_named-name_of Seen = refl
+which_named-name_of OpAll = refl
 
 pub keeps : (which : Which) → KeepsPromise ours (name_of which) (answers_by which)
 keeps which call seen (Ok reply) is = record {

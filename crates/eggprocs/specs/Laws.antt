@@ -1,23 +1,28 @@
 -- Who gets nothing done.
-use Rattle.std.specs.Prelude.{◌≡◌, ℕ, Bool, true, false, List, [], None}
+use Rattle.std.specs.Prelude.{◌≡◌, ℕ, ◌&&◌, ◌||◌, Bool, true, false, List, [], None, codes}
 use Rattle.std.specs.List.{list_all, list_any}
 use Rattle.std.specs.Str.{bytes_eq}
 use Rattle.flagexpr.specs.Letters.{has_letter}
 use Rattle.userfile.specs.declared.change.Change.{Change}
 use Rattle.userfile.specs.declared.change.Change.TheVariants.{AddUser, DelUser, AddHost, DelHost, SetGlobal, SetChan, SetBot, AddBan, DelBan, SetInfo, SetSticky}
 use Rattle.userfile.specs.Held.{user_of}
+use Rattle.chanstate.specs.declared.member.Member.{Member}
+use Rattle.chanstate.specs.Views.{members_in}
 use Rattle.procstore.specs.declared.action.Action.{Action}
 use Rattle.procstore.specs.declared.action.Action.TheVariants.{Ask, Timer, Utimer, KillTimer, SendBot, Put}
 use Rattle.procstore.specs.declared.call.Call.{Call}
 use Rattle.procstore.specs.declared.reply.Reply.{Reply}
 use Rattle.procstore.specs.Promises.{IsKept}
 use Rattle.procstore.specs.Seen.{Seen}
-use Rattle.eggprocs.specs.declared.rights.TheConstants.{MASTER, OWNER}
-use Rattle.eggprocs.specs.Args.{handle_of}
+use Rattle.eggprocs.specs.declared.rights.TheConstants.{AUTO_OP, AUTO_VOICE, MASTER, OWNER}
+use Rattle.eggprocs.specs.Args.{handle_of, channel_of}
+use Rattle.eggprocs.specs.Everyone.{is_own_join, flags_of_member}
 use Rattle.eggprocs.specs.Infos.{info_by}
+use Rattle.eggprocs.specs.Lines.{mode}
 use Rattle.eggprocs.specs.People.{is_for_owners}
 use Rattle.eggprocs.specs.Procs.{ours}
-use Rattle.eggprocs.specs.Rights.{flags_by, global_by, is_bot_op}
+use Rattle.eggprocs.specs.Rights.{flags_by, has_flag, global_by, is_bot_op}
+use Rattle.eggprocs.specs.Whereabouts.{shared}
 
 -- who calls has a flag neither everywhere nor on the call's channel
 abbrev pub Lacks : ℕ → Call → Seen → Type 0
@@ -115,3 +120,35 @@ IsOnlyForKnown name =
 -- a proc does nothing for who has no info line
 abbrev pub IsOnlyWithInfo : List ℕ → Type 0
 IsOnlyWithInfo name = (call : Call) (seen : Seen) → info_by call seen ≡ [] → DoesNothing name call seen
+
+-- ---- everyone on a channel
+
+-- op for a member who has the flag a, or voice for one who has the flag g
+abbrev pub is_due_to : Call → Seen → Action → Member → Bool
+is_due_to call seen (Put wish) member =
+    (has_flag AUTO_OP (flags_of_member call seen member) && bytes_eq wish.line (mode (channel_of call) (codes "+o") member.nick))
+    || (has_flag AUTO_VOICE (flags_of_member call seen member) && bytes_eq wish.line (mode (channel_of call) (codes "+v") member.nick))
+is_due_to call seen (Ask change) member = false
+is_due_to call seen (Timer wish) member = false
+is_due_to call seen (Utimer wish) member = false
+is_due_to call seen (KillTimer name) member = false
+is_due_to call seen (SendBot wish) member = false
+
+-- the same for some member of the call's channel
+abbrev pub is_due : Call → Seen → Action → Bool
+is_due call seen action = list_any (is_due_to call seen action) (members_in (channel_of call) seen.sight.channels)
+
+-- save as the bot itself joins, whatever the proc of this name answers, it gives op and voice to members who have the flag, and does
+-- nothing else
+abbrev pub GivesWhatIsDue : List ℕ → Type 0
+GivesWhatIsDue name =
+    (call : Call) (seen : Seen) → is_own_join call seen ≡ false
+    → (reply : Reply) → IsKept ours name call seen reply → list_all (is_due call seen) reply.actions ≡ true
+
+-- ---- where people are
+
+-- to who shares no channel with the one who is asked for, a proc answers by the records, whatever else the channels hold
+abbrev pub KeepsChannelsApart : List ℕ → Type 0
+KeepsChannelsApart name =
+    (call : Call) (one other : Seen) → one.sight.records ≡ other.sight.records → shared call one ≡ None → shared call other ≡ None
+    → (a b : Reply) → IsKept ours name call one a → IsKept ours name call other b → a.actions ≡ b.actions

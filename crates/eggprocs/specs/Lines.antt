@@ -1,4 +1,4 @@
--- Lines for the server (RFC 2812 sections 3.2 and 3.3), without their CR LF.
+-- Lines for the server (RFC 2812 sections 3.2, 3.3 and 3.6.1), without their CR LF.
 use Rattle.std.specs.Prelude.{ℕ, List, ◌++◌, codes}
 
 -- PRIVMSG TARGET :TEXT
@@ -24,3 +24,7 @@ mode channel change target = codes "MODE " ++ channel ++ codes " " ++ change ++ 
 -- KICK CHANNEL NICK :REASON
 abbrev pub kick : List ℕ → List ℕ → List ℕ → List ℕ
 kick channel nick reason = codes "KICK " ++ channel ++ codes " " ++ nick ++ codes " :" ++ reason
+
+-- WHO CHANNEL
+abbrev pub who : List ℕ → List ℕ
+who channel = codes "WHO " ++ channel

@@ -15,7 +15,7 @@ use Rattle.eggprocs.specs.declared.rights.Standing.{Standing}
 use Rattle.eggprocs.specs.declared.rights.Standing.TheVariants.{Elsewhere, Stranger, Master}
 use Rattle.eggprocs.specs.Args.{handle_of, channel_of}
 
--- what a call is for: the first word of what is said on a channel, a join, the first word of what is said to the bot, or a timer
+-- what a call is for: the first word of what is said on a channel, a join, the first word of what is said to the bot, a timer, or a mode
 abbrev pub is_pub : Kind → Bool
 is_pub Pub = true
 is_pub Raw = false
@@ -91,6 +91,25 @@ is_timer Topc = false
 is_timer Bot = false
 is_timer Time = false
 is_timer Cron = false
+
+abbrev pub is_mode : Kind → Bool
+is_mode Mode = true
+is_mode Raw = false
+is_mode Msg = false
+is_mode Msgm = false
+is_mode Notc = false
+is_mode Pub = false
+is_mode Pubm = false
+is_mode Join = false
+is_mode Part = false
+is_mode Sign = false
+is_mode Kick = false
+is_mode Nick = false
+is_mode Topc = false
+is_mode Bot = false
+is_mode Time = false
+is_mode Cron = false
+is_mode Timer = false
 
 -- the flags of who calls, with those on the call's channel
 abbrev pub flags_by : Call → Seen → PersonFlags

@@ -2,18 +2,18 @@
 ghost use Rattle.std.specs.Prelude.{◌≡◌, IfOk};
 ghost use Rattle.eggprocs.specs.Procs.{actions_by};
 
-use crate::args::told_of;
 use crate::bans::{asked_by_ban, asked_by_lift, asked_by_unban};
 use crate::basics::{asked_by_adduser, asked_by_echo, asked_by_tell, asked_by_tick};
 use crate::channel::{
     asked_by_autoop, asked_by_invite, asked_by_kick, asked_by_topic, asked_for_mode,
 };
+use crate::everyone::asked_by_opall;
 use crate::infos::{asked_by_greet, asked_by_info};
-use crate::marks::{asked_by_bans, stick, unstick};
-use crate::people::{
-    asked_by_command, asked_by_whois, chattr, minus_host, minus_user, plus_host, plus_user,
-};
+use crate::marks::asked_by_bans;
+use crate::orders::{Order, asked_by_order};
+use crate::people::asked_by_whois;
 use crate::rights::{is_from_op, is_from_voice};
+use crate::whereabouts::asked_by_seen;
 use crate::which::Which;
 use bytetext::NoMemory;
 use procstore::{Actions, Call, View};
@@ -46,37 +46,18 @@ pub(crate) fn actions_by(
         Which::Ban => asked_by_ban(alloc, is_from_op(call, view), call, view),
         Which::Unban => asked_by_unban(alloc, is_from_op(call, view), call),
         Which::Lift => asked_by_lift(alloc, call, view),
-        Which::PlusUser => {
-            let wish = plus_user(alloc, told_of(call))?;
-            asked_by_command(alloc, call, view, b"use +user HANDLE", wish)
-        }
-        Which::MinusUser => {
-            let wish = minus_user(alloc, told_of(call))?;
-            asked_by_command(alloc, call, view, b"use -user HANDLE", wish)
-        }
-        Which::PlusHost => {
-            let wish = plus_host(alloc, told_of(call))?;
-            asked_by_command(alloc, call, view, b"use +host HANDLE MASK", wish)
-        }
-        Which::MinusHost => {
-            let wish = minus_host(alloc, told_of(call))?;
-            asked_by_command(alloc, call, view, b"use -host HANDLE MASK", wish)
-        }
-        Which::Chattr => {
-            let wish = chattr(alloc, told_of(call))?;
-            asked_by_command(alloc, call, view, b"use chattr HANDLE FLAGS", wish)
-        }
+        Which::PlusUser => asked_by_order(alloc, Order::PlusUser, call, view),
+        Which::MinusUser => asked_by_order(alloc, Order::MinusUser, call, view),
+        Which::PlusHost => asked_by_order(alloc, Order::PlusHost, call, view),
+        Which::MinusHost => asked_by_order(alloc, Order::MinusHost, call, view),
+        Which::Chattr => asked_by_order(alloc, Order::Chattr, call, view),
         Which::Whois => asked_by_whois(alloc, call, view),
         Which::Info => asked_by_info(alloc, call, view),
         Which::Greet => asked_by_greet(alloc, call, view),
-        Which::Stick => {
-            let wish = stick(alloc, told_of(call))?;
-            asked_by_command(alloc, call, view, b"use stick MASK CHANNEL", wish)
-        }
-        Which::Unstick => {
-            let wish = unstick(alloc, told_of(call))?;
-            asked_by_command(alloc, call, view, b"use unstick MASK CHANNEL", wish)
-        }
+        Which::Stick => asked_by_order(alloc, Order::Stick, call, view),
+        Which::Unstick => asked_by_order(alloc, Order::Unstick, call, view),
         Which::Bans => asked_by_bans(alloc, call, view),
+        Which::Seen => asked_by_seen(alloc, call, view),
+        Which::OpAll => asked_by_opall(alloc, call, view),
     }
 }

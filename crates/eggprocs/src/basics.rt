@@ -84,7 +84,7 @@ fn place_of(kind: Kind) -> Option<usize>
 }
 
 // Whether a kind's last argument is what stands behind a first word.
-fn is_command(kind: Kind) -> bool
+pub(crate) fn is_command(kind: Kind) -> bool
     ensures { result ≡ is_command kind }
 {
     matches!(kind, Kind::Msg | Kind::Pub)

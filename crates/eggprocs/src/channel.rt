@@ -13,7 +13,7 @@ use std::alloc::Global;
 use userfile::PersonFlags;
 
 // A line for the server, and nothing else.
-fn one_line(alloc: Global, queue: Queue, line: Text) -> Result<Actions, NoMemory>
+pub(crate) fn one_line(alloc: Global, queue: Queue, line: Text) -> Result<Actions, NoMemory>
     ensures { IfOk result (λ actions. actions ≡ put queue line ∷ []) }
 {
     Actions::one(alloc, Action::Put(PutWish { queue, line }))

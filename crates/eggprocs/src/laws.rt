@@ -1,12 +1,13 @@
 // Who gets nothing done.
 ghost use Rattle.std.specs.Prelude.{codes};
 ghost use Rattle.eggprocs.specs.Laws.{IsOnlyFor, IsOnlyForEither, IsOnlyByOps, IsOnlyForMasters, SparesOwners};
-ghost use Rattle.eggprocs.specs.Laws.{ChangesOwnInfo, IsOnlyForKnown, IsOnlyWithInfo};
+ghost use Rattle.eggprocs.specs.Laws.{ChangesOwnInfo, IsOnlyForKnown, IsOnlyWithInfo, GivesWhatIsDue, KeepsChannelsApart};
 
 use crate::rights::{AUTO_OP, AUTO_VOICE, OP, VOICE};
 
 /// A law, and no more: who has the flag `o` neither everywhere nor on the channel gets nothing done by the commands of a
-/// channel's operators; `voice` and `devoice` want one of `o` and `v`, and `autoop` one of `a` and `g`. This is of any
+/// channel's operators; `voice` and `devoice` want one of `o` and `v`, and `autoop` one of `a` and `g`. `opall`, save as the
+/// bot itself joins, gives op to members who have the flag `a`, voice to those who have `g`, and does nothing else. This is of any
 /// answer that [`Ours`](crate::Ours) allows, whatever body stands in a store.
 pub fn commands_want_flags()
     ensures op { IsOnlyFor OP (codes "op") }
@@ -19,6 +20,7 @@ pub fn commands_want_flags()
     ensures voice { IsOnlyForEither OP VOICE (codes "voice") }
     ensures devoice { IsOnlyForEither OP VOICE (codes "devoice") }
     ensures autoop { IsOnlyForEither AUTO_OP AUTO_VOICE (codes "autoop") }
+    ensures opall { GivesWhatIsDue (codes "opall") }
 {}
 
 /// A law, and no more: nothing is done on a channel on which the bot itself is no operator.
@@ -72,4 +74,9 @@ pub fn info_is_of_who_asks()
 /// A law, and no more: `greet` does nothing for who has no info line, as nobody has whom the userfile does not know.
 pub fn greetings_want_an_info()
     ensures greet { IsOnlyWithInfo (codes "greet") }
+{}
+
+/// A law, and no more: to who shares no channel with the one who is asked for, `seen` answers the same wherever that one is.
+pub fn answers_keep_channels_apart()
+    ensures seen { KeepsChannelsApart (codes "seen") }
 {}

@@ -16,6 +16,7 @@
 //! | `op`, `deop` | `pub` | `o` | NICK or none | `MODE CHANNEL +o NICK`, or `-o`; of who says it where there is no word |
 //! | `voice`, `devoice` | `pub` | `o`, `v` | NICK or none | `MODE CHANNEL +v NICK`, or `-v`, likewise |
 //! | `autoop` | `join` | `a`, `g` | | `MODE CHANNEL +o NICK` of who joins with the flag `a`, else `+v` |
+//! | `opall` | `join`, `mode` | `a`, `g` | | `MODE CHANNEL +o NICK` of each member with the flag `a`, else `+v`, as the bot gets op there |
 //! | `kick` | `pub` | `o` | NICK REASON | `KICK CHANNEL NICK :REASON`; the reason is `request` where none is said |
 //! | `topic` | `pub` | `o` | TEXT | `TOPIC CHANNEL :TEXT` |
 //! | `invite` | `pub` | `o` | NICK | `INVITE NICK CHANNEL` |
@@ -23,13 +24,16 @@
 //! | `unban` | `pub` | `o` | MASK | its end in the userfile, and `MODE CHANNEL -b MASK` |
 //! | `greet` | `join` | | | `PRIVMSG CHANNEL :[NICK] INFO` of who joins and has an info line, whether the bot is an operator or not |
 //!
+//! `opall` asks for the modes of the first eight members who lack one, in the order in which they came, and leaves out who is
+//! op. It goes by the hosts that the server has told, so that it asks for `WHO CHANNEL` as the bot itself joins.
+//!
 //! `lift` is for the timer that `ban` asks for: with the text CHANNEL MASK it asks for `MODE CHANNEL -b MASK`. A restart
 //! loses timers, as any bot's; the userfile's ban ends all the same.
 //!
 //! A ban ends so many minutes after the second that the bot's clock shows. Where no number of minutes below 2^32 follows the
 //! mask, or the clock shows no second yet, it does not end. The comment is what follows, as far as 100 bytes. What lacks its
-//! nick, its text or a hostmask does nothing. Modes and kicks go into the mode queue, topics and invitations into the server
-//! queue, greetings into the help queue. Who has no info line is not greeted ([`greetings_want_an_info`]).
+//! nick, its text or a hostmask does nothing. Modes and kicks go into the mode queue, topics, invitations and
+//! WHO into the server queue, greetings into the help queue. Who has no info line is not greeted ([`greetings_want_an_info`]).
 //!
 //! Privately, by who has one of the flags `m` and `n` everywhere; anyone else is told so, and gets no change
 //! ([`changes_want_a_master`]). Who has `m` alone makes nobody an owner, who has the flag `n`, and changes no owner
@@ -50,6 +54,12 @@
 //! | Proc | Kind | Words | It asks for |
 //! |---|---|---|---|
 //! | `info` | `msg` | TEXT or none | that this is the own info line, or an empty one for the text `none`; without a text it says the own info line |
+//!
+//! By whoever asks. Who asks is told of no channel that he is not on ([`answers_keep_channels_apart`]):
+//!
+//! | Proc | Kind | Words | It asks for |
+//! |---|---|---|---|
+//! | `seen` | `msg`, `pub` | NICK | no change: it says that NICK is on a channel, by a word there of that one alone, and by a message of the first one that who asks is on too; else whether the userfile has a user of that name |
 //!
 //! Each answers with one NOTICE to the nick, in the help queue: how it is used where a word is missing, the code of the
 //! refusal where the records refuse the change as they are, and else that the change waits for the next pump. `bans` has a
@@ -78,23 +88,27 @@ mod bans;
 mod basics;
 mod body;
 mod channel;
+mod everyone;
 mod infos;
 mod laws;
 mod lines;
 mod marks;
+mod orders;
 mod pairs;
 mod people;
 mod procs;
 mod promise;
 mod rights;
+mod whereabouts;
 mod which;
 
 pub use crate::bans::UTIMER_MINUTES;
 pub use crate::body::EggProc;
 pub use crate::laws::{
-    changes_of_owners_want_an_owner, changes_want_a_master, commands_want_an_operator,
-    commands_want_flags, greetings_want_an_info, info_is_of_who_asks,
+    answers_keep_channels_apart, changes_of_owners_want_an_owner, changes_want_a_master,
+    commands_want_an_operator, commands_want_flags, greetings_want_an_info, info_is_of_who_asks,
 };
+pub use crate::orders::Order;
 pub use crate::procs::store;
 pub use crate::promise::Ours;
 pub use crate::rights::{AUTO_OP, AUTO_VOICE, MASTER, OP, OWNER, Standing, VOICE};

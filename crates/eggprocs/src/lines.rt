@@ -71,6 +71,15 @@ pub(crate) fn kick(
     Ok(Text::new(line))
 }
 
+// WHO CHANNEL
+pub(crate) fn who(alloc: Global, channel: &[u8]) -> Result<Text, NoMemory>
+    ensures { IfOk result (λ line. line ≡ lines.who channel.now) }
+{
+    let mut line = Vec::from_slice(alloc, b"WHO ")?;
+    line.extend_from_slice(channel)?;
+    Ok(Text::new(line))
+}
+
 // A command and two texts, with something between them.
 fn of_two(
     alloc: Global,

@@ -1,6 +1,6 @@
 // Who may have something done.
 ghost use Rattle.std.specs.Prelude.{◌≡◌, ℕ};
-ghost use Rattle.eggprocs.specs.Rights.{is_pub, is_join, is_msg, is_timer, flags_by, has_flag, is_op_of, is_bot_op, is_from_op, is_from_voice, global_by, is_owner, is_master, standing_if, standing_of};
+ghost use Rattle.eggprocs.specs.Rights.{is_pub, is_join, is_msg, is_timer, is_mode, flags_by, has_flag, is_op_of, is_bot_op, is_from_op, is_from_voice, global_by, is_owner, is_master, standing_if, standing_of};
 
 use crate::args::{channel_of, handle_of};
 use flagexpr::Flags;
@@ -37,7 +37,7 @@ pub enum Standing {
 }
 
 // Whether a call is for the first word of what is said on a channel.
-fn is_pub(kind: Kind) -> bool
+pub(crate) fn is_pub(kind: Kind) -> bool
     ensures { result ≡ is_pub kind }
 {
     matches!(kind, Kind::Pub)
@@ -62,6 +62,13 @@ pub(crate) fn is_timer(kind: Kind) -> bool
     ensures { result ≡ is_timer kind }
 {
     matches!(kind, Kind::Timer)
+}
+
+// Whether a call is for a mode.
+pub(crate) fn is_mode(kind: Kind) -> bool
+    ensures { result ≡ is_mode kind }
+{
+    matches!(kind, Kind::Mode)
 }
 
 // The flags of who calls, with those on the call's channel.

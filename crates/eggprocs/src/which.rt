@@ -5,7 +5,7 @@ ghost use Rattle.eggprocs.specs.Procs.{name_of, every, code_by};
 use procstore::Code;
 
 /// How many procs there are.
-pub const PROC_COUNT: usize = 28;
+pub const PROC_COUNT: usize = 30;
 
 /// Every proc, in the order in which [`store`](crate::store) adds them.
 pub const EVERY: [Which; PROC_COUNT] = [
@@ -37,6 +37,8 @@ pub const EVERY: [Which; PROC_COUNT] = [
     Which::Stick,
     Which::Unstick,
     Which::Bans,
+    Which::Seen,
+    Which::OpAll,
 ];
 
 /// A proc of the programs. The crate's first page says what each is for.
@@ -98,6 +100,10 @@ pub enum Which {
     Unstick,
     /// `bans`: says which bans there are.
     Bans,
+    /// `seen`: says whether somebody is here.
+    Seen,
+    /// `opall`: gives op and voice to those on a channel as the bot gets op there.
+    OpAll,
 }
 
 impl Which {
@@ -134,6 +140,8 @@ impl Which {
             Which::Stick => b"stick",
             Which::Unstick => b"unstick",
             Which::Bans => b"bans",
+            Which::Seen => b"seen",
+            Which::OpAll => b"opall",
         }
     }
 
@@ -170,7 +178,9 @@ impl Which {
             | Which::Greet
             | Which::Stick
             | Which::Unstick
-            | Which::Bans => Code::Zero,
+            | Which::Bans
+            | Which::Seen
+            | Which::OpAll => Code::Zero,
         }
     }
 }

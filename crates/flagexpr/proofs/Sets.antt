@@ -1,15 +1,17 @@
 -- Sets of letters: which letters a number has, and that its letters determine it.
-use Rattle.std.proofs.Common.{◌≡◌, ℕ, ◌+◌, ◌*◌, ◌%◌, ◌^◌, ◌<◌, ◌≢◌, min, max, nat_lt, Bool, true, false, not, cond, eqb, ◌&&◌, ◌||◌, List, [], ◌∷◌, length, get_or, bit_and, bit_or, refl, sym, ap, ◌∙◌, subst, arith, ⊎_elim, if◌then◌else◌}
+use Rattle.std.proofs.Common.{◌≡◌, ℕ, ◌+◌, ◌*◌, ◌%◌, ◌^◌, ◌<◌, ◌≢◌, min, nat_lt, Bool, true, false, not, cond, eqb, ◌&&◌, ◌||◌, List, [], ◌∷◌, length, get_or, bit_and, bit_or, refl, sym, ap, ◌∙◌, subst, arith, ⊎_elim, if◌then◌else◌}
 use Rattle.std.specs.List.{list_all, list_any, filter, fold}
 use Rattle.std.specs.Char.{is_ascii_alphabetic}
 use Rattle.std.specs.Int.{bit_at}
 use Rattle.std.proofs.lemmas.Bool.{cases_eq, cases_Bool, cond_both, false_from_ne_true, true_from_ne_false, agree_below_at, eqb-true, eq-eqb, ne_eqb, false≢true}
 use Rattle.std.proofs.lemmas.Bool.Decides.{nat_tests}
 use Rattle.std.proofs.lemmas.Nat.{or_lt, and_le_l}
-use Rattle.std.proofs.lemmas.Nat.Bits.{bit_at_and, bit_at_or, bit_at-zero, bit_at-lt, bit_at-pow_same, bit_at-pow_other, same_from_bits_below}
+use Rattle.std.proofs.lemmas.Nat.Bits.{bit_at_and, bit_at-zero, bit_at-lt, bit_at-pow_same, bit_at-pow_other, same_from_bits_below}
 use Rattle.std.proofs.lemmas.List.Folds.{list_any_at}
 use Rattle.std.proofs.lemmas.List.Recursion.{and_at}
+use Rattle.std.proofs.Math.Bool.{or_assoc}
 use Rattle.std.proofs.Math.Pow.{pow-lt}
+use Rattle.bytetext.proofs.Bits.{bit_test_or}
 use Rattle.flagexpr.specs.Letters.{place_of, has_letter, with_letter, set_of, letters, shares, is_within, dash_for_none, spelling}
 
 -- ---- letters and their bits
@@ -93,9 +95,6 @@ pub set_of-lt : (flags : ℕ) (bytes : List ℕ) → flags < 2 ^ 52 → fold wit
 set_of-lt flags [] small = small
 set_of-lt flags (b ∷ bytes) small = set_of-lt (with_letter flags b) bytes (with_letter-lt flags b small)
 
-bit_test_or : (m n : ℕ) → m < 2 → n < 2 → eqb (max m n) 1 ≡ (eqb m 1 || eqb n 1)
-bit_test_or m n hm hn = grind (arith, nat_tests)
-
 -- whether the bit of one letter is that of another
 pow_test : (b letter : ℕ) → is_ascii_alphabetic b ≡ true → is_ascii_alphabetic letter ≡ true → eqb (bit_at (2 ^ place_of b) (place_of letter)) 1 ≡ eqb b letter
 pow_test b letter hb hl =
@@ -111,8 +110,7 @@ unfolding with_letter
 with_letter-yes flags b letter hb hl =
     ap (λ t. has_letter (cond t (bit_or flags (2 ^ place_of b)) flags) letter) hb
     ∙ has_letter-yes (bit_or flags (2 ^ place_of b)) letter hl
-    ∙ ap (λ k. eqb k 1) (bit_at_or flags (2 ^ place_of b) (place_of letter))
-    ∙ bit_test_or _ _ (bit_at-lt flags (place_of letter)) (bit_at-lt (2 ^ place_of b) (place_of letter))
+    ∙ bit_test_or flags (2 ^ place_of b) (place_of letter)
     ∙ ap (λ t. eqb (bit_at flags (place_of letter)) 1 || t) (pow_test b letter hb hl)
     ∙ ap (λ t. t || eqb b letter) (sym (has_letter-yes flags letter hl))
 
@@ -132,10 +130,6 @@ has_letter-with_letter : (flags b letter : ℕ) → is_ascii_alphabetic letter �
     → has_letter (with_letter flags b) letter ≡ (has_letter flags letter || eqb b letter)
 has_letter-with_letter flags b letter hl =
     ⊎_elim (λ yes. with_letter-yes flags b letter yes hl) (λ none. with_letter-no flags b letter none hl) (cases_Bool (is_ascii_alphabetic b))
-
-or_assoc : (a b c : Bool) → ((a || b) || c) ≡ (a || (b || c))
-or_assoc true b c = refl
-or_assoc false b c = refl
 
 has_letter-fold : (flags : ℕ) (bytes : List ℕ) (letter : ℕ) → is_ascii_alphabetic letter ≡ true
     → has_letter (fold with_letter flags bytes) letter ≡ (has_letter flags letter || list_any (λ b. eqb b letter) bytes)

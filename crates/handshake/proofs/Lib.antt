@@ -1,3 +1,2 @@
-mod NumberLemmas
 mod CodeLemmas
 mod KeyLemmas

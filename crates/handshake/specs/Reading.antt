@@ -1,9 +1,10 @@
 -- What the bytes of a connection say before the first frame.
-use Rattle.std.specs.Prelude.{ℕ, ◌+◌, ◌-◌, ◌*◌, ◌==◌, ◌&&◌, not, nat_le, nat_lt, Bool, List, [], ◌∷◌, take}
+use Rattle.std.specs.Prelude.{ℕ, ◌+◌, ◌-◌, ◌==◌, not, Bool, List, take}
 use Rattle.std.specs.Prelude.{drop, position, codes, decimal}
-use Rattle.std.specs.Prelude.{Option, Some, None, option_and_then, if◌then◌else◌}
+use Rattle.std.specs.Prelude.{Option, Some, None, if◌then◌else◌}
 use Rattle.std.specs.List.{prefix_len, take_while}
 use Rattle.std.specs.Str.{bytes_eq}
+use Rattle.bytetext.specs.Numerals.{number_from}
 use Rattle.handshake.specs.declared.TheConstants.{MAX_LINE}
 use Rattle.handshake.specs.declared.reading.Ask.{Ask}
 use Rattle.handshake.specs.declared.reading.Answer.{Answer}
@@ -27,17 +28,6 @@ abbrev pub rest_of : List ℕ → List ℕ
 rest_of line = drop (prefix_len is_letter line + 1) line
 
 -- ---- numbers
-
--- one decimal digit more, where the number stays below 65,536
-abbrev pub digit_onto : ℕ → ℕ → Option ℕ
-digit_onto value b =
-    if nat_le 48 b && nat_le b 57
-    then (if nat_lt (value * 10 + (b - 48)) 65536 then Some (value * 10 + (b - 48)) else None)
-    else None
-
-abbrev pub number_from : ℕ → List ℕ → Option ℕ
-number_from value [] = Some value
-number_from value (b ∷ bs) = option_and_then (λ longer. number_from longer bs) (digit_onto value b)
 
 -- a number below 65,536, as it is written: without a needless zero
 abbrev pub as_written : List ℕ → Option ℕ → Option ℕ

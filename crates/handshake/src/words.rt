@@ -2,8 +2,8 @@
 ghost use Rattle.std.specs.Prelude.{◌≡◌, ◌<◌, ◌≤◌, decimal, drop, length, take, IfSome};
 ghost use Rattle.std.specs.List.{prefix_len};
 ghost use Rattle.std.specs.Str.{bytes_eq};
-ghost use Rattle.handshake.specs.Reading.{as_written, digit_onto, is_letter, line_len, number_from, number_in, rest_of};
-ghost use Rattle.handshake.specs.Reading.{word_of};
+ghost use Rattle.bytetext.specs.Numerals.{digit_onto, number_from};
+ghost use Rattle.handshake.specs.Reading.{as_written, is_letter, line_len, number_in, rest_of, word_of};
 
 use crate::MAX_LINE;
 use itoa::Buffer;

@@ -11,13 +11,13 @@ use Rattle.protocol.specs.Journals.{is_next_of}
 use Rattle.protocol.specs.Numbers.{Next, place_of}
 use Rattle.linkcalls.specs.declared.answer.Answer.{Answer}
 use Rattle.linkcalls.specs.Calls.{note_of, outgoings_of}
-use Rattle.linkstate.specs.Ends.{LeavesOnly}
+use Rattle.linkstate.specs.Ends.{LeavesIfCalled}
 use Rattle.hublink.specs.Link.{HubEnd, IsOwn, Calls}
 
 -- an answer
 pub meets-answer : (old new : HubEnd) (row : How → Row Hub) (meaning : Note) (sends : List Sent) (answer : Answer)
     → row Works ≡ record { told = Ok meaning; sends = sends; after = new.bot } → note_of answer.note ≡ meaning → outgoings_of answer.packets ≡ sends
-    → new.number ≡ old.number → new.leaves ≡ old.leaves → LeavesOnly old.device new.device (IsOwn old.leaves (row Fails).after)
+    → new.number ≡ old.number → new.leaves ≡ old.leaves → LeavesIfCalled old.device new.device (IsOwn old.leaves (row Fails).after)
     → Calls old row (Ok answer) new
 meets-answer old new row meaning sends answer is notes sent numbered same moments = record {
   row_of = record {

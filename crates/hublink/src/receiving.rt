@@ -12,7 +12,6 @@ use userfile::{Change, ChangeFault};
 
 impl<D: Disk> HubLink<D> {
     ghost use Rattle.std.specs.Prelude.{◌≡◌, ◌+◌, ◌||◌, true, false, nat_lt};
-    ghost use Rattle.userfile.specs.Apply.{refusal};
     ghost use Rattle.protocol.specs.Packets.{from_wire};
     ghost use Rattle.protocol.specs.Packets.Packet.{Hello as hello_packet, Request as request_packet, BotText as text_packet};
     ghost use Rattle.protocol.specs.Numbers.{item_at, place_of};

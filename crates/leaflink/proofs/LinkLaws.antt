@@ -11,14 +11,14 @@ use Rattle.linkcalls.specs.declared.error.LinkFault.{LinkFault}
 use Rattle.linkcalls.specs.Calls.{note_of, outgoings_of}
 use Rattle.linkcalls.specs.Meets.{TakesMemory}
 use Rattle.botjournal.specs.Ledger.{AtEachMoment}
-use Rattle.linkstate.specs.Ends.{LeavesOnly}
+use Rattle.linkstate.specs.Ends.{LeavesIfCalled}
 use Rattle.protocol.specs.Journals.{leaf_meaning}
 use Rattle.linkstate.specs.Kept.{Journals, LeavesOwn}
 use Rattle.leaflink.specs.Link.{KeptLeaf, IsOwn, Calls, leaf_end}
 
 module _ (leaves : ℕ) (old new : KeptLeaf) (before : LeafLoose) (row : How → Row Leaf) (entry : LeafRecord) (note : Note) (sends : List Outgoing)
     (loose : LeafLoose) (moments : LeavesOwn (leaf_meaning old.who) leaf_folded old.state (Some entry) old.device new.device) (is : (how : How) → row how ≡ journals leaf_folded how (leaf_end leaves old before).bot entry note sends loose) where
-  at_each : LeavesOnly old.device new.device (IsOwn old.who (row Fails).after)
+  at_each : LeavesIfCalled old.device new.device (IsOwn old.who (row Fails).after)
   at_each = inr (subst (λ (r : Row Leaf). AtEachMoment old.device new.device (IsOwn old.who r.after)) (sym (is Fails)) moments)
 
   -- the record is kept

@@ -1,5 +1,6 @@
 -- Which records stand together, of those that have spellings: few, of which no two clash.
 use Rattle.std.proofs.Common.{◌≡◌, ℕ, Bool, true, false, not, ◌&&◌, ◌||◌, nat_lt, nat_le, List, [], ◌∷◌, length, is_none, refl, ap, sym, ◌∙◌, arith, leb-true, leb-false, ltb-true, ltb-false}
+use Rattle.std.proofs.Math.Bool.{or_assoc}
 use Rattle.std.specs.List.{AllByRecursion, list_any}
 use Rattle.rfccase.specs.Casemapping.{is_same}
 use Rattle.userfile.specs.Held.{is_ban}
@@ -30,25 +31,21 @@ clash-ban ban [] = refl
 clash-ban ban (records.User other ∷ items) = clash-ban ban items
 clash-ban ban (records.Ban other ∷ items) = ap (λ b. is_ban ban.channel ban.mask other || b) (clash-ban ban items)
 
-either-first : (here users bans : Bool) → (here || (users || bans)) ≡ ((here || users) || bans)
-either-first true users bans = refl
-either-first false users bans = refl
-
-either-second : (here users bans : Bool) → (here || (users || bans)) ≡ (users || (here || bans))
-either-second true true bans = refl
-either-second true false bans = refl
-either-second false users bans = refl
+either-later : (here users bans : Bool) → (here || (users || bans)) ≡ (users || (here || bans))
+either-later true true bans = refl
+either-later true false bans = refl
+either-later false users bans = refl
 
 repeats-split : (items : List Record) → repeats clash items ≡ (repeats_handle (users_in items) || repeats_ban (bans_in items))
 repeats-split [] = refl
 repeats-split (records.User user ∷ items) =
     ap (λ b. list_any (clash (records.User user)) items || b) (repeats-split items)
     ∙ ap (λ b. b || (repeats_handle (users_in items) || repeats_ban (bans_in items))) (clash-user user items)
-    ∙ either-first _ (repeats_handle (users_in items)) (repeats_ban (bans_in items))
+    ∙ sym (or_assoc _ (repeats_handle (users_in items)) (repeats_ban (bans_in items)))
 repeats-split (records.Ban ban ∷ items) =
     ap (λ b. list_any (clash (records.Ban ban)) items || b) (repeats-split items)
     ∙ ap (λ b. b || (repeats_handle (users_in items) || repeats_ban (bans_in items))) (clash-ban ban items)
-    ∙ either-second _ (repeats_handle (users_in items)) (repeats_ban (bans_in items))
+    ∙ either-later _ (repeats_handle (users_in items)) (repeats_ban (bans_in items))
 
 -- ---- a record that has a spelling is good by itself
 

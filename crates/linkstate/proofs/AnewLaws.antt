@@ -1,15 +1,15 @@
 -- What a crash leaves while an end is opened, be its journal of the present layout or an older one that is put anew.
-use Rattle.std.proofs.Common.{◌≡◌, ◌≢◌, ◌⊎◌, ◌≤◌, ◌<◌, ◌-◌, ◌^◌, ℕ, List, Option, None, Some, Result, Ok, Err, length, refl, sym, ap, subst, ◌∙◌, inl, inr, arith}
+use Rattle.std.proofs.Common.{◌≡◌, ◌≢◌, ◌⊎◌, ◌≤◌, ◌-◌, ℕ, List, Option, Some, Result, Ok, Err, length, refl, sym, ap, subst, ◌∙◌, ⊎_elim, inl, inr, arith}
 use Rattle.bytetext.specs.declared.failure.Failure.{Failure}
 use Rattle.bytetext.specs.declared.failure.Failure.TheVariants.{Refused, NoMemory}
 use Rattle.storage.specs.Events.{Event, LeftSince}
-use Rattle.storage.specs.State.{State, IsSettled, moment, left_since}
+use Rattle.storage.specs.State.{State, IsSettled, Rose, moment, left_since}
 use Rattle.storage.specs.Laws.{counts_now, only_now}
 use Rattle.bytejournal.specs.declared.fault.JournalFault.{JournalFault}
 use Rattle.bytejournal.specs.declared.fault.JournalFault.TheVariants.{DiskFault, NotAJournal, Spent, GenerationsSpent}
 use Rattle.botjournal.specs.declared.TheConstants.{LAYOUT}
 use Rattle.botjournal.specs.Contents.{Contents, meaning}
-use Rattle.botjournal.specs.Ledger.{Account, Device, Ledger, Pending, AtEachMoment, AreStill, Leaves, Refuses, settled, written, counted as contents_counted, device_on}
+use Rattle.botjournal.specs.Ledger.{Account, Device, Ledger, Pending, AtEachMoment, AreStill, NoFewer, Leaves, Refuses, settled, written, counted as contents_counted, device_on}
 use Rattle.bytejournal.specs.declared.opening.Returned.{Returned}
 use Rattle.bytejournal.specs.Opening.{Untouched}
 use Rattle.linkstate.specs.Kept.{Kept, LeavesWritten, Renews}
@@ -54,6 +54,11 @@ moved-moments first second device now P Q still goes m = record {
       (subst (λ (past : List Event). left_since now.first (length past) x) (sym still.1) left)
       (subst (λ (past : List Event). left_since now.second (length past) y) (sym still.3) right));
 }
+
+-- a number that rose since a moment rose since an earlier one, up to which it hadn't fallen
+rose-since : (before then now : ℕ) → before ≤ then → Rose then now → Rose before now
+rose-since before then now le (inl more) = inl (omega (arith, le, more))
+rose-since before then now le (inr last) = inr last
 
 -- ---- while the state is put into the journal
 
@@ -113,8 +118,7 @@ module _ {D S : Type 0} (disk : D → State) (first second : D) (state_of : Cont
   -- disks that no journal was read from
   not-read : (Becomes : S → S → Type 0) (error : Failure JournalFault) (first' second' : D)
       → Refuses disk first second error first' second' → FindsNone disk first second state_of Becomes error first' second'
-  not-read Becomes (Refused DiskFault) first' second' why =
-      (device_on (disk first) (disk second), (refl, refl, refl, refl), why)
+  not-read Becomes (Refused DiskFault) first' second' why = why
   not-read Becomes (Refused NotAJournal) first' second' why = inl why
   not-read Becomes (Refused Spent) first' second' why = why
   not-read Becomes (Refused GenerationsSpent) first' second' why = absurd why
@@ -136,7 +140,8 @@ module _ {D S : Type 0} (disk : D → State) (first second : D) (state_of : Cont
 
   module _ {R : Type 0} (who : ℕ) (may : S → R → Type 0) (folded : S → R → S) (renewal : R) (pending : Pending) (ledger : Ledger)
       (before : S) (found : meaning (disk first).seen (disk second).seen ≡ Some ledger.account.contents)
-      (still : AreStill (disk first) (disk second) ledger.device) (older : ledger.account.contents.layout ≢ LAYOUT)
+      (still : AreStill (disk first) (disk second) ledger.device)
+      (fewer : NoFewer (disk first) (disk second) ledger.device) (older : ledger.account.contents.layout ≢ LAYOUT)
       (means : state_of ledger.account.contents ≡ Some before)
       (writes : may before renewal → state_of (written pending ledger.account.contents) ≡ Some (folded before renewal))
       (current : (written pending ledger.account.contents).layout ≡ LAYOUT) where
@@ -175,7 +180,9 @@ module _ {D S : Type 0} (disk : D → State) (first second : D) (state_of : Cont
 
     not-put : (error : Failure JournalFault) (first' second' : D) → CannotPut ledger error (device_on (disk first') (disk second'))
         → FindsNone disk first second state_of Becomes error first' second'
-    not-put (Refused DiskFault) first' second' why = (ledger.device, still, why)
+    not-put (Refused DiskFault) first' second' why =
+        ⊎_elim (λ a. inl (rose-since (disk first).failed ledger.device.first.failed (disk first').failed fewer.0 a))
+        (λ b. inr (rose-since (disk second).failed ledger.device.second.failed (disk second').failed fewer.1 b)) why
     not-put (Refused NotAJournal) first' second' why = absurd why
     not-put (Refused Spent) first' second' why = why
     not-put (Refused GenerationsSpent) first' second' why = record {

@@ -29,8 +29,8 @@ end_of number leaves kept loose = record {
 }
 
 -- no disk was called; or a crash at any moment of the call leaves bytes that have P
-abbrev pub LeavesOnly : Device → Device → (List ℕ → List ℕ → Type 0) → Type 0
-LeavesOnly before now P = (now ≡ before) ⊎ AtEachMoment before now P
+abbrev pub LeavesIfCalled : Device → Device → (List ℕ → List ℕ → Type 0) → Type 0
+LeavesIfCalled before now P = (now ≡ before) ⊎ AtEachMoment before now P
 
 -- A call meets its row, and the end stays who it is. Where it calls a disk, a crash at any moment of it leaves what is the bot's that
 -- the row leaves where the device fails: `own` says which bytes of two disks are a bot's.
@@ -39,7 +39,7 @@ pub record Calls {B : Type 0} (own : B → List ℕ → List ℕ → Type 0) (ol
   pub row_of : Meets row old.bot old.device result new.bot new.device
   pub number : new.number ≡ old.number
   pub leaves : new.leaves ≡ old.leaves
-  pub moments : LeavesOnly old.device new.device (own (row Fails).after)
+  pub moments : LeavesIfCalled old.device new.device (own (row Fails).after)
 
 -- so does a restart, which opens both disks again, whatever it answers
 pub record CallsRestart {B : Type 0} (own : B → List ℕ → List ℕ → Type 0) (old : End B) (row : How → Row B)

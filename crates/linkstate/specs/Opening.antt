@@ -2,14 +2,14 @@
 use Rattle.std.specs.Prelude.{◌≡◌, ◌≢◌, ◌⊎◌, ◌-◌, ◌^◌, ℕ, false, List, Option, None, Some, Result, Ok, Err}
 use Rattle.bytetext.specs.declared.failure.Failure.{Failure}
 use Rattle.bytetext.specs.declared.failure.Failure.TheVariants.{Refused, NoMemory}
-use Rattle.storage.specs.State.{State, may_leave}
+use Rattle.storage.specs.State.{State, Rose, may_leave}
 use Rattle.bytejournal.specs.declared.fault.JournalFault.{JournalFault}
 use Rattle.bytejournal.specs.declared.fault.JournalFault.TheVariants.{DiskFault, NotAJournal, Spent, GenerationsSpent}
 use Rattle.bytejournal.specs.declared.opening.Returned.{Returned}
 use Rattle.bytejournal.specs.Opening.{CannotCreate}
 use Rattle.botjournal.specs.declared.TheConstants.{LAYOUT}
 use Rattle.botjournal.specs.Contents.{Contents, meaning}
-use Rattle.botjournal.specs.Ledger.{Device, AtEachMoment, AreStill, Failed, device_on}
+use Rattle.botjournal.specs.Ledger.{Device, AtEachMoment, device_on}
 use Rattle.botjournal.specs.Recovery.{IsJournal}
 use Rattle.linkstate.specs.Kept.{Kept, IsCurrent}
 
@@ -60,11 +60,6 @@ module _ {D : Type 0} (disk : D → State) (first second : D) where
   abbrev pub AreCurrent : Type 0
   AreCurrent = IsCurrent meaning_given
 
-  -- a disk failed, since they were given or since a later moment up to which nothing had happened to them
-  abbrev pub FailsSince : D → D → Type 0
-  FailsSince first' second' = (found : Device) × AreStill (disk first) (disk second) found
-      × Failed found (device_on (disk first') (disk second'))
-
   module _ {S : Type 0} (state_of : Contents → Option S) (Renews : S → S → Type 0) where
     -- the disks hold a journal that means a state, of which this is kept
     abbrev pub IsFound : S → Type 0
@@ -87,7 +82,8 @@ module _ {D : Type 0} (disk : D → State) (first second : D) where
 
     -- why no end was found
     abbrev pub FindsNone : Failure JournalFault → D → D → Type 0
-    FindsNone (Refused DiskFault) first' second' = FailsSince first' second'
+    FindsNone (Refused DiskFault) first' second' =
+        Rose (disk first).failed (disk first').failed ⊎ Rose (disk second).failed (disk second').failed
     FindsNone (Refused NotAJournal) first' second' = (IsJournal (disk first).seen (disk second).seen → ⊥) ⊎ IsAnothers
     FindsNone (Refused Spent) first' second' = ⊥
     FindsNone (Refused GenerationsSpent) first' second' = IsSpent

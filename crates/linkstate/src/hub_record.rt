@@ -136,6 +136,7 @@ impl EndState for HubState {
         _leaves: u16,
         ledger: &mut Ledger<D>,
     ) -> Result<(), LedgerError> {
+        // For the proof: it is a u32, so that one which is not the last has a next.
         let _generation = self.generation();
         self.rebase(alloc, ledger)
     }

@@ -161,6 +161,7 @@ impl EndState for LeafState {
         number: u16,
         ledger: &mut Ledger<D>,
     ) -> Result<(), LedgerError> {
+        // For the proof: it is a u32, so that one which is not the last has a next.
         let _generation = self.generation();
         self.compact(alloc, number, ledger)
     }

@@ -6,13 +6,14 @@ use Rattle.std.proofs.lemmas.List.{length-take, take_all}
 use Rattle.std.proofs.lemmas.List.Folds.{list_all-append}
 use Rattle.ircline.specs.Classes.{filled, octet, trailing}
 use Rattle.ircline.specs.Reading.{flush, line_at}
+use Rattle.ircline.proofs.GrammarLemmas.{nospcrlf_octets}
 use Rattle.miniircd.specs.declared.person.Person.{Person}
 use Rattle.miniircd.specs.declared.member.Member.{Member}
 use Rattle.miniircd.specs.declared.client.Sent.{Sent}
 use Rattle.miniircd.specs.Mail.{Letter, sealed, serves, delivery, deliveries, is_message, is_readable, is_line, sent}
 use Rattle.miniircd.specs.Lines.{Relays, relay, repeated, numbered, letter, told, spread}
 use Rattle.miniircd.specs.Whole.{is_held, are_clients}
-use Rattle.miniircd.proofs.PeopleLemmas.{Texts, octets_of}
+use Rattle.miniircd.proofs.PeopleLemmas.{Texts}
 use Rattle.miniircd.proofs.PrintedLemmas.{numbered_line, numbered_reads, relayed_line, relay_reads}
 use Rattle.miniircd.proofs.ListLemmas.{list_all-taken}
 
@@ -69,7 +70,7 @@ pub told_arrives : (clients : List (Option Person)) (client : ℕ) (p : Person) 
     → is_message (line_at (flush (numbered p.nick code words last))) ≡ true
     → arrives clients (told client p code words last) ≡ true
 told_arrives clients client p code words last by k short w few l reads =
-    let line = numbered_line p.nick code words last (octets_of p.nick by.texts.nick) by.texts.nick_short k short w few l in
+    let line = numbered_line p.nick code words last (nospcrlf_octets p.nick by.texts.nick) by.texts.nick_short k short w few l in
     and_from _ _ by.held (numbered_reads p.nick code words last line reads)
 
 pub repeated_octets : (word : List ℕ) → trailing word ≡ true → list_all octet (repeated word) ≡ true

@@ -7,7 +7,8 @@ use Rattle.std.proofs.lemmas.List.Folds.{list_all-append, list_any-append}
 use Rattle.ircline.specs.Classes.{filled, octet, nospcrlf, names}
 use Rattle.ircline.specs.Sources.{nick_of}
 use Rattle.ircline.specs.Words.{holds, before}
-use Rattle.ircline.proofs.TextLemmas.{all-weaker, apart, nospcrlf-octet, joined_at}
+use Rattle.ircline.proofs.GrammarLemmas.{nospcrlf_octets}
+use Rattle.ircline.proofs.TextLemmas.{all-weaker, apart, joined_at}
 use Rattle.miniircd.specs.declared.person.Person.{Person}
 use Rattle.miniircd.specs.Lines.{source_of}
 use Rattle.miniircd.specs.Commands.{is_nick_byte, is_nick}
@@ -56,13 +57,10 @@ texts p is =
     let nick = nick_texts p.nick parts.0 in
     record { nick = nick.0; nick_short = nick.1; nick_plain = nick.2; user = user.1; user_short = leb-true (length p.user) 30 user.0 }
 
-pub octets_of : (text : List ℕ) → list_all nospcrlf text ≡ true → list_all octet text ≡ true
-octets_of text all = all-weaker nospcrlf octet nospcrlf-octet text all
-
 pub source_octets : (p : Person) → Texts p → list_all octet (source_of p) ≡ true
 source_octets p t =
-    let n = octets_of p.nick t.nick in
-    let u = octets_of p.user t.user in
+    let n = nospcrlf_octets p.nick t.nick in
+    let u = nospcrlf_octets p.user t.user in
     simp (list_all-append, n, u)
 
 length-source : (p : Person) → length (source_of p) ≡ length p.nick + (length p.user + 7)

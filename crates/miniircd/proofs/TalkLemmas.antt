@@ -4,7 +4,8 @@ use Rattle.std.specs.List.{list_all}
 use Rattle.std.proofs.lemmas.Bool.{and_from, and_parts, cond_both, le-leb, leb-true}
 use Rattle.std.proofs.lemmas.List.{length-append, append-nil}
 use Rattle.rfccase.specs.Casemapping.{is_same}
-use Rattle.rfccase.specs.Channels.{is_channel_name, is_channel_byte}
+use Rattle.rfccase.specs.Channels.{is_channel_name}
+use Rattle.rfccase.proofs.ChannelLemmas.{channel_name_is_short}
 use Rattle.rfccase.proofs.SameLemmas.{equal_keys, length-folded}
 use Rattle.ircline.specs.Classes.{filled, octet, middle, trailing}
 use Rattle.ircline.specs.Carrying.{kept_command}
@@ -71,9 +72,6 @@ room_sound test name (c ∷ channels) all =
     let parts = and_parts (is_sound_channel test c) (are_sound_channels test channels) all in
     cond_both (is_named name c) (Some c) (room name channels) (λ o. is_sound_room test o ≡ true)
     (λ b. parts.0) (λ b. room_sound test name channels parts.1)
-
-name_short : (name : List ℕ) → is_channel_name name ≡ true → length name ≤ 100
-name_short name is = leb-true (length name) 100 (and_parts (nat_le (length name) 100) (list_all is_channel_byte name) (and_parts _ _ is).1).0
 
 room_arrives : (clients : List (Option Person)) (loud : Bool) (client : ℕ) (p : Person) (target text : List ℕ) (channel : Option Channel)
     → Speaks clients client p → middle target ≡ true → length target ≤ 100 → trailing text ≡ true
@@ -146,6 +144,6 @@ pub talk_arrives : (loud : Bool) (client : ℕ) (p : Person) (clients : List (Op
 talk_arrives loud client p clients channels target text whole by is more =
     cond_both (is_channel_name target) (talk_to_room loud client p target text (room target channels))
     (talk_to_client loud client p target text (if_there clients (holder target clients))) (λ l. all_arrive clients l)
-    (λ named. room_arrives clients loud client p target text (room target channels) by is (name_short target named) more
+    (λ named. room_arrives clients loud client p target text (room target channels) by is (channel_name_is_short target named) more
     (room_sound (is_held clients) target channels whole.rooms))
     (λ b. client_arrives clients loud client p target text (holder target clients) by is (holder_short target clients whole.people) more)

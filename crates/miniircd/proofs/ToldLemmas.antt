@@ -12,6 +12,7 @@ use Rattle.ircline.specs.declared.line.Line.{Line}
 use Rattle.ircline.specs.declared.line.Line.TheVariants as line
 use Rattle.ircline.specs.declared.message.Message.{Message}
 use Rattle.ircline.proofs.TextLemmas.{all-append, all-weaker, apart}
+use Rattle.ircline.proofs.GrammarLemmas.{nospcrlf_octets}
 use Rattle.miniircd.specs.declared.person.Person.{Person}
 use Rattle.miniircd.specs.declared.member.Member.{Member}
 use Rattle.miniircd.specs.declared.member.Channel.{Channel}
@@ -29,7 +30,7 @@ use Rattle.miniircd.specs.Talk.{pong, too_few, exact_by, exact_of_few, exact_let
 use Rattle.miniircd.specs.Server.{Server, letters_of, letters_held, letters}
 use Rattle.miniircd.specs.Whole.{is_held, are_clients, are_sound_channels, is_sound_slot, IsWhole}
 use Rattle.miniircd.proofs.WholeLemmas.{joined_keeps, params_texts, first_middle, word_text, line_parts}
-use Rattle.miniircd.proofs.PeopleLemmas.{Texts, texts, octets_of, source_octets, source_short, source_names, source_filled}
+use Rattle.miniircd.proofs.PeopleLemmas.{Texts, texts, source_octets, source_short, source_names, source_filled}
 use Rattle.miniircd.proofs.PrintedLemmas.{length-head}
 use Rattle.miniircd.proofs.LetterLemmas.{Speaks, all_arrive, arrives, told_arrives, repeated_octets, repeated_short, reply_arrives, alone, together, spread_arrives, relay_goes, delivered}
 use Rattle.miniircd.proofs.TalkLemmas.{is_sound_room, room_sound, talk_arrives}
@@ -44,7 +45,7 @@ marks_octets m =
 
 name_texts : (slot : Option Person) (m : Member) → is_sound_slot slot ≡ true → list_all trailing (name_of slot m) ≡ true
 name_texts None m is = refl
-name_texts (Some p) m is = and_from _ true (all-append octet (marks m) p.nick (marks_octets m) (octets_of p.nick (texts p is).nick)) refl
+name_texts (Some p) m is = and_from _ true (all-append octet (marks m) p.nick (marks_octets m) (nospcrlf_octets p.nick (texts p is).nick)) refl
 
 names_texts : (clients : List (Option Person)) (members : List Member) → ((k : ℕ) → is_sound_slot (held_at clients k) ≡ true)
     → list_all trailing (names_of clients members) ≡ true

@@ -1,2 +1,3 @@
 mod TableLemmas
 pub mod SameLemmas
+pub mod ChannelLemmas

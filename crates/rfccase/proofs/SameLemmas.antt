@@ -1,5 +1,5 @@
 -- Texts that are the same by casemapping, and folded texts as keys: for callers.
-use Rattle.std.proofs.Common.{◌≡◌, ◌≢◌, ◌↔◌, ℕ, ◌<◌, ◌++◌, true, List, [], ◌∷◌, length, nat_eq, get_or, refl, sym, ◌∙◌, ap, arith}
+use Rattle.std.proofs.Common.{◌≡◌, ◌≢◌, ◌↔◌, ℕ, ◌<◌, ◌++◌, true, false, List, [], ◌∷◌, length, nat_eq, get_or, refl, sym, ◌∙◌, ap, arith}
 use Rattle.std.specs.Bool.{Decides}
 use Rattle.std.proofs.lemmas.Bool.Decides.{nat_tests, same_from_decides}
 use Rattle.std.proofs.lemmas.List.{get_or-map, length-map, map-append}
@@ -39,6 +39,20 @@ is_same-Decides a b = bytes_decides (folded a) (folded b)
 
 pub is_same-sym : (a b : List ℕ) → is_same a b ≡ is_same b a
 is_same-sym a b = same_from_decides _ _ (is_same-Decides a b) (λ h. sym ((is_same-Decides b a).0 h), λ h. (is_same-Decides b a).1 (sym h))
+
+-- a text is the same as itself, and texts that are the same are the same as the same texts
+pub is_same-refl : (a : List ℕ) → is_same a a ≡ true
+is_same-refl a = (is_same-Decides a a).1 refl
+
+pub is_same-left : (a b c : List ℕ) → is_same a b ≡ true → is_same a c ≡ is_same b c
+is_same-left a b c is = ap (λ (text : List ℕ). pointwise nat_eq text (folded c)) ((is_same-Decides a b).0 is)
+
+pub is_same-right : (a b c : List ℕ) → is_same a b ≡ true → is_same c a ≡ is_same c b
+is_same-right a b c is = ap (λ (text : List ℕ). pointwise nat_eq (folded c) text) ((is_same-Decides a b).0 is)
+
+-- a text is not the same as one of two that are the same if it is not the same as the other
+pub is_same-apart : (a b c : List ℕ) → is_same a b ≡ false → is_same b c ≡ true → is_same a c ≡ false
+is_same-apart a b c apart is = sym (is_same-right b c a is) ∙ apart
 
 -- two keys are equal exactly where their texts are the same
 pub equal_keys : (a b : List ℕ) → (pointwise nat_eq (folded a) (folded b) ≡ true) ↔ IsSame a b

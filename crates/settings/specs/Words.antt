@@ -1,7 +1,8 @@
 -- Words of a line, and the numbers that they mean.
-use Rattle.std.specs.Prelude.{ℕ, ◌+◌, ◌-◌, ◌*◌, ◌==◌, ◌&&◌, not, Bool, nat_le, nat_lt, List, [], ◌∷◌, drop, Option, None, Some}
+use Rattle.std.specs.Prelude.{ℕ, ◌==◌, not, Bool, List, [], ◌∷◌, drop, Option, None, Some}
 use Rattle.std.specs.Prelude.{option_and_then, if◌then◌else◌}
 use Rattle.std.specs.List.{prefix_len, take_while}
+use Rattle.bytetext.specs.Numerals.{number_from}
 
 -- ---- words
 
@@ -24,19 +25,6 @@ abbrev pub rest_of : List ℕ → List ℕ
 rest_of line = after_spaces (drop (prefix_len is_letter line) line)
 
 -- ---- numbers
-
-abbrev pub is_digit : ℕ → Bool
-is_digit b = nat_le 48 b && nat_le b 57
-
--- one digit more, where the number stays below 65,536
-abbrev pub digit_onto : ℕ → ℕ → Option ℕ
-digit_onto value b =
-    if is_digit b then (if nat_lt (value * 10 + (b - 48)) 65536 then Some (value * 10 + (b - 48)) else None) else None
-
--- digits after a number
-abbrev pub number_from : ℕ → List ℕ → Option ℕ
-number_from value [] = Some value
-number_from value (b ∷ bs) = option_and_then (λ longer. number_from longer bs) (digit_onto value b)
 
 -- a number is one digit or more, below 65,536; leading zeros count for nothing
 abbrev pub number_of : List ℕ → Option ℕ

@@ -1,6 +1,7 @@
 // Numbers as words.
 ghost use Rattle.std.specs.Prelude.{◌≡◌, ◌<◌};
-ghost use Rattle.settings.specs.Words.{digit_onto, is_digit, number_of, port_of};
+ghost use Rattle.bytetext.specs.Numerals.{digit_onto, is_digit};
+ghost use Rattle.settings.specs.Words.{number_of, port_of};
 
 /// The number that a word of digits means, where it is below 65,536.
 pub fn number(word: &[u8]) -> Option<u16>

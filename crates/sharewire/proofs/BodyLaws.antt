@@ -15,12 +15,11 @@ use Rattle.sharewire.specs.declared.kind.Kind.TheVariants.{Hello as hello, Later
 use Rattle.sharewire.specs.declared.packet.Packet.{Packet}
 use Rattle.sharewire.specs.declared.packet.Packet.TheVariants.{Hello, Change, Part, Request, Accepted, Refused, BotText}
 use Rattle.sharewire.specs.Kinds.{kind_byte, kind_from, hello_kind, kind_of}
-use Rattle.usercodec.specs.FaultBytes.{fault_byte, fault_at}
 use Rattle.sharewire.specs.Texts.{is_bot_text}
 use Rattle.sharewire.specs.Frames.{long_text, hello_body, body_of, inside, HoldsPart, IsGoodPacket}
 use Rattle.sharewire.specs.Bodies.{bot_text_at, part_records_at, layout_at, hello_at, later_hello_at, change_packet_at, part_at, request_at, accepted_at, refused_at, bot_text_packet_at, body_at}
 use Rattle.usercodec.proofs.PartLaws.{IsPart, both_part, checked_part}
-use Rattle.usercodec.proofs.ReaderLaws.{byte_part, u16_part, u32_part, record_part, change_part, fault_part, some_is}
+use Rattle.usercodec.proofs.ReaderLaws.{byte_part, u16_part, u32_part, record_part, change_part, refused_part, some_is}
 use Rattle.sharewire.proofs.LongTextLaws.{bot_text_part}
 
 -- ---- the fields of each kind
@@ -58,10 +57,6 @@ change_packet_part = both_part u32_part (both_part u16_part (both_part u32_part 
 accepted_part : IsPart (both (number_at w16) (both (number_at w32) (number_at w32))) (λ x. number w16 x.0 ++ (number w32 x.1.0 ++ number w32 x.1.1))
     (λ x. (x.0 < 2 ^ 16) × ((x.1.0 < 2 ^ 32) × (x.1.1 < 2 ^ 32)))
 accepted_part = both_part u16_part (both_part u32_part u32_part)
-
-refused_part : IsPart (both (number_at w16) (both (number_at w32) fault_at)) (λ x. number w16 x.0 ++ (number w32 x.1.0 ++ fault_byte x.1.1 ∷ []))
-    (λ x. (x.0 < 2 ^ 16) × ((x.1.0 < 2 ^ 32) × Unit {0}))
-refused_part = both_part u16_part (both_part u32_part fault_part)
 
 bot_text_packet_part : IsPart (both (number_at w16) (both (number_at w16) bot_text_at)) (λ x. number w16 x.0 ++ (number w16 x.1.0 ++ long_text x.1.1))
     (λ x. (x.0 < 2 ^ 16) × ((x.1.0 < 2 ^ 16) × (is_bot_text x.1.1 ≡ true)))

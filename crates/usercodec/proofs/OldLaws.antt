@@ -16,13 +16,10 @@ use Rattle.usercodec.specs.Records.{plain_user_at}
 use Rattle.usercodec.specs.Laws.{Stays}
 use Rattle.usercodec.specs.Old.{change_bytes_old, IsOldChange, IsGoodChangeOld, is_change_tag_old, fields_at_old, change_at_old}
 use Rattle.usercodec.specs.Old.{record_bytes_old, IsGoodRecordOld, record_fields_at_old, record_at_old}
-use Rattle.usercodec.proofs.Steps.{IsBytes, chosen, bind_ok, ok_is, Takes, stays_bind, stays_if}
+use Rattle.usercodec.proofs.Steps.{IsBytes, head_is, chosen, bind_ok, ok_is, Takes, stays_bind, stays_if}
 use Rattle.usercodec.proofs.FieldLaws.{IsSort, IsField, byte_field}
 use Rattle.usercodec.proofs.ChangeLaws.{change_sort, fields_stay, PlainBanPasses, ban_field}
 use Rattle.usercodec.proofs.RecordLaws.{PlainUserPasses, plain_user_field, user_is_good, user_passes, ban_is_good, ban_passes}
-
-head_is : (a : ℕ) (xs : List ℕ) (b : ℕ) (ys : List ℕ) → a ∷ xs ≡ b ∷ ys → a ≡ b
-head_is a xs b ys e = cc
 
 no_value : {A : Type 0} (x : A) (rest : List ℕ) → (let r : Reading A = Err BadTag in r) ≡ Ok (x, rest) → ⊥
 no_value x rest e = cc

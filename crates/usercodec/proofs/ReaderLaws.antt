@@ -6,12 +6,12 @@ use Rattle.userfile.specs.declared.error.ChangeFault.{ChangeFault}
 use Rattle.userfile.specs.declared.error.ChangeFault.TheVariants.{BadHandle, BadMask, BadChannel, BadComment, NoSuchUser, UserExists, MaskExists}
 use Rattle.userfile.specs.declared.error.ChangeFault.TheVariants.{NoSuchMask, BanExists, NoSuchBan, Full}
 use Rattle.usercodec.specs.Fields.{number, byte_at, number_at}
-use Rattle.usercodec.specs.Changes.{change_at, change_bytes, IsGoodChange}
+use Rattle.usercodec.specs.Changes.{both, change_at, change_bytes, IsGoodChange}
 use Rattle.usercodec.specs.FaultBytes.{fault_byte, fault_from, known, fault_at}
 use Rattle.usercodec.specs.Records.{record_at, record_bytes, IsGoodRecord}
 use Rattle.usercodec.specs.Old.{change_at_old, change_bytes_old, IsGoodChangeOld, record_at_old, record_bytes_old, IsGoodRecordOld}
 use Rattle.usercodec.proofs.Steps.{IsBytes, bind_ok, chosen, ok_is, Takes}
-use Rattle.usercodec.proofs.PartLaws.{IsPart}
+use Rattle.usercodec.proofs.PartLaws.{IsPart, both_part}
 use Rattle.usercodec.proofs.FieldLaws.{byte_field, field16, field32}
 use Rattle.usercodec.proofs.ChangeLaws.{change_sort}
 use Rattle.usercodec.proofs.RecordLaws.{record_sort}
@@ -134,3 +134,8 @@ fault_part = record { takes = takes; again = again }
 
     again : (x : ChangeFault) (rest : List ℕ) → Unit {0} → fault_at ((fault_byte x ∷ []) ++ rest) ≡ Ok (x, rest)
     again x rest good = rw (fault_from-byte x) refl
+
+-- a leaf, its request, and why that was refused
+pub refused_part : IsPart (both (number_at w16) (both (number_at w32) fault_at)) (λ x. number w16 x.0 ++ (number w32 x.1.0 ++ fault_byte x.1.1 ∷ []))
+    (λ x. (x.0 < 2 ^ 16) × ((x.1.0 < 2 ^ 32) × Unit {0}))
+refused_part = both_part u16_part (both_part u32_part fault_part)

@@ -4,7 +4,7 @@ use Rattle.std.specs.List.{flat_map, list_all, AllByRecursion}
 use Rattle.std.proofs.lemmas.Bool.Decides.{nat_tests}
 use Rattle.std.proofs.lemmas.List.{length-append}
 use Rattle.std.proofs.lemmas.List.Concat.{flat_map-cons}
-use Rattle.rfccase.specs.Channels.{is_channel_name}
+use Rattle.rfccase.proofs.ChannelLemmas.{channel_name_is_short}
 use Rattle.userfile.specs.Shapes.{is_handle, is_hostmask, is_ban_channel, is_comment, is_info}
 use Rattle.userfile.specs.Together.{is_user, is_good_ban, is_entry, is_over}
 use Rattle.userfile.specs.declared.ban.Ban.{Ban}
@@ -43,9 +43,6 @@ ban_channel_is_short : (channel : List ℕ) → is_ban_channel channel ≡ true 
 unfolding is_ban_channel
 ban_channel_is_short channel good = grind (arith, nat_tests)
 
-channel_is_short : (channel : List ℕ) → is_channel_name channel ≡ true → length channel ≤ 100
-channel_is_short channel good = grind (arith, nat_tests)
-
 comment_is_short : (comment : List ℕ) → is_comment comment ≡ true → length comment ≤ 100
 unfolding is_comment
 comment_is_short comment good = grind (arith, nat_tests)
@@ -64,7 +61,7 @@ masks_short (mask ∷ masks) good =
 entry_is_short : (entry : ChannelFlags) → is_entry entry ≡ true → length (entry_bytes entry) ≤ 109
 entry_is_short entry good =
     let both = and_true good in
-    let name = channel_is_short entry.channel both.0 in
+    let name = channel_name_is_short entry.channel both.0 in
     simp length-append (omega arith)
 
 entries_short : (entries : List ChannelFlags) → list_all is_entry entries ≡ true → AllByRecursion (λ entry. length (entry_bytes entry) ≤ 109) entries

@@ -13,7 +13,7 @@ use Rattle.usercodec.specs.Changes.{is_change_tag, fields_at, change_at, set_cha
 use Rattle.usercodec.specs.Records.{plain_user_at, user_at, held_ban_at, is_record_tag, record_fields_at, record_at}
 use Rattle.usercodec.specs.Old.{is_change_tag_old, fields_at_old, change_at_old, is_record_tag_old, record_fields_at_old, record_at_old}
 use Rattle.usercodec.specs.Laws.{BeginsUnknown}
-use Rattle.usercodec.proofs.Steps.{NoTag, no_tag_bind}
+use Rattle.usercodec.proofs.Steps.{head_is, NoTag, no_tag_bind}
 use Rattle.usercodec.proofs.ChangeLaws.{made_no_tag, ban_change, add_user, del_user, add_host, del_host, set_global, set_chan, set_bot, add_ban}
 use Rattle.usercodec.proofs.ChangeLaws.{del_ban, set_info, set_sticky, ban_field}
 use Rattle.usercodec.proofs.RecordLaws.{plain_user_field, user_field, held_ban_field}
@@ -49,9 +49,6 @@ unknown_is false never = refl
 
 not_cons : (tag : ℕ) (rest : List ℕ) → (let none : List ℕ = [] in none) ≡ tag ∷ rest → ⊥
 not_cons tag rest e = cc
-
-head_is : (a : ℕ) (xs : List ℕ) (b : ℕ) (ys : List ℕ) → a ∷ xs ≡ b ∷ ys → a ≡ b
-head_is a xs b ys e = cc
 
 -- ---- tags and what stands after them
 

@@ -4,7 +4,7 @@ ghost use Rattle.std.specs.Prelude.{◌≡◌};
 use crate::change_fields::change;
 use crate::fault::{CodecError, CodecFault};
 use crate::fault_byte::fault_of_byte;
-use crate::old::{change_old, tagged_record_old};
+use crate::old::change_old;
 use crate::record_lists::{tagged_records, tagged_records_old};
 use crate::records::{Record, tagged_record};
 use bytetext::Failure;
@@ -48,7 +48,7 @@ impl<'a> Reader<'a> {
     ghost use Rattle.usercodec.specs.FaultBytes.{fault_at};
     ghost use Rattle.usercodec.specs.Changes.{change_at};
     ghost use Rattle.usercodec.specs.Records.{record_at, so_many_records_at};
-    ghost use Rattle.usercodec.specs.Old.{change_at_old, record_at_old, so_many_records_at_old};
+    ghost use Rattle.usercodec.specs.Old.{change_at_old, so_many_records_at_old};
 
     /// A reader at the begin of some bytes.
     pub fn new(bytes: &'a [u8]) -> Reader<'a>
@@ -206,21 +206,7 @@ impl<'a> Reader<'a> {
         Ok(change)
     }
 
-    /// A record as layout 1 spelled it: see [`read_record_old`](crate::read_record_old).
-    ///
-    /// # Errors
-    /// As of [`record`](Reader::record).
-    pub fn record_old(&mut self, alloc: Global) -> Result<Record, CodecError>
-        ensures value { Makes (λ value. (value, self.new)) result (record_at_old self.old) }
-        ensures unchanged { OnErr result (self.new ≡ self.old) }
-    {
-        let mut ahead = Reader { rest: self.rest };
-        let value = tagged_record_old(alloc, &mut ahead)?;
-        self.rest = ahead.rest;
-        Ok(value)
-    }
-
-    /// So many records as layout 1 spelled them, one after the other.
+    /// So many records as layout 1 spelled them, one after the other: see [`read_record_old`](crate::read_record_old).
     ///
     /// # Errors
     /// As of [`records`](Reader::records).

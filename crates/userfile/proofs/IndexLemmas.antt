@@ -20,7 +20,7 @@ use Rattle.userfile.specs.Index.{listing_of, listings_at, masks_at, IsIn, IsUnde
 use Rattle.userfile.proofs.GroupLemmas.{IsIn-left, IsIn-right}
 use Rattle.userfile.proofs.MatchLemmas.{match_ends, tail_short}
 use Rattle.userfile.proofs.RepeatLemmas.{or_false, or_both}
-use Rattle.userfile.proofs.SoundLemmas.{is_same-like}
+use Rattle.rfccase.proofs.SameLemmas.{is_same-left}
 use Rattle.userfile.proofs.SearchLemmas.{AreListed, UsersBeaten, user_beaten, claim-after_listings, best-user_for}
 
 -- ---- what is asked for
@@ -169,7 +169,7 @@ users_without-absent h (u ∷ us) none =
 pub absent-like : (a b : List ℕ) (us : List User) → is_same a b ≡ true → list_any (λ (u : User). is_same b u.handle) us ≡ false
     → list_any (λ (u : User). is_same a u.handle) us ≡ false
 absent-like a b [] same none = refl
-absent-like a b (u ∷ us) same none = or_both (is_same-like a b u.handle same ∙ (or_false none).0) (absent-like a b us same (or_false none).1)
+absent-like a b (u ∷ us) same none = or_both (is_same-left a b u.handle same ∙ (or_false none).0) (absent-like a b us same (or_false none).1)
 
 pub position-above : (h : List ℕ) (us : List User) (n p : ℕ) → position_from (λ (x : User). is_same h x.handle) n us ≡ Some p → n ≤ p
 position-above h [] n p at = cc

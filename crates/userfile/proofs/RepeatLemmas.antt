@@ -2,6 +2,7 @@
 use Rattle.std.proofs.Common.{◌≡◌, suc, ◌≤◌, Bool, true, false, cond, ◌&&◌, ◌||◌, List, [], ◌∷◌, ◌++◌, length, filter, find, Some, is_some}
 use Rattle.std.proofs.Common.{refl, ◌∙◌, arith}
 use Rattle.std.specs.List.{list_any, list_all}
+use Rattle.bytetext.proofs.Lists.{list_any-push}
 use Rattle.userfile.specs.Together.{repeats}
 
 -- ---- tests
@@ -29,10 +30,6 @@ list_any-filter q p (x ∷ xs) e = by (p x) (or_false e).0 (list_any-filter q p 
     by : (b : Bool) → q x ≡ false → list_any q (filter p xs) ≡ false → list_any q (cond b (x ∷ filter p xs) (filter p xs)) ≡ false
     by true f r = or_both f r
     by false f r = r
-
-pub list_any-push : {X : Type 0} (q : X → Bool) (xs : List X) (y : X) → list_any q xs ≡ false → q y ≡ false → list_any q (xs ++ y ∷ []) ≡ false
-list_any-push q [] y e f = or_both f refl
-list_any-push q (x ∷ xs) y e f = or_both (or_false e).0 (list_any-push q xs y (or_false e).1 f)
 
 pub list_all-filter : {X : Type 0} (q p : X → Bool) (xs : List X) → list_all q xs ≡ true → list_all q (filter p xs) ≡ true
 list_all-filter q p [] e = e

@@ -1,10 +1,9 @@
 -- A change that isn't refused leaves records that stand together and are of good shape.
-use Rattle.std.proofs.Common.{◌≡◌, ℕ, suc, ◌+◌, ◌≤◌, ◌==◌, nat_eq, nat_lt, Bool, true, false, cond, not, ◌&&◌, ◌||◌, List, [], ◌∷◌}
+use Rattle.std.proofs.Common.{◌≡◌, ℕ, suc, ◌+◌, ◌≤◌, ◌==◌, nat_lt, Bool, true, false, cond, not, ◌&&◌, ◌||◌, List, [], ◌∷◌}
 use Rattle.std.proofs.Common.{◌++◌, length, filter, Option, None, Some, is_some, refl, ap, sym, subst, ◌∙◌, arith}
 use Rattle.std.proofs.Common.{ltb-false, ltb-true, le-ltb, length-append}
 use Rattle.std.specs.List.{list_any, list_all}
-use Rattle.std.specs.Cmp.Lexicographic.{pointwise}
-use Rattle.rfccase.specs.Casemapping.{folded, is_same}
+use Rattle.rfccase.specs.Casemapping.{is_same}
 use Rattle.rfccase.specs.Channels.{is_channel_name}
 use Rattle.userfile.specs.Records.{Records}
 use Rattle.userfile.specs.Shapes.{is_handle, is_ban_channel, is_comment, is_info}
@@ -20,7 +19,7 @@ use Rattle.userfile.specs.declared.ban.Ban.{Ban}
 use Rattle.userfile.specs.declared.change.Change.{Change}
 use Rattle.userfile.specs.declared.change.Change.TheVariants.{AddUser, DelUser, AddHost, DelHost, SetGlobal, SetChan, SetBot, AddBan, DelBan, SetInfo, SetSticky}
 use Rattle.userfile.specs.declared.error.ChangeFault.{ChangeFault}
-use Rattle.rfccase.proofs.SameLemmas.{is_same-sym, is_same-Decides}
+use Rattle.rfccase.proofs.SameLemmas.{is_same-sym, is_same-left}
 use Rattle.userfile.proofs.RepeatLemmas.{or_false, or_both, and_true, and_both, list_all-filter, list_all-push, length-filter-le}
 use Rattle.userfile.proofs.RepeatLemmas.{is_some-find, repeats-filter, repeats-push}
 
@@ -48,9 +47,6 @@ not_true {a = false} e = refl
 
 -- ---- a user's channels
 
-pub is_same-like : (a b c : List ℕ) → is_same a b ≡ true → is_same a c ≡ is_same b c
-is_same-like a b c e = ap (λ x. pointwise nat_eq x (folded c)) ((is_same-Decides a b).0 e)
-
 names : List ℕ → List ChannelFlags → Bool
 names channel es = list_any (λ e. is_same channel e.channel) es
 
@@ -58,7 +54,7 @@ names-like : (a b : List ℕ) (es : List ChannelFlags) → is_same a b ≡ true
     → list_any (λ (e : ChannelFlags). is_same a e.channel) es ≡ list_any (λ (e : ChannelFlags). is_same b e.channel) es
 names-like a b [] e = refl
 names-like a b (x ∷ es) e =
-    ap (λ t. t || list_any (λ (e : ChannelFlags). is_same a e.channel) es) (is_same-like a b x.channel e)
+    ap (λ t. t || list_any (λ (e : ChannelFlags). is_same a e.channel) es) (is_same-left a b x.channel e)
     ∙ ap (λ t. is_same b x.channel || t) (names-like a b es e)
 
 names-with_entry : (k : List ℕ) (entry : ChannelFlags) (es : List ChannelFlags) → is_same k entry.channel ≡ false

@@ -3,7 +3,8 @@ use Rattle.std.specs.Option.{option_map}
 use Rattle.bindtable.specs.declared.bind.Bind.{Bind}
 use Rattle.bindtable.specs.Index.{of_kind}
 use Rattle.bindtable.specs.Tables.{is_such}
-use Rattle.bindtable.proofs.OnceLemmas.{IsAt-position, none-found, remove-once, filter-none, find-once, find-none}
+use Rattle.bytetext.proofs.Lists.{find-none}
+use Rattle.bindtable.proofs.OnceLemmas.{IsAt-position, none-found, remove-once, filter-none, find-once}
 use Rattle.bindtable.proofs.ApartLemmas.{any_bind, once-such, such-kind}
 use Rattle.bindtable.proofs.IndexLemmas.{index-at, AreIndexed-set, others-such}
 use Rattle.bindtable.proofs.keep.take_such.Goals as goal

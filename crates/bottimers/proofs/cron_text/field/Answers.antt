@@ -1,8 +1,8 @@
 use Rattle.std.proofs.Common.{◌∙◌, ap, sym, ◌||◌}
+use Rattle.std.proofs.Math.Bool.{or_assoc}
 use Rattle.bottimers.specs.CronSets.{has}
 use Rattle.bottimers.specs.CronText.{in_span}
 use Rattle.bottimers.proofs.CronFields.{in_rest, rest_of}
-use Rattle.bottimers.proofs.CronBits.{or_assoc}
 use Rattle.bottimers.proofs.Cuts.{field_step, field_stop}
 use Rattle.bottimers.proofs.cron_text.field.Goals as goal
 
@@ -22,7 +22,7 @@ loop-rest-preserved c =
       λ n.
           sets n
           ∙ ap (λ b. has c.loop-rest.set n || b) (step.1 n)
-          ∙ or_assoc (has c.loop-rest.set n) (in_span c.in-Some-span.span n) (in_rest c.args.low c.args.high (rest_of c.cut.result.1) n)
+          ∙ sym (or_assoc (has c.loop-rest.set n) (in_span c.in-Some-span.span n) (in_rest c.args.low c.args.high (rest_of c.cut.result.1) n))
           ∙ ap (λ b. (has c.loop-rest.set n || b) || in_rest c.args.low c.args.high (rest_of c.cut.result.1) n) (sym (c.bits.ensures n))
           ∙ ap (λ b. b || in_rest c.args.low c.args.high (rest_of c.cut.result.1) n) (sym (c.union-set.ensures n)),
     )

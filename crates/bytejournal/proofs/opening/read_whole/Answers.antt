@@ -5,10 +5,10 @@ pub returns-in_err-bytes-clause-untouched : goal.returns-in_err-bytes-clause-unt
 returns-in_err-bytes-clause-untouched g c = untouched_still _ c.requires
 
 pub returns-in-Err-clause-untouched : goal.returns-in-Err-clause-untouched
-returns-in-Err-clause-untouched g c = untouched _ _ c.requires c.read.ensures.events c.read.ensures.same
+returns-in-Err-clause-untouched g c = untouched _ _ c.requires c.read.ensures.cause.no_fewer c.read.ensures.events c.read.ensures.same
 
 pub returns-in_err-read_disk-clause-untouched : goal.returns-in_err-read_disk-clause-untouched
-returns-in_err-read_disk-clause-untouched g c = untouched _ _ c.requires c.read.ensures.events c.read.ensures.same
+returns-in_err-read_disk-clause-untouched g c = untouched _ _ c.requires c.read.ensures.cause.no_fewer c.read.ensures.events c.read.ensures.same
 
 pub returns-clause-untouched : goal.returns-clause-untouched
-returns-clause-untouched g c = untouched _ _ c.requires c.read.ensures.events c.read.ensures.same
+returns-clause-untouched g c = untouched _ _ c.requires c.read.ensures.cause.no_fewer c.read.ensures.events c.read.ensures.same

@@ -2,7 +2,7 @@ use Rattle.std.proofs.Common.{◌∙◌, ◌<◌, sym, arith, length}
 use Rattle.rfccase.specs.Casemapping.{folded}
 use Rattle.chanstate.specs.Seats.{seated}
 use Rattle.chanstate.specs.Members.{is_called}
-use Rattle.chanstate.proofs.FindLemmas.{find-none}
+use Rattle.bytetext.proofs.Lists.{find-none}
 use Rattle.chanstate.proofs.SeatLemmas.{SitsAt-within, SitsAt-get_or, seated-found, called-from, only-from, has-none}
 use Rattle.chanstate.proofs.seats.member_of.Goals as goal
 

@@ -1,5 +1,5 @@
 use Rattle.eggprocs.specs.declared.which.Which.TheVariants as which
-use Rattle.eggprocs.proofs.LawLemmas.{does-nothing, is_from_op-lacks, is_from_voice-lacks, autoop-lacks, op-refused, deop-refused, kick-refused, topic-refused, invite-refused, ban-refused, unban-refused, voice-refused, devoice-refused}
+use Rattle.eggprocs.proofs.LawLemmas.{does-nothing, is_from_op-lacks, is_from_voice-lacks, autoop-lacks, op-refused, deop-refused, kick-refused, topic-refused, invite-refused, ban-refused, unban-refused, voice-refused, devoice-refused, opall-law}
 use Rattle.eggprocs.proofs.laws.commands_want_flags.Goals as goal
 
 pub returns-clause-op : goal.returns-clause-op
@@ -31,3 +31,6 @@ returns-clause-devoice c = λ call seen op voice. does-nothing which.Devoice cal
 
 pub returns-clause-autoop : goal.returns-clause-autoop
 returns-clause-autoop c = λ call seen op voice. does-nothing which.AutoOp call seen (autoop-lacks call seen op voice)
+
+pub returns-clause-opall : goal.returns-clause-opall
+returns-clause-opall c = λ call seen none. opall-law call seen none

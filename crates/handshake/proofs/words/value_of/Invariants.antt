@@ -1,5 +1,5 @@
 use Rattle.std.proofs.Common.{◌≡◌, drop}
-use Rattle.handshake.specs.Reading.{number_from}
+use Rattle.bytetext.specs.Numerals.{number_from}
 use Rattle.handshake.proofs.words.value_of.Given as goal
 
 abbrev pub invariant-loop-byte : goal.invariant-loop-byte

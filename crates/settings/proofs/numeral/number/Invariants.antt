@@ -1,5 +1,6 @@
 use Rattle.std.proofs.Common.{◌≡◌, drop}
-use Rattle.settings.specs.Words.{number_of, number_from}
+use Rattle.bytetext.specs.Numerals.{number_from}
+use Rattle.settings.specs.Words.{number_of}
 use Rattle.settings.proofs.numeral.number.Given as goal
 
 abbrev pub invariant-loop-byte : goal.invariant-loop-byte

@@ -2,7 +2,8 @@ use Rattle.std.proofs.Common.{◌≡◌, ◌+◌, ◌<◌, List, None, OnOk, sym
 use Rattle.bindtable.specs.declared.bind.Bind.{Bind}
 use Rattle.bindtable.specs.Tables.{Table, is_such, later_refusal, bound, number_of, number_or}
 use Rattle.bindtable.specs.Wishes.{asked_of}
-use Rattle.bindtable.proofs.OnceLemmas.{IsAt-position, none-found, find-none}
+use Rattle.bytetext.proofs.Lists.{find-none}
+use Rattle.bindtable.proofs.OnceLemmas.{IsAt-position, none-found}
 use Rattle.bindtable.proofs.ApartLemmas.{any_bind}
 use Rattle.bindtable.proofs.TableLemmas.{sound-renewed, sound-added, bound-renewed, bound-added, last_fits}
 use Rattle.bindtable.proofs.table.BindTable.make.Goals as goal

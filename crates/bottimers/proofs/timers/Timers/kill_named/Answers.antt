@@ -1,13 +1,14 @@
 use Rattle.std.proofs.Common.{◌≡◌, ◌∙◌, ap, sym, subst, map, List, None, position, refl, ℕ}
 use Rattle.std.specs.List.{list_any}
 use Rattle.std.proofs.lemmas.Bool.{false≢true}
+use Rattle.bytetext.proofs.Lists.{list_any-no_position}
 use Rattle.bottimers.specs.declared.timer.Timer.{Timer}
 use Rattle.bottimers.specs.declared.entry.Entry.{Entry}
 use Rattle.bottimers.specs.declared.timers.Timers.TheInside.{Inside}
 use Rattle.bottimers.specs.Held.{Held, is_named, holds_named, without_named}
 use Rattle.bottimers.specs.Countdown.{held, held_of}
 use Rattle.bottimers.proofs.EntryLists.{list_any-map}
-use Rattle.bottimers.proofs.Places.{list_any-Some, list_any-None, remove-position, remove_key-map}
+use Rattle.bottimers.proofs.Places.{list_any-Some, remove-position, remove_key-map}
 use Rattle.bottimers.proofs.timers.Timers.kill_named.Goals as goal
 
 holds_named_is : (inside : Inside) (h : Held) (proc text : List ℕ) → held inside ≡ h
@@ -23,7 +24,7 @@ returns-in_default-clause-held c =
     let nowhere : position named entries ≡ None =
     ap (position named) (sym c.as_slice.ensures.value) ∙ sym c.place_named.ensures ∙ c.in_default.is in
     let is = holds_named_is c.self.inside c.args.self.now c.args.proc.now c.args.text.now c.self.view_is in
-    let none = is ∙ list_any-None named entries nowhere in
+    let none = is ∙ list_any-no_position named entries nowhere in
     (λ e. absurd (false≢true e), λ h. sym none ∙ h)
 
 pub returns-clause-held : goal.returns-clause-held

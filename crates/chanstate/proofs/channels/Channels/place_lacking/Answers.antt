@@ -3,7 +3,7 @@ use Rattle.std.specs.List.{list_any}
 use Rattle.chanstate.specs.Channels.{is_named}
 use Rattle.chanstate.specs.Items.{names_in}
 use Rattle.chanstate.specs.Memory.{lacks}
-use Rattle.chanstate.proofs.FindLemmas.{find-none}
+use Rattle.bytetext.proofs.Lists.{find-none}
 use Rattle.chanstate.proofs.FirstsLemmas.{found_at, nowhere}
 use Rattle.chanstate.proofs.KeptLemmas.{lacks_none}
 use Rattle.chanstate.proofs.channels.Channels.place_lacking.Goals as goal

@@ -3,11 +3,12 @@ use Rattle.std.specs.List.{filter_map, list_any}
 use Rattle.std.specs.Option.{option_to_list}
 use Rattle.std.proofs.lemmas.Iterator.Consumers.{YieldsList-at, YieldsList-turn, YieldsList-end}
 use Rattle.std.proofs.lemmas.Iterator.Splits.{YieldsList-from_slice_split}
+use Rattle.std.proofs.lemmas.List.Folds.{list_any-append}
 use Rattle.std.proofs.Common.{Bool}
 use Rattle.chanstate.specs.declared.member.Member.{Member}
 use Rattle.chanstate.specs.Items.{named}
 use Rattle.chanstate.specs.Members.{has_member}
-use Rattle.chanstate.proofs.WordLemmas.{named_more, any-append, named_among}
+use Rattle.chanstate.proofs.WordLemmas.{named_more, named_among}
 use Rattle.chanstate.proofs.roster.Roster.lacks_any.Goals as goal
 
 pub returns-then-lacks : goal.returns-then-lacks
@@ -22,7 +23,7 @@ pub loop-word-preserved : goal.loop-word-preserved
 loop-word-preserved c =
     let misses : Member → Bool = λ one. not (has_member one.nick c.args.self.now) in
     ap (list_any misses) (named_more c.args.support.now c.loop-word.yielded c.in-Some.word)
-    ∙ any-append misses (filter_map (named c.args.support.now) (map (λ x. x.now) c.loop-word.yielded)) (option_to_list (named c.args.support.now c.in-Some.word.now))
+    ∙ list_any-append misses (filter_map (named c.args.support.now) (map (λ x. x.now) c.loop-word.yielded)) (option_to_list (named c.args.support.now c.in-Some.word.now))
     ∙ ap (λ b. b || list_any misses (option_to_list (named c.args.support.now c.in-Some.word.now))) c.loop-word.invariant
     ∙ (sym c.lacks.ensures ∙ c.if-lacks.false)
 

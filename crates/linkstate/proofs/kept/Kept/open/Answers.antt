@@ -1,7 +1,7 @@
 use Rattle.std.proofs.Common.{◌≡◌, ◌≢◌, ℕ, None, Some, Err, inl, inr, refl, sym, ap, subst, ◌∙◌, arith}
 use Rattle.botjournal.specs.declared.TheConstants.{LAYOUT}
 use Rattle.botjournal.specs.Contents.{meaning}
-use Rattle.botjournal.specs.Ledger.{Account, Device, device_on}
+use Rattle.botjournal.specs.Ledger.{Account, Device}
 use Rattle.linkstate.specs.States.{Reads, contents_in}
 use Rattle.linkstate.specs.Kept.{Kept, Renews}
 use Rattle.linkstate.specs.Opening.{LeavesFound, at_rest}
@@ -71,7 +71,7 @@ returns-in-Ok-state_in-clause-row g c =
     let means = found-meaning (g.S.EndState.meaning c.args.who) g.S.EndState.folded c.generation.result opened.1 account (Some before)
     c.in-Ok.ensures.row.1 c.generation.ensures c.in-Ok.ensures.row.2 c.in-Ok-state_in.ensures.reads in
     put-finds g.D.Disk.state c.args.first c.args.second (g.S.EndState.meaning c.args.who) c.args.who g.S.EndState.may g.S.EndState.folded
-    g.S.EndState.renewal pending opened.0 before c.in-Ok.ensures.row.0 c.in-Ok.ensures.still older means
+    g.S.EndState.renewal pending opened.0 before c.in-Ok.ensures.row.0 c.in-Ok.ensures.still c.in-Ok.ensures.no_fewer older means
     (λ (may : g.S.EndState.may before g.S.EndState.renewal).
     g.met.S.EndState.writes c.args.who account.contents before g.S.EndState.renewal c.requires.end c.in-Ok-state_in.ensures.state may means)
     (g.met.S.EndState.renews_layout c.args.who account.contents before) c.put_anew.result
@@ -89,7 +89,7 @@ returns-in-Ok-state_in-clause-any_moment g c =
     let means = found-meaning (g.S.EndState.meaning c.args.who) g.S.EndState.folded c.generation.result opened.1 account (Some before)
     c.in-Ok.ensures.row.1 c.generation.ensures c.in-Ok.ensures.row.2 c.in-Ok-state_in.ensures.reads in
     put-at-each g.D.Disk.state c.args.first c.args.second (g.S.EndState.meaning c.args.who) c.args.who g.S.EndState.may g.S.EndState.folded
-    g.S.EndState.renewal pending opened.0 before c.in-Ok.ensures.row.0 c.in-Ok.ensures.still older means
+    g.S.EndState.renewal pending opened.0 before c.in-Ok.ensures.row.0 c.in-Ok.ensures.still c.in-Ok.ensures.no_fewer older means
     (λ (may : g.S.EndState.may before g.S.EndState.renewal).
     g.met.S.EndState.writes c.args.who account.contents before g.S.EndState.renewal c.requires.end c.in-Ok-state_in.ensures.state may means)
     (g.met.S.EndState.renews_layout c.args.who account.contents before) c.put_anew.result c.put_anew.ensures.any_moment

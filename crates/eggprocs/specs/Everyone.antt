@@ -1,0 +1,67 @@
+-- What `opall` asks for: that those who are on a channel as the bot gets op get what `autoop` gives to who joins.
+use Rattle.std.specs.Prelude.{ℕ, not, ◌&&◌, ◌||◌, List, [], ◌∷◌, ◌++◌, take, Bool, if◌then◌else◌, codes, Option, Some, None}
+use Rattle.std.specs.List.{filter_map}
+use Rattle.std.specs.Option.{option_map}
+use Rattle.std.specs.Str.{bytes_eq}
+use Rattle.userfile.specs.declared.flags.PersonFlags.{PersonFlags}
+use Rattle.userfile.specs.Persons.{flags_of, handle_of}
+use Rattle.chanstate.specs.declared.member.Member.{Member}
+use Rattle.chanstate.specs.Views.{members_in}
+use Rattle.outqueue.specs.declared.queue.Queue.TheVariants.{Mode as mode_queue, Server}
+use Rattle.procstore.specs.declared.action.Action.{Action}
+use Rattle.procstore.specs.declared.call.Call.{Call}
+use Rattle.procstore.specs.declared.limits.TheConstants.{MAX_ACTIONS}
+use Rattle.procstore.specs.Seen.{Seen}
+use Rattle.eggprocs.specs.declared.rights.TheConstants.{AUTO_OP, AUTO_VOICE}
+use Rattle.eggprocs.specs.Args.{arg_at, nick_of, channel_of}
+use Rattle.eggprocs.specs.Channel.{put}
+use Rattle.eggprocs.specs.Lines.{mode, who}
+use Rattle.eggprocs.specs.Rights.{has_flag, is_join, is_mode}
+
+-- ---- what it is called for
+
+-- the bot's own join
+abbrev pub is_own_join : Call → Seen → Bool
+is_own_join call seen = is_join call.kind && bytes_eq (nick_of call) seen.sight.channels.nick
+
+-- a mode that gives op to the bot itself
+abbrev pub gives_bot_op : Call → Seen → Bool
+gives_bot_op call seen =
+    is_mode call.kind && (bytes_eq (arg_at call.args 4) (codes "+o") && bytes_eq (arg_at call.args 5) seen.sight.channels.nick)
+
+-- ---- members
+
+-- a member as nick!user@host
+abbrev pub address_of : Member → List ℕ
+address_of member = member.nick ++ codes "!" ++ member.user ++ codes "@" ++ member.host
+
+-- the flags of a member, with those on the call's channel
+abbrev pub flags_of_member : Call → Seen → Member → PersonFlags
+flags_of_member call seen member =
+    flags_of seen.sight.records.users (handle_of seen.sight.records.users (address_of member)) (channel_of call)
+
+-- whether a member is left as it is: the bot itself, whom the mode makes op, and who is op already
+abbrev pub is_left : Seen → Member → Bool
+is_left seen member = member.op || bytes_eq member.nick seen.sight.channels.nick
+
+-- op for the flag a, else voice for the flag g, unless it is there
+abbrev pub change_lacked : Bool → PersonFlags → Option (List ℕ)
+change_lacked voiced flags =
+    if has_flag AUTO_OP flags then Some (codes "+o") else (if has_flag AUTO_VOICE flags && not voiced then Some (codes "+v") else None)
+
+-- what a member gets
+abbrev pub change_of : Call → Seen → Member → Option (List ℕ)
+change_of call seen member = if is_left seen member then None else change_lacked member.voice (flags_of_member call seen member)
+
+abbrev pub mode_for : Call → Seen → Member → Option Action
+mode_for call seen member = option_map (λ change. put mode_queue (mode (channel_of call) change member.nick)) (change_of call seen member)
+
+-- ---- what is asked for
+
+-- as the bot joins, who is there, since the server names hosts only to who asks; as it gets op, these modes for the first
+-- eight members who lack one, in the order in which they came
+abbrev pub asked_by_opall : Call → Seen → List Action
+asked_by_opall call seen =
+    if is_own_join call seen then put Server (who (channel_of call)) ∷ []
+    else if gives_bot_op call seen then take MAX_ACTIONS (filter_map (mode_for call seen) (members_in (channel_of call) seen.sight.channels))
+    else []
