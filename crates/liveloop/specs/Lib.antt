@@ -2,4 +2,3 @@ pub mod Words
 pub mod Grammar
 pub mod Heard
 pub mod Scripts
-pub mod BotTurns
