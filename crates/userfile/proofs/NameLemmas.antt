@@ -29,20 +29,20 @@ use Rattle.userfile.proofs.IndexLemmas.{users_without-absent, absent-like, posit
 -- ---- one mask among a user's
 
 -- a mask is listed among masks that have it
-own : (n : ℕ) (m : List ℕ) → (pointwise nat_eq (mask_tail m) (mask_tail m) && is_of (listing_of n m) m) ≡ true
-own n m = and_both ((bytes_decides (mask_tail m) (mask_tail m)).1 refl)
-    (and_both ((Decides-eqb (literals m) (literals m)).1 refl) (same_pairs-self (mask_pairs m)))
+own : (n : ℕ) (m : List ℕ) → (is_of (listing_of n m) m && pointwise nat_eq (mask_tail m) (mask_tail m)) ≡ true
+own n m = and_both (and_both ((Decides-eqb (literals m) (literals m)).1 refl) (same_pairs-self (mask_pairs m)))
+    ((bytes_decides (mask_tail m) (mask_tail m)).1 refl)
 
 pub listed_at : (n : ℕ) (m : List ℕ) (ms : List (List ℕ)) (i : ℕ) → i < length ms → m ≡ get_or ms i m
     → is_listed (mask_tail m) (listing_of n m) ms ≡ true
-listed_at n m ms i lt at = list_any_at (λ k. pointwise nat_eq (mask_tail m) (mask_tail k) && is_of (listing_of n m) k) ms i m lt
-    (ap (λ k. pointwise nat_eq (mask_tail m) (mask_tail k) && is_of (listing_of n m) k) (sym at) ∙ own n m)
+listed_at n m ms i lt at = list_any_at (λ k. is_of (listing_of n m) k && pointwise nat_eq (mask_tail m) (mask_tail k)) ms i m lt
+    (ap (λ k. is_of (listing_of n m) k && pointwise nat_eq (mask_tail m) (mask_tail k)) (sym at) ∙ own n m)
 
 listed_push : (t : List ℕ) (x : Listing) (ms : List (List ℕ)) (m : List ℕ) → is_listed t x ms ≡ true → is_listed t x (ms ++ m ∷ []) ≡ true
-listed_push t x ms m e = list_any-append (λ k. pointwise nat_eq t (mask_tail k) && is_of x k) ms (m ∷ []) ∙ or_left _ _ e
+listed_push t x ms m e = list_any-append (λ k. is_of x k && pointwise nat_eq t (mask_tail k)) ms (m ∷ []) ∙ or_left _ _ e
 
 listed_last : (n : ℕ) (ms : List (List ℕ)) (m : List ℕ) → is_listed (mask_tail m) (listing_of n m) (ms ++ m ∷ []) ≡ true
-listed_last n ms m = list_any-append (λ k. pointwise nat_eq (mask_tail m) (mask_tail k) && is_of (listing_of n m) k) ms (m ∷ [])
+listed_last n ms m = list_any-append (λ k. is_of (listing_of n m) k && pointwise nat_eq (mask_tail m) (mask_tail k)) ms (m ∷ [])
     ∙ or_right _ _ (or_left _ _ (own n m))
 
 -- ---- the masks at a place, after a change

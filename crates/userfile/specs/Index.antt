@@ -61,7 +61,7 @@ Covers index place (user ∷ users) = AreUnder index place user.masks × Covers 
 
 -- whether one of these masks, of a listing's user, has this tail and the listing
 abbrev pub is_listed : List ℕ → Listing → List (List ℕ) → Bool
-is_listed tail x masks = list_any (λ mask. pointwise nat_eq tail (mask_tail mask) && is_of x mask) masks
+is_listed tail x masks = list_any (λ mask. is_of x mask && pointwise nat_eq tail (mask_tail mask)) masks
 
 -- the masks of a user, if there is one
 abbrev pub masks_of : Option User → List (List ℕ)

@@ -183,7 +183,7 @@ fn is_listed(tail: &Tail, listing: &Listing, masks: &[Hostmask]) -> bool
 {
     masks
         .iter()
-        .any(|mask| *tail == mask.tail() && listing.is_of(mask))
+        .any(|mask| listing.is_of(mask) && *tail == mask.tail())
 }
 
 // Takes out the listings of a user who is gone: the places after it move up by one.

@@ -25,14 +25,12 @@ use std::marker::Model;
 pub struct Mask {
     kind: MaskKind,
     text: Text,
-    pattern: Pattern,
     literals: u8,
     signature: Signature,
 }
 
 impl Model for Mask {
-    ghost use Rattle.std.specs.Prelude.{◌≡◌, None, count_by, map};
-    ghost use Rattle.wildmask.specs.Codes.{lower};
+    ghost use Rattle.std.specs.Prelude.{◌≡◌, None};
     ghost use Rattle.wildmask.specs.Items.{items_of, literals_of};
     ghost use Rattle.wildmask.specs.Masks.{GivenMask, fault_of};
     ghost use Rattle.wildmask.specs.Signatures.{items_signature};
@@ -41,13 +39,14 @@ impl Model for Mask {
 
     ghost view = { λ m. record { kind = m.kind; text = m.text } };
 
-    ghost invariant = { λ m. (fault_of m.kind m.text ≡ None) × (m.pattern ≡ map lower (items_of m.kind m.text))
-        × (m.literals ≡ literals_of m.kind m.text) × (m.signature ≡ items_signature (items_of m.kind m.text)) };
+    ghost invariant = { λ m. (fault_of m.kind m.text ≡ None) × (m.literals ≡ literals_of m.kind m.text)
+        × (m.signature ≡ items_signature (items_of m.kind m.text)) };
 }
 
 impl Mask {
-    ghost use Rattle.std.specs.Prelude.{◌≡◌, ◌↔◌, ◌+◌, ◌*◌, ◌≤◌, ℕ, List, IsTrue, None, length};
+    ghost use Rattle.std.specs.Prelude.{◌≡◌, ◌↔◌, ◌+◌, ◌*◌, ◌≤◌, ℕ, List, IsTrue, None, length, map};
     ghost use Rattle.wildmask.specs.declared.items.MaskKind.TheVariants.{Bind, Host};
+    ghost use Rattle.wildmask.specs.Codes.{lower};
     ghost use Rattle.wildmask.specs.Items.{literals_of};
     ghost use Rattle.wildmask.specs.Masks.{IsMatch, Makes, fault_of, is_match, mask_items};
     ghost use Rattle.wildmask.specs.Signatures.{is_within, items_signature, text_signature};
@@ -87,7 +86,6 @@ impl Mask {
         Ok(Mask {
             kind,
             text,
-            pattern,
             literals,
             signature,
         })
@@ -109,7 +107,7 @@ impl Mask {
         ensures test { result ≡ is_match self.now text.now }
         ensures counted { count.new.steps ≤ count.old.steps + (length (mask_items self.now) + 1) * (length text.now + 1) }
     {
-        self.pattern.matches(text, count)
+        self.pattern().matches(text, count)
     }
 
     /// How many items of the mask are literals, an escaped byte being one.
@@ -127,7 +125,7 @@ impl Mask {
         ensures within { (text : List ℕ) → IsMatch self.now text → length result ≤ length text }
         ensures short { length result ≤ 16 }
     {
-        self.pattern.tail()
+        self.pattern().tail()
     }
 
     /// The pairs of adjacent literals that the mask needs. A text that the mask matches has each of them.
@@ -136,6 +134,13 @@ impl Mask {
         ensures needed { (text : List ℕ) → IsMatch self.now text → IsTrue (is_within result (text_signature text)) }
     {
         self.signature
+    }
+
+    // The items of the mask, which are read off its text: many masks are kept, and few are matched, so none keeps them.
+    fn pattern(&self) -> Pattern
+        ensures { result ≡ map lower (mask_items self.now) }
+    {
+        Pattern::of(self.kind, self.text.as_bytes())
     }
 
     /// The mask's text as it was given.
@@ -153,7 +158,6 @@ impl TryCopy for Mask {
         Ok(Mask {
             kind: self.kind,
             text,
-            pattern: self.pattern.copy(),
             literals: self.literals,
             signature: self.signature,
         })

@@ -92,17 +92,6 @@ impl Pattern {
     {
         Signature::needed_by(&self.codes[..self.len])
     }
-
-    /// An equal pattern of its own. Takes no memory.
-    pub fn copy(&self) -> Pattern
-        ensures { result ≡ self.now }
-    {
-        Pattern {
-            codes: self.codes,
-            len: self.len,
-            front: self.front,
-        }
-    }
 }
 
 // How many items there are up to the last special one.

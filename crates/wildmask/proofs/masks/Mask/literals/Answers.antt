@@ -4,4 +4,4 @@ use Rattle.wildmask.specs.Masks.{GivenMask}
 use Rattle.wildmask.proofs.masks.Mask.literals.Goals as goal
 
 pub returns : goal.returns
-returns c = c.self.invariant.2 ∙ ap (λ (m : GivenMask). literals_of m.kind m.text) c.self.view_is
+returns c = c.self.invariant.1 ∙ ap (λ (m : GivenMask). literals_of m.kind m.text) c.self.view_is

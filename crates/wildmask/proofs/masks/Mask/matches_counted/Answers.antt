@@ -1,9 +1,9 @@
-use Rattle.std.proofs.Common.{◌≡◌, ◌↔◌, ◌≤◌, ◌+◌, ◌*◌, List, ℕ, IsTrue, length, map, subst, ap, ◌∙◌}
+use Rattle.std.proofs.Common.{◌≡◌, ◌↔◌, ◌≤◌, ◌+◌, ◌*◌, List, ℕ, IsTrue, length, subst, ap, ◌∙◌}
 use Rattle.std.proofs.lemmas.List.{length-map}
 use Rattle.std.proofs.lemmas.Bool.Decides.{same_from_decides}
 use Rattle.wildmask.specs.declared.items.Item.{Item}
 use Rattle.wildmask.specs.Codes.{lower}
-use Rattle.wildmask.specs.Masks.{GivenMask, mask_items}
+use Rattle.wildmask.specs.Masks.{mask_items}
 use Rattle.wildmask.specs.Matching.{Matches}
 use Rattle.wildmask.proofs.WalkLemmas.{both}
 use Rattle.wildmask.proofs.MatchLemmas.{Matches-lower}
@@ -12,9 +12,7 @@ use Rattle.wildmask.proofs.masks.Mask.matches_counted.Goals as goal
 
 pub returns-clause-matches : goal.returns-clause-matches
 returns-clause-matches c =
-    let items : c.self.inside.pattern ≡ map lower (mask_items c.args.self.now) = c.self.invariant.1
-    ∙ ap (λ (m : GivenMask). map lower (mask_items m)) c.self.view_is in
-    both (subst (λ (xs : List Item). IsTrue c.matches.result ↔ Matches xs c.args.text.now) items c.matches.ensures.matches)
+    both (subst (λ (xs : List Item). IsTrue c.matches.result ↔ Matches xs c.args.text.now) c.pattern.ensures c.matches.ensures.matches)
     (Matches-lower (mask_items c.args.self.now) c.args.text.now)
 
 pub returns-clause-test : goal.returns-clause-test
@@ -22,7 +20,6 @@ returns-clause-test c = same_from_decides _ _ (returns-clause-matches c) (is_mat
 
 pub returns-clause-counted : goal.returns-clause-counted
 returns-clause-counted c =
-    let items : c.self.inside.pattern ≡ map lower (mask_items c.args.self.now) = c.self.invariant.1
-    ∙ ap (λ (m : GivenMask). map lower (mask_items m)) c.self.view_is in
-    let long : length c.self.inside.pattern ≡ length (mask_items c.args.self.now) = ap length items ∙ length-map (mask_items c.args.self.now) lower in
+    let long : length c.pattern.result ≡ length (mask_items c.args.self.now) = ap length c.pattern.ensures
+    ∙ length-map (mask_items c.args.self.now) lower in
     subst (λ (n : ℕ). c.matches.new.count.steps ≤ c.args.count.now.steps + (n + 1) * (length c.args.text.now + 1)) long c.matches.ensures.counted

@@ -1,8 +1,7 @@
-use Rattle.std.proofs.Common.{◌≡◌, List, ℕ, ap, ◌∙◌, sym, subst, map, refl, Option, Some, None, Ok}
+use Rattle.std.proofs.Common.{◌≡◌, List, ℕ, ap, ◌∙◌, sym, subst, refl, Option, Some, None, Ok}
 use Rattle.std.specs.Prelude.{count_by}
 use Rattle.bytetext.specs.Refusals.{refused_with}
 use Rattle.wildmask.specs.declared.faults.MaskFault.{MaskFault}
-use Rattle.wildmask.specs.Codes.{lower}
 use Rattle.wildmask.specs.Items.{is_literal, items_of, literals_of}
 use Rattle.wildmask.specs.Masks.{fault_of}
 use Rattle.wildmask.specs.Signatures.{items_signature}
@@ -18,7 +17,6 @@ pub invariant_of-result : goal.invariant_of-result
 invariant_of-result c = (
   subst (λ (text : List ℕ). fault_of c.args.kind text ≡ None) (sym c.in_ok-text.ensures) (sym c.fault_of.ensures
       ∙ not_refused c.fault_of.result (sym c.refuse.ensures ∙ c.in_ok-refuse.was)),
-  c.of-pattern.ensures ∙ ap (λ (text : List ℕ). map lower (items_of c.args.kind text)) (sym c.in_ok-text.ensures),
   c.literals-literals.ensures ∙ ap (count_by is_literal) c.of-pattern.ensures ∙ count-lower (items_of c.args.kind c.args.text.now)
       ∙ ap (λ (text : List ℕ). literals_of c.args.kind text) (sym c.in_ok-text.ensures),
   c.signature-signature.ensures ∙ ap items_signature c.of-pattern.ensures ∙ items_signature-lower (items_of c.args.kind c.args.text.now)

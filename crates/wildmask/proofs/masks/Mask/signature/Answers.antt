@@ -5,7 +5,7 @@ use Rattle.wildmask.proofs.SignatureLemmas.{is_within-from, signature_within}
 use Rattle.wildmask.proofs.masks.Mask.signature.Goals as goal
 
 pub returns-clause-value : goal.returns-clause-value
-returns-clause-value c = c.self.invariant.3 ∙ ap (λ (m : GivenMask). items_signature (mask_items m)) c.self.view_is
+returns-clause-value c = c.self.invariant.2 ∙ ap (λ (m : GivenMask). items_signature (mask_items m)) c.self.view_is
 
 pub returns-clause-needed : goal.returns-clause-needed
 returns-clause-needed c = λ text m. subst (λ (n : Pairs). is_within n (text_signature text)

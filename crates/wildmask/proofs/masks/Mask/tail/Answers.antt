@@ -1,13 +1,11 @@
-use Rattle.std.proofs.Common.{◌≡◌, ◌≤◌, List, ℕ, length, map, subst, sym, ap, ◌∙◌, arith}
-use Rattle.wildmask.specs.Codes.{lower}
-use Rattle.wildmask.specs.Masks.{GivenMask, mask_items}
+use Rattle.std.proofs.Common.{◌≡◌, ◌≤◌, List, ℕ, length, subst, sym, ap, ◌∙◌, arith}
+use Rattle.wildmask.specs.Masks.{mask_items}
 use Rattle.wildmask.specs.Tails.{end_key, tail_of}
 use Rattle.wildmask.proofs.TailLemmas.{tail_ends, tail_of-lower, length-tail_of}
 use Rattle.wildmask.proofs.masks.Mask.tail.Goals as goal
 
 pub returns-clause-value : goal.returns-clause-value
-returns-clause-value c = c.tail.ensures ∙ ap tail_of (c.self.invariant.1 ∙ ap (λ (m : GivenMask). map lower (mask_items m)) c.self.view_is)
-    ∙ tail_of-lower (mask_items c.args.self.now)
+returns-clause-value c = c.tail.ensures ∙ ap tail_of c.pattern.ensures ∙ tail_of-lower (mask_items c.args.self.now)
 
 pub returns-clause-ends : goal.returns-clause-ends
 returns-clause-ends c = λ text m. subst (λ (xs : List ℕ). xs
