@@ -61,7 +61,11 @@ def take_kept(found):
     rt.Crate.allowed = rt.handles_of(TOP)
     kept = rt.Kept(found)
     for crate in found:
-        given = [crate.makes_rlib() and crate.is_built() or kept.give(crate, False, kept.key(crate))]
+        is_built = crate.makes_rlib() and crate.is_built()
+        if not is_built:
+            # (what `rt ci` left here are links to its store, which gives nothing over them and then drops what it has)
+            shutil.rmtree(f"{crate.folder}/out/rlib", ignore_errors=True)
+        given = [is_built or kept.give(crate, False, kept.key(crate))]
         given += [kept.give(crate, True, kept.key(crate))] if given[0] and crate.has_tests() else []
         if crate.makes_rlib() and given[0]:
             with open(f"{crate.folder}/out/rlib/stamp", "w", encoding="utf-8") as it:

@@ -317,6 +317,8 @@ class Proxy:
 
     def stop(self):
         for door in self.doors:
+            # (one that waits for somebody stays open where it is only closed)
+            door.shutdown(socket.SHUT_RDWR)
             door.close()
         self.cut()
 

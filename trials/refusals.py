@@ -196,6 +196,8 @@ def last_generation(tally, program, room):
         first.write_bytes(spent)
         used_up = f"eggnet: {bot.folder} holds a journal of an older layout that can't be written anew"
         says(tally, "a journal whose generations are used up", [program, "run", bot.config], 1, used_up)
+        told = f"eggnet: {bot.folder} holds a journal of an older layout whose generations are used up"
+        says(tally, "it can't be shown", [program, "show", bot.folder], 1, told)
         tally.note("it is as it was", first.read_bytes() == spent)
         first.write_bytes(spent[:9] + b"\xfe" + spent[10:])
         tally.note("one with a generation left is written anew", bot.start(), bot.logged()[-200:])

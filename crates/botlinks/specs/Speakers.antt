@@ -1,7 +1,7 @@
 -- Which packets a leaf's connection may bring.
 use Rattle.std.specs.Prelude.{ℕ, ◌==◌, Bool, false, Option, Some, None}
 use Rattle.sharewire.specs.declared.packet.Packet.{Packet}
-use Rattle.turns.specs.Speakers.{speaker_of}
+use Rattle.inbox.specs.Speakers.{speaker_of}
 
 abbrev pub is_leaf : ℕ → Option ℕ → Bool
 is_leaf leaf None = false

@@ -12,12 +12,12 @@ use crate::log::log;
 use crate::seat::Seat;
 use bytetext::NoMemory;
 use handshake::{HubSide, Key, NetNumber, Nonce};
+use inbox::Inbox;
 use sharewire::Packet;
 use sockets::{DoorFault, Registry, TcpDoor, TcpSocket};
 use std::alloc::Global;
 use std::net::{Net, SocketAddr};
 use std::random::RandomSource;
-use turns::Inbox;
 
 /// The most connections that have not shown a code.
 pub const MAX_GUESTS: usize = 64;

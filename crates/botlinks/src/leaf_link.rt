@@ -13,13 +13,13 @@ use crate::pumps::Pumps;
 use bytetext::NoMemory;
 use dialling::{Dialled, Dialling};
 use handshake::{Key, LeafSide, NetNumber, Nonce};
+use inbox::Inbox;
 use settings::Address;
 use sharewire::Packet;
 use sockets::Registry;
 use std::alloc::Global;
 use std::net::Net;
 use std::random::RandomSource;
-use turns::Inbox;
 
 /// The longest wait for a try, in seconds.
 pub const LONGEST_WAIT: u16 = 30;

@@ -7,10 +7,10 @@ ghost use Rattle.linkcalls.specs.Shapes.{HasGoodRecords};
 use crate::gone::Gone;
 use crate::link_wire::LinkWire;
 use bytetext::NoMemory;
+use inbox::is_said_by;
 use linkframes::{FrameReader, frame_of};
 use sharewire::Packet;
 use std::alloc::Global;
-use turns::is_said_by;
 
 // A leaf that is linked.
 pub(crate) struct Seat {

@@ -1,2 +1,1 @@
 pub mod TakingLemmas
-pub mod ToldLemmas

@@ -5,4 +5,3 @@ pub mod Outcomes
 pub mod Stations
 pub mod Sums
 pub mod Taking
-pub mod Told

@@ -8,14 +8,15 @@ use crate::answers::of_change;
 use crate::asks::{Asker, Asks};
 use crate::entry::Entry;
 use crate::log::log;
+use crate::noticing::notice;
 use crate::operators::Operators;
 use crate::others::Others;
 use crate::outcome::{Outcome, told_by};
-use crate::uplink::Uplink;
 use botcore::{End, Note, Refusal, Report};
 use botlinks::Links;
 use bytetext::NoMemory;
 use linkcalls::{LinkFault, Outgoings};
+use serverlink::Uplink;
 use std::alloc::Global;
 
 impl Others {
@@ -124,7 +125,7 @@ impl Others {
                 let answer = of_change(alloc, outcome)?;
                 operators.tell_one(number, answer.as_slice())
             }
-            Asker::Person(nick) => uplink.notice(alloc, nick.as_bytes(), outcome),
+            Asker::Person(nick) => notice(alloc, uplink, nick.as_bytes(), outcome),
         }
     }
 }

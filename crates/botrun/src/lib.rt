@@ -4,12 +4,8 @@
 //! and listens for operators at the socket `control` in the folder. Then it goes round: it waits for sockets, reads the
 //! clocks, connects what is lost and due, reads, has the bot take the turn, does up to 16 commands of each operator,
 //! writes, and lets go who is over. What the bot itself does is [`turns::take_turn`]'s, and a bind of an operator one step
-//! of it: nothing is decided here for it.
-//!
-//! What the process says to a server by itself is a registration's PASS, a PING after 90 seconds of silence, another
-//! nick where the server takes none of the bot's, the lines `perform` once after each welcome, a JOIN after a KICK or
-//! where the bot was not let in, and what an operator has it say. Each line to a server has 1 to 510 bytes: a
-//! [`ServerWire`] is told nothing else.
+//! of it: nothing is decided here for it. The connection to its server, and what the process says there by itself, is
+//! [`serverlink`]'s; what an operator has it say, and what came of a change that a person had asked for, is put there.
 //!
 //! A hub and its leaves are processes on any machines, connected over TCP ([`botlinks`]). A hub draws the number of its
 //! net where it is made, before its journal gets its name, and a leaf keeps it at its first handshake. A change that is
@@ -33,13 +29,10 @@ mod answers;
 mod asks;
 mod bases;
 mod bot_process;
-mod channels;
 mod checking;
 mod deeds;
 mod ending;
 mod entry;
-mod hearing;
-mod keeping;
 mod log;
 mod netting;
 mod noticing;
@@ -47,20 +40,14 @@ mod obeying;
 mod operators;
 mod others;
 mod outcome;
-mod own_lines;
 mod passing;
 mod process;
-mod server_wire;
-mod session;
-mod shown;
 mod starting;
 mod status;
 mod steps;
 mod sums;
-mod uplink;
 
 pub use crate::bot_process::run;
 pub use crate::checking::check;
 pub use crate::ending::{RunError, Subject};
 pub use crate::operators::{MAX_OPERATORS, MAX_UNSENT};
-pub use crate::server_wire::ServerWire;

@@ -1,26 +1,24 @@
 // What a person is told of a change that was asked for by what the person said.
 use crate::outcome::Outcome;
-use crate::uplink::Uplink;
 use bytetext::{NoMemory, Text};
+use serverlink::Uplink;
 use std::alloc::Global;
 
-impl Uplink {
-    // Tells a person what came of a change. Without a server, or where too many lines wait, nobody is told.
-    pub(crate) fn notice(
-        &mut self,
-        alloc: Global,
-        nick: &[u8],
-        outcome: Outcome,
-    ) -> Result<(), NoMemory> {
-        if self.session.is_none() || !self.own.has_room() {
-            return Ok(());
-        }
-        let mut line = Vec::from_slice(alloc, b"NOTICE ")?;
-        line.extend_from_slice(nick)?;
-        line.extend_from_slice(b" :")?;
-        line.append(&mut words_of(alloc, outcome)?)?;
-        self.own.put(Text::new(line))
+// Tells a person what came of a change. Without a server, or where too many lines wait, nobody is told.
+pub(crate) fn notice(
+    alloc: Global,
+    uplink: &mut Uplink,
+    nick: &[u8],
+    outcome: Outcome,
+) -> Result<(), NoMemory> {
+    if uplink.session().is_none() || !uplink.own.has_room() {
+        return Ok(());
     }
+    let mut line = Vec::from_slice(alloc, b"NOTICE ")?;
+    line.extend_from_slice(nick)?;
+    line.extend_from_slice(b" :")?;
+    line.append(&mut words_of(alloc, outcome)?)?;
+    uplink.own.put(Text::new(line))
 }
 
 // What came of a change, as a person is told.

@@ -1,9 +1,9 @@
 // How a bot is, as lines.
 use crate::process::Process;
-use crate::session::Session;
 use botlinks::put_status;
 use bytetext::NoMemory;
 use itoa::Buffer;
+use serverlink::Session;
 use settings::Settings;
 use std::alloc::Global;
 

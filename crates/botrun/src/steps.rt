@@ -9,6 +9,7 @@ use crate::ending::RunError;
 use crate::entry::Entry;
 use crate::log::log;
 use crate::outcome::{Outcome, outcome_of};
+use crate::passing::pass_all;
 use crate::process::Process;
 use linkcalls::MAX_ASKS;
 use procstore::{ProcStore, Promise, Run};
@@ -120,8 +121,7 @@ impl Process {
         let pumped = heard.pump && !heard.compact;
         let told = take_turn(rt.alloc(), &mut self.bot, store, &mut self.lines, heard);
         let outcome = outcome_of(told.reports.as_slice());
-        self.uplink
-            .pass_all(rt, settings, told.reports.as_slice(), now)?;
+        pass_all(rt, &mut self.uplink, settings, told.reports.as_slice(), now)?;
         self.others.pass_all(
             rt,
             &mut self.operators,

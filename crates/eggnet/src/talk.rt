@@ -60,6 +60,7 @@ fn not_asked<R: Eprint>(rt: &R, folder: &str, error: AskError) -> u8 {
         AskFault::Nobody => eprintln!(rt; "eggnet: no bot runs on {folder}"),
         AskFault::Folder(_)
         | AskFault::Unread
+        | AskFault::GenerationsSpent
         | AskFault::Begins
         | AskFault::Barred
         | AskFault::Busy
@@ -73,7 +74,7 @@ fn not_asked<R: Eprint>(rt: &R, folder: &str, error: AskError) -> u8 {
 
 fn status_of(fault: AskFault) -> u8 {
     match fault {
-        AskFault::Command(_) | AskFault::Unread => FAULT,
+        AskFault::Command(_) | AskFault::Unread | AskFault::GenerationsSpent => FAULT,
         AskFault::Nobody
         | AskFault::Folder(_)
         | AskFault::Begins

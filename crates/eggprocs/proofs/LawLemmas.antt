@@ -1,7 +1,10 @@
 -- Who is not heeded, and what is asked for then.
-use Rattle.std.proofs.Common.{◌≡◌, ◌∙◌, ◌&&◌, ◌||◌, ◌==◌, ◌∷◌, ◌++◌, not, ℕ, List, [], length, map, take, drop, Bool, true, false, refl, ap, sym, subst, zero, suc, codes, if◌then◌else◌, Option, Some, None}
+use Rattle.std.proofs.Common.{◌≡◌, ◌∙◌, ◌&&◌, ◌||◌, ◌==◌, ◌∷◌, ◌++◌, not, ℕ, List, [], length, get_or, map, take, drop, Bool, true, false, refl, ap, sym, subst, codes, if◌then◌else◌, Option, Some, None}
 use Rattle.std.specs.Prelude.{is_some}
 use Rattle.std.specs.Str.{bytes_eq}
+use Rattle.std.proofs.lemmas.Bool.{and_from, or_right}
+use Rattle.std.proofs.lemmas.List.Elements.{All-take}
+use Rattle.std.proofs.lemmas.List.Sums.{AllPass-from_list_all, list_all-from_AllPass}
 use Rattle.std.proofs.lemmas.Slice.Eq.{bytes_eq-Decides}
 use Rattle.std.specs.List.{list_all, list_any, filter_map, cons_option}
 use Rattle.std.specs.Option.{option_map}
@@ -284,33 +287,9 @@ greet-law call seen none = does-nothing which.Greet call seen (greet-none call s
 
 -- ---- everyone on a channel
 
-left-true : (a b : Bool) → (a && b) ≡ true → a ≡ true
-left-true true b e = refl
-left-true false b e = cc
-
-right-true : (a b : Bool) → (a && b) ≡ true → b ≡ true
-right-true true b e = e
-right-true false b e = cc
-
-both-true : (a b : Bool) → a ≡ true → b ≡ true → (a && b) ≡ true
-both-true a b e f = ap (λ (x : Bool). x && b) e ∙ f
-
-or-right : (a b : Bool) → b ≡ true → (a || b) ≡ true
-or-right true b e = refl
-or-right false b e = e
-
-all-take : {X : Type 0} (p : X → Bool) (n : ℕ) (xs : List X) → list_all p xs ≡ true → list_all p (take n xs) ≡ true
-all-take p zero xs all = refl
-all-take p (suc n) [] all = refl
-all-take p (suc n) (x ∷ xs) all =
-    both-true (p x) (list_all p (take n xs)) (left-true (p x) (list_all p xs) all)
-    (all-take p n xs (right-true (p x) (list_all p xs) all))
-
 all-of : {X : Type 0} (p q : X → Bool) (xs : List X) → ((x : X) → p x ≡ true → q x ≡ true) → list_all p xs ≡ true → list_all q xs ≡ true
-all-of p q [] more all = refl
-all-of p q (x ∷ xs) more all =
-    both-true (q x) (list_all q xs) (more x (left-true (p x) (list_all p xs) all))
-    (all-of p q xs more (right-true (p x) (list_all p xs) all))
+all-of p q xs more all =
+    list_all-from_AllPass q xs (λ k d within. more (get_or xs k d) (AllPass-from_list_all p xs all k d within))
 
 -- each of these is of an element that gives it
 all-given : {X Y : Type 0} (h : X → Option Y) (is_of : Y → X → Bool) → ((x : X) (y : Y) → h x ≡ Some y → is_of y x ≡ true)
@@ -319,14 +298,14 @@ all-given h is_of gives [] = refl
 all-given {X} {Y} h is_of gives (x ∷ xs) =
     by (h x) (λ y is. gives x y is)
     (all-of (λ y. list_any (is_of y) xs) (λ y. list_any (is_of y) (x ∷ xs)) (filter_map h xs)
-    (λ y among. or-right (is_of y x) (list_any (is_of y) xs) among) (all-given h is_of gives xs))
+    (λ y among. or_right (is_of y x) (list_any (is_of y) xs) among) (all-given h is_of gives xs))
   where
     by : (given : Option Y) → ((y : Y) → given ≡ Some y → is_of y x ≡ true)
         → list_all (λ y. list_any (is_of y) (x ∷ xs)) (filter_map h xs) ≡ true
         → list_all (λ y. list_any (is_of y) (x ∷ xs)) (cons_option given (filter_map h xs)) ≡ true
     by None here rest = rest
     by (Some y) here rest =
-        both-true (list_any (is_of y) (x ∷ xs)) (list_all (λ z. list_any (is_of z) (x ∷ xs)) (filter_map h xs))
+        and_from (list_any (is_of y) (x ∷ xs)) (list_all (λ z. list_any (is_of z) (x ∷ xs)) (filter_map h xs))
         (ap (λ (b : Bool). b || list_any (is_of y) xs) (here y refl)) rest
 
 -- op by the one flag, or voice by the other
@@ -381,8 +360,11 @@ opall-due : (call : Call) (seen : Seen) (joins gets : Bool) → joins ≡ false 
 opall-due call seen true gets none = cc
 opall-due call seen false false none = refl
 opall-due call seen false true none =
-    all-take (is_due call seen) MAX_ACTIONS (filter_map (mode_for call seen) (members_in (channel_of call) seen.sight.channels))
-    (all-given (mode_for call seen) (is_due_to call seen) (due-mode call seen) (members_in (channel_of call) seen.sight.channels))
+    let members = members_in (channel_of call) seen.sight.channels in
+    let each = AllPass-from_list_all (is_due call seen) (filter_map (mode_for call seen) members)
+    (all-given (mode_for call seen) (is_due_to call seen) (due-mode call seen) members) in
+    list_all-from_AllPass (is_due call seen) (take MAX_ACTIONS (filter_map (mode_for call seen) members))
+    (All-take (λ action. is_due call seen action ≡ true) MAX_ACTIONS (filter_map (mode_for call seen) members) each)
 
 pub opall-law : GivesWhatIsDue (codes "opall")
 unfolding actions_by

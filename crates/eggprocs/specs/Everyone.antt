@@ -3,6 +3,7 @@ use Rattle.std.specs.Prelude.{ℕ, not, ◌&&◌, ◌||◌, List, [], ◌∷◌,
 use Rattle.std.specs.List.{filter_map}
 use Rattle.std.specs.Option.{option_map}
 use Rattle.std.specs.Str.{bytes_eq}
+use Rattle.rfccase.specs.Casemapping.{is_same}
 use Rattle.userfile.specs.declared.flags.PersonFlags.{PersonFlags}
 use Rattle.userfile.specs.Persons.{flags_of, handle_of}
 use Rattle.chanstate.specs.declared.member.Member.{Member}
@@ -22,12 +23,12 @@ use Rattle.eggprocs.specs.Rights.{has_flag, is_join, is_mode}
 
 -- the bot's own join
 abbrev pub is_own_join : Call → Seen → Bool
-is_own_join call seen = is_join call.kind && bytes_eq (nick_of call) seen.sight.channels.nick
+is_own_join call seen = is_join call.kind && is_same (nick_of call) seen.sight.channels.nick
 
 -- a mode that gives op to the bot itself
 abbrev pub gives_bot_op : Call → Seen → Bool
 gives_bot_op call seen =
-    is_mode call.kind && (bytes_eq (arg_at call.args 4) (codes "+o") && bytes_eq (arg_at call.args 5) seen.sight.channels.nick)
+    is_mode call.kind && (bytes_eq (arg_at call.args 4) (codes "+o") && is_same (arg_at call.args 5) seen.sight.channels.nick)
 
 -- ---- members
 
@@ -42,7 +43,7 @@ flags_of_member call seen member =
 
 -- whether a member is left as it is: the bot itself, whom the mode makes op, and who is op already
 abbrev pub is_left : Seen → Member → Bool
-is_left seen member = member.op || bytes_eq member.nick seen.sight.channels.nick
+is_left seen member = member.op || is_same member.nick seen.sight.channels.nick
 
 -- op for the flag a, else voice for the flag g, unless it is there
 abbrev pub change_lacked : Bool → PersonFlags → Option (List ℕ)

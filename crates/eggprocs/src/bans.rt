@@ -1,5 +1,5 @@
 // The procs that ban.
-ghost use Rattle.std.specs.Prelude.{◌≡◌, ◌∷◌, [], IfOk};
+ghost use Rattle.std.specs.Prelude.{◌≡◌, IfOk};
 ghost use Rattle.eggprocs.specs.Bans.{mask_of, minutes_in, short, comment_after, end_of, ban_in, lift_wish, lift_after, lift_of, mode_of};
 ghost use Rattle.eggprocs.specs.Bans.{asked_by_ban, asked_by_unban, asked_by_lift};
 

@@ -13,6 +13,7 @@ use bytetext::{Failure, NoMemory, Text};
 use chanstate::Member;
 use outqueue::Queue;
 use procstore::{Action, Actions, ActionsFault, Call, PutWish, View};
+use rfccase::same;
 use std::alloc::Global;
 use userfile::PersonFlags;
 
@@ -39,7 +40,7 @@ pub(crate) fn asked_by_opall(
 fn is_own_join(call: &Call, view: &View<'_>) -> bool
     ensures { result ≡ is_own_join call.now view.now }
 {
-    is_join(call.kind) && nick_of(call) == view.channels().own_nick()
+    is_join(call.kind) && same(nick_of(call), view.channels().own_nick())
 }
 
 // Whether a mode gives op to the bot itself.
@@ -49,7 +50,7 @@ fn gives_bot_op(call: &Call, view: &View<'_>) -> bool
     let args = call.args.as_slice();
     is_mode(call.kind)
         && arg_at(args, 4) == b"+o".as_slice()
-        && arg_at(args, 5) == view.channels().own_nick()
+        && same(arg_at(args, 5), view.channels().own_nick())
 }
 
 // The modes of the first members who lack one.
@@ -118,7 +119,7 @@ fn change_of(
 fn is_left(view: &View<'_>, member: &Member) -> bool
     ensures { result ≡ is_left view.now member.now }
 {
-    member.op || member.nick.as_bytes() == view.channels().own_nick()
+    member.op || same(member.nick.as_bytes(), view.channels().own_nick())
 }
 
 // The flags of a member, with those on the call's channel.

@@ -1,5 +1,5 @@
 // The procs of info lines.
-ghost use Rattle.std.specs.Prelude.{◌≡◌, ◌++◌, ◌∷◌, [], IfOk};
+ghost use Rattle.std.specs.Prelude.{◌≡◌, IfOk};
 ghost use Rattle.eggprocs.specs.Infos.{info_by, info_in, set_by, asked_by_known, asked_by_info, greeting, asked_by_greet};
 
 use crate::args::{channel_of, handle_of, nick_of, or_else, told_of};

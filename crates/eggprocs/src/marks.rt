@@ -1,5 +1,5 @@
 // The procs of sticky bans, and the one that says which bans there are.
-ghost use Rattle.std.specs.Prelude.{◌≡◌, ◌++◌, ◌∷◌, [], map, take, drop, IfOk};
+ghost use Rattle.std.specs.Prelude.{◌≡◌, map, take, drop, IfOk};
 ghost use Rattle.procstore.specs.declared.limits.TheConstants.{MAX_ACTIONS};
 ghost use Rattle.eggprocs.specs.Args.{told_of};
 ghost use Rattle.eggprocs.specs.Marks.{marked, stick, unstick, mark_text, ban_text, told_ban, left_out, told_bans, asked_by_bans};

@@ -1,5 +1,5 @@
 // The procs by which masters change the userfile.
-ghost use Rattle.std.specs.Prelude.{◌≡◌, ◌++◌, ◌∷◌, [], IfOk};
+ghost use Rattle.std.specs.Prelude.{◌≡◌, ◌∷◌, [], IfOk};
 ghost use Rattle.std.specs.Option.{option_copied};
 ghost use Rattle.eggprocs.specs.People.{handle_in, makes_owner, is_for_owners};
 ghost use Rattle.eggprocs.specs.People.{told, asked_by_command, asked_by_master, asked_unless, plus_user, minus_user, plus_host, minus_host, chattr, listed, info_text, described, asked_by_whois};

@@ -1,5 +1,5 @@
 // Who may have something done.
-ghost use Rattle.std.specs.Prelude.{◌≡◌, ℕ};
+ghost use Rattle.std.specs.Prelude.{◌≡◌};
 ghost use Rattle.eggprocs.specs.Rights.{is_pub, is_join, is_msg, is_timer, is_mode, flags_by, has_flag, is_op_of, is_bot_op, is_from_op, is_from_voice, global_by, is_owner, is_master, standing_if, standing_of};
 
 use crate::args::{channel_of, handle_of};

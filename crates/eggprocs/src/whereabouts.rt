@@ -1,7 +1,7 @@
 // The proc that says whether somebody is here.
-ghost use Rattle.std.specs.Prelude.{◌≡◌, ◌++◌, ◌∷◌, [], find, IfOk};
+ghost use Rattle.std.specs.Prelude.{◌≡◌, find, IfOk};
 ghost use Rattle.std.specs.Option.{option_copied};
-ghost use Rattle.eggprocs.specs.Whereabouts.{sought, is_there, asked_here, first_shared, shared, on_now, known_text, by_records, whereabouts_if, whereabouts, asked_by_seen};
+ghost use Rattle.eggprocs.specs.Whereabouts.{sought, is_there, asked_here, first_shared, shared, on_now, known_text, by_records, whereabouts, asked_by_seen};
 
 use crate::args::{channel_of, first_word, has_word, last_of, nick_of};
 use crate::basics::is_command;

@@ -1,6 +1,6 @@
 // Which proc is meant.
 ghost use Rattle.std.specs.Prelude.{◌≡◌};
-ghost use Rattle.eggprocs.specs.Procs.{name_of, every, code_by};
+ghost use Rattle.eggprocs.specs.Procs.{name_of, code_by};
 
 use procstore::Code;
 

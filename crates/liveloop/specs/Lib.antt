@@ -2,3 +2,4 @@ pub mod Words
 pub mod Grammar
 pub mod Heard
 pub mod Scripts
+pub mod BotTurns

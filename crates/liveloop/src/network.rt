@@ -1,18 +1,19 @@
 // The bots with all sockets.
 use crate::error::LiveError;
-use crate::events;
 use crate::moment::Moment;
 use crate::seat::Seat;
-use botcore::{Bot, Event};
+use botcore::{Bot, Report};
 use bytetext::NoMemory;
-use ircline::LineReader;
 use linkcalls::Outgoings;
 use loopback::{House, LinkHouse, Peer, Uplink, local};
-use procstore::{ProcStore, Promise, Run};
 use replay::SteadyDisk;
+use sharewire::Packet;
 use std::alloc::Global;
 use std::io;
 use std::net::{Net, SocketAddr};
+
+// Each so many turns the bots are pumped.
+const PUMP_TURNS: u32 = 64;
 
 // How long a wait for what is under way is at most, in milliseconds.
 const REST: u64 = 100;
@@ -26,7 +27,7 @@ pub struct Network {
     /// What each bot's clock shows.
     pub now: Moment,
     // How many turns there are until the next that pumps.
-    pub until_pump: u32,
+    until_pump: u32,
     server: SocketAddr,
     hub: SocketAddr,
 }
@@ -49,7 +50,9 @@ impl Drop for Network {
 
 impl Network {
     ghost use Rattle.std.specs.Prelude.{◌≡◌, ◌≤◌, ◌+◌, IfOk};
-    ghost use Rattle.linkcalls.specs.Shapes.{AreGood};
+    ghost use Rattle.std.specs.List.{AllByRecursion};
+    ghost use Rattle.linkcalls.specs.Shapes.{AreGood, HasGoodRecords};
+    ghost use Rattle.turns.specs.Turns.{AllGood};
 
     /// The server and the hub's listener, and no bot yet.
     ///
@@ -80,14 +83,9 @@ impl Network {
     ///
     /// # Errors
     /// `Socket` where the system makes none, and `NoMemory` where a growth was refused.
-    pub fn connect_all<R: Net + AllocGlobal, P: Promise, B: Run>(
-        &mut self,
-        rt: &R,
-        store: &ProcStore<P, B>,
-    ) -> Result<(), LiveError> {
-        for place in self.seats.len()..self.bots.len() {
+    pub fn connect_all<R: Net + AllocGlobal>(&mut self, rt: &R) -> Result<(), LiveError> {
+        for _place in self.seats.len()..self.bots.len() {
             self.add_seat(rt)?;
-            self.greet(rt.alloc(), store, place)?;
         }
         Ok(())
     }
@@ -99,19 +97,6 @@ impl Network {
         let seat = Seat::new(rt.alloc(), irc, uplink);
         if self.seats.push(seat).is_err() {
             return Err(LiveError::NoMemory);
-        }
-        Ok(())
-    }
-
-    // Tells the bot at a place that it connects.
-    fn greet<P: Promise, B: Run>(
-        &mut self,
-        alloc: Global,
-        store: &ProcStore<P, B>,
-        place: usize,
-    ) -> Result<(), NoMemory> {
-        if let Some(bot) = self.bots.get_mut(place) {
-            let _none = events::tell(alloc, bot, store, Event::Connect)?;
         }
         Ok(())
     }
@@ -128,38 +113,28 @@ impl Network {
         Uplink::connect(rt, self.house.waiting(), self.hub)
     }
 
-    /// Gives the bot at a place a new connection to the server. Nothing where there is none.
+    /// Gives the bot at a place a new connection to the server, of which it hears in its next turn. Nothing where there
+    /// is none.
     ///
     /// # Errors
-    /// `Socket` where the system makes none, and `NoMemory` where a growth was refused.
-    pub fn connect<R: Net + AllocGlobal, P: Promise, B: Run>(
-        &mut self,
-        rt: &R,
-        store: &ProcStore<P, B>,
-        place: usize,
-    ) -> Result<(), LiveError> {
+    /// Those of the system, where it makes none.
+    pub fn connect<R: Net + AllocGlobal>(&mut self, rt: &R, place: usize) -> io::Result<()> {
         let irc = Peer::connect(rt, self.house.waiting(), self.server)?;
-        let Some(seat) = self.seats.get_mut(place) else {
-            return Ok(());
-        };
-        seat.irc = irc;
-        seat.lines = LineReader::new(rt.alloc());
-        Ok(self.greet(rt.alloc(), store, place)?)
+        if let Some(seat) = self.seats.get_mut(place) {
+            seat.connect(irc);
+        }
+        Ok(())
     }
 
     /// Makes those connections anew that are lost. Whether there were any.
     ///
     /// # Errors
-    /// `Socket` where the system makes none, and `NoMemory` where a growth was refused.
-    pub fn mend<R: Net + AllocGlobal, P: Promise, B: Run>(
-        &mut self,
-        rt: &R,
-        store: &ProcStore<P, B>,
-    ) -> Result<bool, LiveError> {
+    /// Those of the system, where it makes none.
+    pub fn mend<R: Net + AllocGlobal>(&mut self, rt: &R) -> io::Result<bool> {
         let mut mended = false;
         for place in 0..self.seats.len() {
             if self.has_lost_server(place) {
-                self.connect(rt, store, place)?;
+                self.connect(rt, place)?;
                 mended = true;
             }
             if self.mend_uplink(rt, place)? {
@@ -282,11 +257,81 @@ impl Network {
             }
     }
 
-    /// Leaves the packets of the bot at a place for those to whom they go: the hub's go to leaves, a leaf's to the hub.
+    /// Counts a turn. Whether it pumps: the first does, and then every 64th.
+    pub fn count_pump(&mut self) -> bool {
+        let is_due = self.until_pump == 0;
+        if is_due {
+            self.until_pump = PUMP_TURNS;
+        }
+        self.until_pump = self.until_pump.saturating_sub(1);
+        is_due
+    }
+
+    /// The packets that have come to the bot at a place: to the hub those of each connection, one after another, and to
+    /// a leaf those of the hub.
     ///
     /// # Errors
     /// `NoMemory` where a growth was refused.
-    pub fn pass(&mut self, alloc: Global, place: usize, packets: &Outgoings) -> Result<(), NoMemory>
+    pub fn take_packets(&mut self, alloc: Global, place: usize) -> Result<Vec<Packet>, NoMemory>
+        ensures good { IfOk result (λ packets. AllByRecursion HasGoodRecords packets.items) }
+    {
+        if place == 0 {
+            return self.take_from_leaves(alloc);
+        }
+        match self.seats.get_mut(place) {
+            Some(seat) => seat.take_packets(alloc),
+            None => Ok(Vec::new(alloc)),
+        }
+    }
+
+    fn take_from_leaves(&mut self, alloc: Global) -> Result<Vec<Packet>, NoMemory>
+        ensures good { IfOk result (λ packets. AllByRecursion HasGoodRecords packets.items) }
+    {
+        let mut packets = Vec::new(alloc);
+        for end in 0..self.link.count() {
+            packets.append(&mut self.link.take_packets(alloc, end)?)?;
+        }
+        Ok(packets)
+    }
+
+    /// Leaves what steps of the bot at a place report for those to whom it goes, in order.
+    ///
+    /// # Errors
+    /// `NoMemory` where a growth was refused.
+    pub fn pass_all(
+        &mut self,
+        alloc: Global,
+        place: usize,
+        reports: &[Report],
+    ) -> Result<(), NoMemory>
+        requires good { AllGood reports.now }
+    {
+        for report in reports {
+            self.pass(alloc, place, report)?;
+        }
+        Ok(())
+    }
+
+    /// Leaves what a step of the bot at a place reports for those to whom it goes: its lines for the server, the packets
+    /// of the hub for leaves, and those of a leaf for the hub.
+    ///
+    /// # Errors
+    /// `NoMemory` where a growth was refused.
+    pub fn pass(&mut self, alloc: Global, place: usize, report: &Report) -> Result<(), NoMemory>
+        requires good { AreGood report.now.packets }
+    {
+        if let Some(seat) = self.seats.get_mut(place) {
+            seat.tell_server(report.lines.as_slice())?;
+        }
+        self.pass_packets(alloc, place, &report.packets)
+    }
+
+    fn pass_packets(
+        &mut self,
+        alloc: Global,
+        place: usize,
+        packets: &Outgoings,
+    ) -> Result<(), NoMemory>
         requires good { AreGood packets.now }
     {
         for outgoing in packets.as_slice() {

@@ -10,11 +10,12 @@ use crate::command::{Command, Commands, Speech};
 use crate::error::LiveError;
 use crate::network::Network;
 use crate::reading::LiveScript;
-use crate::turns::{make_turns, tell};
+use crate::turn::{make_turns, tell};
 use bottimers::Zone;
 use bytetext::{NoMemory, Text};
 use procstore::{ProcStore, Promise, Run};
-use replay::{new_bots, put_records, script_bytes, write_text, zone_or_utc};
+use recordtext::put_records;
+use replay::{new_bots, script_bytes, write_text, zone_or_utc};
 use std::alloc::Global;
 use std::net::Net;
 use streams::Stream;
@@ -81,7 +82,7 @@ fn fill<R: Net + AllocGlobal, P: Promise, B: Run>(
     requires { leaves ≤ most_leaves }
 {
     net.bots = new_bots(rt.alloc(), leaves, zone)?;
-    net.connect_all(rt, store)
+    net.connect_all(rt)
 }
 
 // Does commands, and writes what each prints.
@@ -113,7 +114,7 @@ fn done<R: Net + AllocGlobal, P: Promise, B: Run>(
     let alloc = rt.alloc();
     match command {
         Command::Tell { bot, event } => tell(alloc, net, store, bot as usize, event)?,
-        Command::Connect(bot) => net.connect(rt, store, bot as usize)?,
+        Command::Connect(bot) => net.connect(rt, bot as usize)?,
         Command::Show(bot) => return Ok(shown(alloc, net, bot)?),
         Command::Until(version) => run_until(rt, net, store, version)?,
         Command::Turns(count) => make_turns(rt, net, store, count, None)?,

@@ -1,15 +1,20 @@
 // A bot's sockets.
-use bytetext::NoMemory;
+use crate::moment::Moment;
+use bytetext::{NoMemory, Text};
 use ircline::LineReader;
 use loopback::{Peer, Uplink};
 use sharewire::Packet;
 use std::alloc::Global;
+use std::mem;
+use turns::Heard;
 
 /// A bot's connection to the server, and a leaf's to the hub.
 pub struct Seat {
     /// What its connection to the server has begun to say.
     pub lines: LineReader,
     pub irc: Peer,
+    /// Whether the bot has still to hear that its connection to the server began.
+    pub is_new: bool,
     /// None for the hub.
     pub uplink: Option<Uplink>,
 }
@@ -20,13 +25,14 @@ impl Drop for Seat {
         let Seat {
             lines: _,
             irc: _,
+            is_new: _,
             uplink: _,
         } = self;
     }
 }
 
 impl Seat {
-    ghost use Rattle.std.specs.Prelude.{IfOk};
+    ghost use Rattle.std.specs.Prelude.{◌≡◌, [], false, IfOk};
     ghost use Rattle.std.specs.List.{AllByRecursion};
     ghost use Rattle.linkcalls.specs.Shapes.{HasGoodRecords};
 
@@ -35,8 +41,15 @@ impl Seat {
         Seat {
             lines: LineReader::new(alloc),
             irc,
+            is_new: true,
             uplink,
         }
+    }
+
+    /// The bot has a new connection to the server, which is being made, and the one before is let go.
+    pub fn connect(&mut self, irc: Peer) {
+        self.irc = irc;
+        self.is_new = true;
     }
 
     /// Reads what has come over its connections. Whether anything came.
@@ -60,6 +73,35 @@ impl Seat {
         }
     }
 
+    /// What the bot hears in a turn in which these packets have come: that its connection to the server began, where it
+    /// has still to hear that, what the server has sent, and the clock. Takes no memory.
+    pub fn take_heard(
+        &mut self,
+        alloc: Global,
+        packets: Vec<Packet>,
+        now: &Moment,
+        pump: bool,
+    ) -> Heard
+        ensures connected { result.connected ≡ self.old.is_new }
+        ensures once { self.new.is_new ≡ false }
+        ensures packets { result.packets ≡ packets }
+        ensures changes { result.changes.items ≡ [] }
+        ensures now { result.now ≡ now.now }
+        ensures pump { result.pump ≡ pump }
+        ensures compact { result.compact ≡ false }
+        ensures lines { self.new.lines ≡ self.old.lines }
+    {
+        Heard {
+            connected: mem::replace(&mut self.is_new, false),
+            bytes: self.irc.take_heard(alloc),
+            packets,
+            changes: Vec::new(alloc),
+            now: now.seconds(),
+            pump,
+            compact: false,
+        }
+    }
+
     /// The packets that have come from the hub.
     ///
     /// # Errors
@@ -71,6 +113,18 @@ impl Seat {
             Some(uplink) => uplink.wire.take_packets(alloc),
             None => Ok(Vec::new(alloc)),
         }
+    }
+
+    /// Leaves lines for the server, in order, each with CR and LF.
+    ///
+    /// # Errors
+    /// `NoMemory` where a growth was refused.
+    pub fn tell_server(&mut self, lines: &[Text]) -> Result<(), NoMemory> {
+        for line in lines {
+            self.irc.tell(line.as_bytes())?;
+            self.irc.tell(b"\r\n")?;
+        }
+        Ok(())
     }
 
     /// Leaves a packet for the hub.

@@ -11,7 +11,7 @@ use Rattle.linkcalls.specs.declared.TheConstants.{MAX_LEAVES}
 use Rattle.linknet.specs.Ends.{End, AtHub, AtLeaf, end_version, end_records}
 use Rattle.linkstate.specs.Opening.{AreKept, Keeps}
 use Rattle.botlink.specs.Links.{end_meaning, compacted, RenewsEnd}
-use Rattle.replay.specs.Text.{shown_text}
+use Rattle.recordtext.specs.Text.{shown_text}
 use Rattle.operator.specs.Showing.{IsShown}
 
 -- the text of an end's version and records

@@ -4,7 +4,7 @@ use Rattle.botjournal.specs.Contents.{Contents, meaning}
 use Rattle.linkcalls.specs.declared.TheConstants.{MAX_LEAVES}
 use Rattle.linknet.specs.Ends.{End, end_version, end_records}
 use Rattle.botlink.specs.Links.{end_meaning}
-use Rattle.replay.specs.Text.{shown_text}
+use Rattle.recordtext.specs.Text.{shown_text}
 
 -- the text has the version and the records of the bot whose journal these bytes of two disks are
 pub record IsShown (first second text : List ℕ) : Type 0 where

@@ -24,6 +24,9 @@ pub enum AskFault {
     /// What the folder holds is no journal of a bot.
     #[error("holds no journal that can be read: bring back its files, or give the folder of another bot")]
     Unread,
+    /// The journal is of an older layout, and can't be read as one of today's since its generations are used up.
+    #[error("holds a journal of an older layout whose generations are used up: show it by the program of before")]
+    GenerationsSpent,
     /// A bot takes the folder just now, and does not listen yet.
     #[error("is in use, and nobody listens there yet: try again")]
     Begins,
@@ -69,8 +72,18 @@ pub(crate) fn folder_error(error: FolderError) -> AskError {
 // The disks hold no journal, or memory runs out.
 pub(crate) fn journal_error(error: Failure<JournalFault>) -> AskError {
     match error {
-        Failure::Refused(_) => Failure::Refused(AskFault::Unread),
+        Failure::Refused(fault) => Failure::Refused(of_journal(fault)),
         Failure::NoMemory => Failure::NoMemory,
+    }
+}
+
+// Why a journal can't be read.
+fn of_journal(fault: JournalFault) -> AskFault {
+    match fault {
+        JournalFault::GenerationsSpent => AskFault::GenerationsSpent,
+        JournalFault::DiskFault | JournalFault::NotAJournal | JournalFault::Spent => {
+            AskFault::Unread
+        }
     }
 }
 

@@ -1,10 +1,9 @@
 // A bot's version and records.
 ghost use Rattle.std.specs.Prelude.{◌≡◌, ◌≤◌, IfOk, Some};
-ghost use Rattle.disks.specs.Memory.{state_of};
 ghost use Rattle.linknet.specs.Ends.{end_version, end_records};
 ghost use Rattle.linkcalls.specs.declared.TheConstants.{MAX_LEAVES};
 ghost use Rattle.botfolder.specs.Folders.{AreCopies};
-ghost use Rattle.replay.specs.Text.{shown_text};
+ghost use Rattle.recordtext.specs.Text.{shown_text};
 ghost use Rattle.operator.specs.Showing.{IsShown};
 
 use crate::asking::ask;
@@ -15,7 +14,7 @@ use botlink::BotLink;
 use bytetext::Failure;
 use disks::MemDisk;
 use linkcalls::MAX_LEAVES;
-use replay::put_records;
+use recordtext::put_records;
 use std::alloc::Global;
 use std::fs::File;
 use std::net::Net;
@@ -26,8 +25,9 @@ use std::time::Clock;
 /// else its journal is read. No file is made or written. A bot that starts just while its journal is read is refused.
 ///
 /// # Errors
-/// `Folder` where the folder or its journal can't be read, or no bot was made there; `Unread` where what is read is no
-/// journal; `Begins` where a bot starts just now; those of [`ask`] where one runs; `NoMemory` where memory is refused.
+/// `Folder` where the folder or its journal can't be read, or no bot was made there; `Unread` and `GenerationsSpent` as
+/// [`records_of`] says; `Begins` where a bot starts just now; those of [`ask`] where one runs; `NoMemory` where memory is
+/// refused.
 pub fn show<R: AllocGlobal + Net + Clock + Files<File = File>>(
     rt: &R,
     folder: &str,
@@ -51,7 +51,8 @@ fn asked<R: AllocGlobal + Net + Clock>(rt: &R, folder: &str) -> Result<Vec<u8>, 
 /// copies, which changes neither.
 ///
 /// # Errors
-/// `Unread` where they hold no journal of a bot; `NoMemory` where memory is refused.
+/// `Unread` where they hold no journal of a bot; `GenerationsSpent` where it is of an older layout and of the last
+/// generation; `NoMemory` where memory is refused.
 #[tactic(auto, using(crate::proofs::Shown::is_shown))]
 pub fn records_of(alloc: Global, copies: Stopped) -> Result<Vec<u8>, AskError>
     requires copies { AreCopies copies }

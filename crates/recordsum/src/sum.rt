@@ -1,5 +1,5 @@
 // The sum of a userfile's records.
-ghost use Rattle.std.specs.Prelude.{◌≡◌, ◌++◌, ◌∷◌, ℕ, List, true, false, take, IfOk, OnOk};
+ghost use Rattle.std.specs.Prelude.{◌≡◌, ◌++◌, ◌∷◌, ◌+◌, ◌<◌, ℕ, List, true, false, take, length, IfOk, IfErr, OnOk, OnErr};
 ghost use Rattle.hex.specs.Hex.{encode_lower};
 ghost use Rattle.sha2.specs.Hashers.{Holds256};
 ghost use Rattle.userfile.specs.Together.{is_user, is_good_ban, is_over};
@@ -16,9 +16,10 @@ use userfile::{Ban, User, Userfile};
 /// The sum of all records of a userfile: the first 16 digits of their SHA-256.
 ///
 /// # Errors
-/// `NoMemory` where room for the bytes of a record is refused.
+/// `NoMemory` where room for the bytes of a record is refused: never where there is none.
 pub fn sum_of(alloc: Global, userfile: &Userfile) -> Result<[u8; 16], NoMemory>
-    ensures { IfOk result (λ sum. sum ≡ sum_of userfile.now) }
+    ensures sum { IfOk result (λ sum. sum ≡ sum_of userfile.now) }
+    ensures memory { IfErr result (λ _. 0 < length userfile.now.users + length userfile.now.bans) }
 {
     let mut hasher = Sha256::new();
     add_users(alloc, &mut hasher, userfile)?;
@@ -27,7 +28,8 @@ pub fn sum_of(alloc: Global, userfile: &Userfile) -> Result<[u8; 16], NoMemory>
 }
 
 fn add_users(alloc: Global, hasher: &mut Sha256, userfile: &Userfile) -> Result<(), NoMemory>
-    ensures { OnOk result ((m : List ℕ) → Holds256 hasher.old m → Holds256 hasher.new (m ++ users_spelled userfile.now.users)) }
+    ensures added { OnOk result ((m : List ℕ) → Holds256 hasher.old m → Holds256 hasher.new (m ++ users_spelled userfile.now.users)) }
+    ensures memory { OnErr result (0 < length userfile.now.users) }
 {
     userfile.are_sound();
     for place in 0..userfile.user_count() {
@@ -40,7 +42,8 @@ fn add_users(alloc: Global, hasher: &mut Sha256, userfile: &Userfile) -> Result<
 }
 
 fn add_bans(alloc: Global, hasher: &mut Sha256, userfile: &Userfile) -> Result<(), NoMemory>
-    ensures { OnOk result ((m : List ℕ) → Holds256 hasher.old m → Holds256 hasher.new (m ++ bans_spelled userfile.now.bans)) }
+    ensures added { OnOk result ((m : List ℕ) → Holds256 hasher.old m → Holds256 hasher.new (m ++ bans_spelled userfile.now.bans)) }
+    ensures memory { OnErr result (0 < length userfile.now.bans) }
 {
     userfile.are_sound();
     for place in 0..userfile.ban_count() {

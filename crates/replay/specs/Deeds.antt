@@ -7,7 +7,8 @@ use Rattle.botworld.specs.declared.step.Step.{Step}
 use Rattle.botworld.specs.Net.{Net, shown_version, shown_records}
 use Rattle.botworld.specs.Network.{State}
 use Rattle.botworld.specs.Standing.{Moment}
-use Rattle.replay.specs.Text.{outcome_text, shown_text}
+use Rattle.recordtext.specs.Text.{shown_text}
+use Rattle.replay.specs.Text.{outcome_text}
 
 -- the network makes a step, or a bot is shown
 pub data Deed : Type 0 where

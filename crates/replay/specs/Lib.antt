@@ -1,5 +1,4 @@
 pub mod Text
-pub mod Users
 pub mod Deeds
 pub mod Starting
 pub mod Steady

@@ -2,10 +2,10 @@
 ghost use Rattle.std.specs.Prelude.{◌≡◌, ◌≢◌, ◌++◌, OnOk};
 ghost use Rattle.replay.specs.Text.{link_note_text, note_text, end_line};
 
-use crate::print::{put, put_counted, put_number};
 use botcore::{End, Note};
 use bytetext::NoMemory;
 use linkcalls::Note as LinkNote;
+use recordtext::{put, put_counted, put_number};
 
 /// Adds how a step ended, as `B NOTE`, `B Done` or `B refused CODE`.
 ///

@@ -13,7 +13,8 @@
 //!
 //! Whoever runs scripts in another way takes the same pieces: the bytes of a script by [`script_bytes`], its bots by
 //! [`new_bots`], each with its journal on two [`SteadyDisk`]s, or in a world by [`new_world`], what a `show` prints by
-//! [`put_records`], what came of a step by [`put_note`], what a packet is by [`put_packet`], and the way to the stream by [`write_text`]. A script that says no zone has that of [`zone_or_utc`].
+//! [`recordtext::put_records`], what came of a step by [`put_note`], what a packet is by [`put_packet`], and the way to
+//! the stream by [`write_text`]. A script that says no zone has that of [`zone_or_utc`].
 #![tactic(auto)]
 
 mod ends;
@@ -22,8 +23,6 @@ mod input;
 mod outcomes;
 mod output;
 mod packets;
-mod print;
-mod records;
 mod replaying;
 mod shows;
 mod starting;
@@ -36,7 +35,6 @@ pub use crate::input::script_bytes;
 pub use crate::output::write_text;
 pub use crate::packets::put_packet;
 pub use crate::replaying::replay;
-pub use crate::shows::put_records;
 pub use crate::starting::{new_bots, new_world, zone_or_utc};
 pub use crate::steady_disk::SteadyDisk;
 pub use crate::transcripts::transcript;

@@ -9,12 +9,12 @@ ghost use Rattle.replay.specs.Text.{outcome_text, report_text};
 
 use crate::ends::put_end;
 use crate::packets::put_sent;
-use crate::print::{put, put_number};
 use botcalls::MadeCall;
 use botcore::Fault;
 use botworld::{Outcome, Report, Sent, World};
 use bytetext::{NoMemory, Text};
 use procstore::{Code, Promise, Run};
+use recordtext::{put, put_number};
 use storage::Disk;
 
 /// Adds the lines of a step, whose packets the world has.

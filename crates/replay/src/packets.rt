@@ -2,10 +2,10 @@
 ghost use Rattle.std.specs.Prelude.{◌≡◌, ◌++◌, OnOk};
 ghost use Rattle.replay.specs.Text.{packet_text, sent_line};
 
-use crate::print::{put, put_counted, put_number};
 use botworld::Sent;
 use bytetext::NoMemory;
 use linkcalls::Packet;
+use recordtext::{put, put_counted, put_number};
 
 /// Adds a packet, as `send K A>B KIND DETAIL`.
 #[tactic(auto, using(std::proofs::Common::append_assoc))]

@@ -1,19 +1,13 @@
 // The lines of a show.
 ghost use Rattle.std.specs.Prelude.{◌≡◌, ◌++◌, OnOk};
-ghost use Rattle.std.specs.List.{flat_map};
-ghost use Rattle.std.specs.Option.{option_copied};
 ghost use Rattle.replay.specs.Deeds.{net_text};
-ghost use Rattle.replay.specs.Text.{shown_text, version_line, user_lines, ban_lines};
-ghost use Rattle.replay.specs.Users.{found_ban, found_user};
 
-use crate::print::{put, put_number};
-use crate::records::{put_ban, put_user};
 use botworld::World;
 use bytetext::NoMemory;
 use procstore::{Promise, Run};
+use recordtext::put_records;
 use std::alloc::Global;
 use storage::Disk;
-use userfile::{Ban, User, Userfile};
 
 /// Adds a bot's version, users and bans, or that there is no such bot.
 pub fn put_shown<P: Promise, D: Disk, B: Run>(
@@ -25,103 +19,4 @@ pub fn put_shown<P: Promise, D: Disk, B: Run>(
     ensures { OnOk result (out.new.items ≡ out.old.items ++ net_text world.now bot) }
 {
     put_records(alloc, out, bot, world.version(bot), world.userfile(bot))
-}
-
-/// Adds a bot's version and the lines of its userfile, or that there is no such bot where it has none of them.
-///
-/// # Errors
-/// `NoMemory` where room is refused.
-#[tactic(auto, using(std::proofs::Common::append_assoc))]
-pub fn put_records(
-    alloc: Global,
-    out: &mut Vec<u8>,
-    bot: u16,
-    version: Option<u32>,
-    userfile: Option<&Userfile>,
-) -> Result<(), NoMemory>
-    ensures { OnOk result (out.new.items ≡ out.old.items ++ shown_text bot version (option_copied userfile.entry)) }
-{
-    let (Some(version), Some(userfile)) = (version, userfile) else {
-        return put(out, b"world O2\n");
-    };
-    put_version(
-        out,
-        bot,
-        version,
-        userfile.user_count(),
-        userfile.ban_count(),
-    )?;
-    put_users(alloc, out, bot, userfile)?;
-    put_bans(out, bot, userfile)
-}
-
-// B version V users U bans N
-#[tactic(auto, using(std::proofs::Common::append_assoc))]
-fn put_version(
-    out: &mut Vec<u8>,
-    bot: u16,
-    version: u32,
-    users: usize,
-    bans: usize,
-) -> Result<(), NoMemory>
-    ensures { OnOk result (out.new.items ≡ out.old.items ++ version_line bot version users bans) }
-{
-    put_number(out, u64::from(bot))?;
-    put(out, b" version ")?;
-    put_number(out, u64::from(version))?;
-    put(out, b" users ")?;
-    put_number(out, users as u64)?;
-    put(out, b" bans ")?;
-    put_number(out, bans as u64)?;
-    put(out, b"\n")
-}
-
-// The lines of each user, in order.
-fn put_users(
-    alloc: Global,
-    out: &mut Vec<u8>,
-    bot: u16,
-    userfile: &Userfile,
-) -> Result<(), NoMemory>
-    ensures { OnOk result (out.new.items ≡ out.old.items ++ flat_map (user_lines bot) userfile.now.users) }
-{
-    for place in 0..userfile.user_count() {
-        put_found_user(alloc, out, bot, userfile.user_at(place))?;
-    }
-    Ok(())
-}
-
-// The lines of a user; nothing where there is none.
-fn put_found_user(
-    alloc: Global,
-    out: &mut Vec<u8>,
-    bot: u16,
-    user: Option<&User>,
-) -> Result<(), NoMemory>
-    ensures { OnOk result (out.new.items ≡ out.old.items ++ found_user bot (option_copied user.entry)) }
-{
-    match user {
-        Some(user) => put_user(alloc, out, bot, user),
-        None => Ok(()),
-    }
-}
-
-// The lines of each ban, in order.
-fn put_bans(out: &mut Vec<u8>, bot: u16, userfile: &Userfile) -> Result<(), NoMemory>
-    ensures { OnOk result (out.new.items ≡ out.old.items ++ flat_map (ban_lines bot) userfile.now.bans) }
-{
-    for place in 0..userfile.ban_count() {
-        put_found_ban(out, bot, userfile.ban_at(place))?;
-    }
-    Ok(())
-}
-
-// The lines of a ban; nothing where there is none.
-fn put_found_ban(out: &mut Vec<u8>, bot: u16, ban: Option<&Ban>) -> Result<(), NoMemory>
-    ensures { OnOk result (out.new.items ≡ out.old.items ++ found_ban bot (option_copied ban.entry)) }
-{
-    match ban {
-        Some(ban) => put_ban(out, bot, ban),
-        None => Ok(()),
-    }
 }

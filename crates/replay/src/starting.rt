@@ -6,13 +6,13 @@ ghost use Rattle.botworld.specs.Network.{State};
 ghost use Rattle.botworld.specs.Standing.{Stands, beginning};
 ghost use Rattle.replay.specs.Starting.{config_of, zone_or_utc, AreNew, IsFirst};
 
-use crate::print::put_number;
 use crate::steady_disk::SteadyDisk;
 use botcore::{Bot, Config};
 use bottimers::Zone;
 use botworld::World;
 use bytetext::{Failure, NoMemory, Text, Texts, TryCopy};
 use procstore::{ProcStore, Promise, Run};
+use recordtext::put_number;
 use std::alloc::Global;
 
 /// The zone that a script says, or UTC where it says none. Takes no memory.

@@ -7,10 +7,11 @@ use bottimers::Zone;
 use bytetext::{Text, Texts};
 use caselines::{BAD_NUMBER, BAD_WORDS, CaseError, Sink, cut, number};
 use disks::MemDisk;
+use inbox::Inbox;
 use ircline::LineReader;
 use procstore::{Nobodies, ProcStore};
 use std::alloc::Global;
-use turns::{Heard, Inbox, take_turn};
+use turns::{Heard, take_turn};
 use userfile::Change;
 
 /// `turn LEAVES STEP..`: what a new hub reports in each of its turns, with ` | ` between.

@@ -6,9 +6,9 @@ ghost use Rattle.linkcalls.specs.Shapes.{HasGoodRecords};
 use botjournal::LAYOUT;
 use bytetext::Text;
 use caselines::{BAD_NUMBER, BAD_WORDS, CaseError, Sink, cut, number};
+use inbox::Inbox;
 use sharewire::Packet;
 use std::alloc::Global;
-use turns::Inbox;
 
 /// `inbox STREAMS STEP..`: what each step answers, with ` | ` between.
 pub fn inbox(alloc: Global, words: &[Text], out: &mut Sink) -> Result<(), CaseError> {

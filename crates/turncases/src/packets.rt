@@ -5,9 +5,9 @@ ghost use Rattle.linkcalls.specs.Shapes.{HasGoodRecords};
 use botjournal::LAYOUT;
 use bytetext::Text;
 use caselines::{BAD_WORDS, CaseError, Sink, cut, number};
+use inbox::is_said_by;
 use sharewire::Packet;
 use std::alloc::Global;
-use turns::is_said_by;
 use userfile::Change;
 
 /// `said LEAF PACKET..`: of each packet, whether it names this leaf as the one that says it.

@@ -21,9 +21,8 @@ pub struct Heard {
     pub connected: bool,
     /// What the server sent.
     pub bytes: Vec<u8>,
-    /// The packets of the other bots, in the order in which they are to be taken, as
-    /// [`Inbox::take`](crate::Inbox::take) gives them. The records of a part are of good shape, as those that are read
-    /// are.
+    /// The packets of the other bots, in the order in which they are to be taken, as `Inbox::take` of the crate `inbox`
+    /// gives them. The records of a part are of good shape, as those that are read are.
     pub packets: Vec<Packet>,
     /// The changes that commands ask for, in order. The note of each stands in its report.
     pub changes: Vec<Change>,

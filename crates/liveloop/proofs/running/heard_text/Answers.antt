@@ -1,6 +1,6 @@
 use Rattle.std.proofs.Common.{◌++◌, ◌∙◌, ap, arith}
 use Rattle.liveloop.specs.Heard.{heard_line}
-use Rattle.replay.proofs.Lines.{lines-more}
+use Rattle.recordtext.proofs.Lines.{lines-more}
 use Rattle.liveloop.proofs.running.heard_text.Goals as goal
 
 pub loop-line-preserved : goal.loop-line-preserved

@@ -1,6 +1,6 @@
 use Rattle.std.proofs.Common.{arith}
+use Rattle.recordtext.proofs.Lines.{lines-more}
 use Rattle.replay.specs.Text.{call_line}
-use Rattle.replay.proofs.Lines.{lines-more}
 use Rattle.replay.proofs.outcomes.put_calls.Goals as goal
 
 pub loop-call-preserved : goal.loop-call-preserved

@@ -1,6 +1,6 @@
 use Rattle.std.proofs.Common.{arith}
+use Rattle.recordtext.proofs.Lines.{lines-more}
 use Rattle.replay.specs.Text.{fault_line}
-use Rattle.replay.proofs.Lines.{lines-more}
 use Rattle.replay.proofs.outcomes.put_faults.Goals as goal
 
 pub loop-fault-preserved : goal.loop-fault-preserved

@@ -1,6 +1,6 @@
 use Rattle.std.proofs.Common.{arith}
+use Rattle.recordtext.proofs.Lines.{lines-more}
 use Rattle.replay.specs.Text.{out_line}
-use Rattle.replay.proofs.Lines.{lines-more}
 use Rattle.replay.proofs.outcomes.put_lines.Goals as goal
 
 pub loop-line-preserved : goal.loop-line-preserved

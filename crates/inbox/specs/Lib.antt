@@ -1,0 +1,2 @@
+pub mod Speakers
+pub mod Waiting

@@ -1,0 +1,90 @@
+// The channels of a bot's configuration.
+ghost use Rattle.std.specs.Prelude.{◌<◌};
+ghost use Rattle.bytetext.specs.declared.moment.TheConstants.{MOMENTS_END};
+
+use bytetext::{NoMemory, Text, TryCopy};
+use rfccase::same;
+use std::alloc::Global;
+use upkeep::Seat;
+
+/// The channels of a bot's configuration, in order, and on which of them it is.
+#[derive(Drop)]
+pub struct Channels {
+    seats: Vec<Seat>,
+}
+
+impl Channels {
+    // The bot of this number is on none of these yet.
+    pub(crate) fn new(alloc: Global, names: &[Text], number: u16) -> Result<Channels, NoMemory> {
+        let mut seats = Vec::new(alloc);
+        for name in names {
+            seats.push(Seat::new(name.copy(alloc)?, number))?;
+        }
+        Ok(Channels { seats })
+    }
+
+    /// How many there are.
+    pub fn len(&self) -> usize {
+        self.seats.len()
+    }
+
+    /// The channel at a place, from 0; none where there are no more.
+    pub fn get(&self, place: usize) -> Option<&Seat> {
+        self.seats.get(place)
+    }
+
+    // The bot has joined a channel at this second.
+    pub(crate) fn join(&mut self, name: &[u8], now: u64) {
+        if let Some(seat) = self.seat_of(name) {
+            seat.join(now);
+        }
+    }
+
+    // The bot has left a channel by itself.
+    pub(crate) fn part(&mut self, name: &[u8]) {
+        if let Some(seat) = self.seat_of(name) {
+            seat.part();
+        }
+    }
+
+    // The bot was kicked off a channel at this second.
+    pub(crate) fn kick(&mut self, name: &[u8], now: u64)
+        requires moment { now < MOMENTS_END }
+    {
+        if let Some(seat) = self.seat_of(name) {
+            seat.kick(now);
+        }
+    }
+
+    // The bot was not let onto a channel at this second.
+    pub(crate) fn bar(&mut self, name: &[u8], now: u64)
+        requires moment { now < MOMENTS_END }
+    {
+        if let Some(seat) = self.seat_of(name) {
+            seat.bar(now);
+        }
+    }
+
+    // The bot has lost its server.
+    pub(crate) fn leave_all(&mut self) {
+        for seat in self.seats.iter_mut() {
+            seat.part();
+        }
+    }
+
+    // The channel at a place, if it is to be joined again at this second. The bot then waits for what the server says.
+    pub(crate) fn retry(&mut self, place: usize, now: u64) -> Option<&[u8]> {
+        let seat = self.seats.get_mut(place)?;
+        if !seat.is_due(now) {
+            return None;
+        }
+        seat.retry();
+        Some(seat.channel())
+    }
+
+    fn seat_of(&mut self, name: &[u8]) -> Option<&mut Seat> {
+        self.seats
+            .iter_mut()
+            .find(|seat| same(seat.channel(), name))
+    }
+}

@@ -1,0 +1,124 @@
+// What is due on a connection without a word of its server.
+ghost use Rattle.std.specs.Prelude.{◌<◌};
+ghost use Rattle.bytetext.specs.declared.moment.TheConstants.{MOMENTS_END};
+
+use crate::entry::Entry;
+use crate::log::log;
+use crate::uplink::{Uplink, joined};
+use crate::why::Why;
+use bytetext::NoMemory;
+use settings::Settings;
+use upkeep::Care;
+
+impl Uplink {
+    /// Does what is due at this second without a word of the server: asks whether it is there, or lets it go, joins channels
+    /// again, and tells lines of the process's own. It is to be called each second at least.
+    ///
+    /// # Errors
+    /// `NoMemory` where room is refused. What was told before is told.
+    pub fn keep<R: AllocGlobal + Print>(
+        &mut self,
+        rt: &R,
+        settings: &Settings,
+        now: u64,
+    ) -> Result<(), NoMemory>
+        requires moment { now < MOMENTS_END }
+    {
+        let care = match &mut self.session {
+            Some(session) => session.care(now),
+            None => return Ok(()),
+        };
+        match care {
+            Care::Wait => {}
+            Care::Ask => self.tell(rt, settings, b"PING eggnet", now)?,
+            Care::LetGo(loss) => {
+                self.lose(rt, Why::Care(loss), now);
+                return Ok(());
+            }
+        }
+        self.hold(now);
+        self.join_again(rt, settings, now)?;
+        self.tell_own(rt, settings, now)
+    }
+
+    // A connection that has held for long was a good one.
+    fn hold(&mut self, now: u64) {
+        if let Some(session) = &self.session {
+            if session.is_good(now) {
+                self.dialling.good();
+            }
+        }
+    }
+
+    // Joins the channels again that are due.
+    fn join_again<R: AllocGlobal + Print>(
+        &mut self,
+        rt: &R,
+        settings: &Settings,
+        now: u64,
+    ) -> Result<(), NoMemory> {
+        for place in 0..self.channels.len() {
+            if !self.may_tell(now) {
+                return Ok(());
+            }
+            self.join_one(rt, settings, place, now)?;
+        }
+        Ok(())
+    }
+
+    // Joins the channel at a place again, if it is due.
+    fn join_one<R: AllocGlobal + Print>(
+        &mut self,
+        rt: &R,
+        settings: &Settings,
+        place: usize,
+        now: u64,
+    ) -> Result<(), NoMemory> {
+        let line = match self.channels.retry(place, now) {
+            Some(channel) => joined(rt.alloc(), b"JOIN ", channel)?,
+            None => return Ok(()),
+        };
+        self.tell(rt, settings, line.as_slice(), now)
+    }
+
+    // Tells the lines of the process's own, as many as may go.
+    pub(crate) fn tell_own<R: AllocGlobal + Print>(
+        &mut self,
+        rt: &R,
+        settings: &Settings,
+        now: u64,
+    ) -> Result<(), NoMemory> {
+        for _line in 0..self.own.len() {
+            if !self.may_tell(now) {
+                return Ok(());
+            }
+            self.tell_next(rt, settings, now)?;
+        }
+        Ok(())
+    }
+
+    // Tells the oldest line of the process's own.
+    fn tell_next<R: AllocGlobal + Print>(
+        &mut self,
+        rt: &R,
+        settings: &Settings,
+        now: u64,
+    ) -> Result<(), NoMemory> {
+        let (Some(session), Some(line)) = (&mut self.session, self.own.next()) else {
+            return Ok(());
+        };
+        session.tell(rt.alloc(), line.as_bytes(), now)?;
+        if settings.log_lines {
+            log(rt, now, &Entry::ToldOwn);
+        }
+        Ok(())
+    }
+
+    // Whether a line of the process's own may go at this second.
+    fn may_tell(&self, now: u64) -> bool {
+        match &self.session {
+            Some(session) => session.may_tell(now),
+            None => false,
+        }
+    }
+}

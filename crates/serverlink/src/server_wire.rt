@@ -1,0 +1,151 @@
+// A connection that is told lines and nothing else.
+ghost use Rattle.std.specs.Prelude.{◌≡◌, IfOk, false};
+ghost use Rattle.upkeep.specs.Lines.{is_line};
+ghost use Rattle.serverlink.specs.Told.{ended};
+
+use bytetext::NoMemory;
+use std::alloc::Global;
+use std::marker::Model;
+use streams::{Given, Stream, Taken};
+use upkeep::is_line;
+use wire::{Bounds, Wire};
+
+// What may wait of what the server said, and of what it is told, in bytes.
+const BOUNDS: Bounds = Bounds {
+    heard: 65_536,
+    unsent: 65_536,
+};
+
+/// A connection to a server. All that it is told are lines of 1 to 510 bytes without NUL, CR and LF, each with CR and
+/// LF after it; what the stream has taken is a front of them. At most 65,536 bytes wait on either side. Contracts see
+/// it as a `Rattle.serverlink.specs.Told.Talk`.
+pub struct ServerWire<S: Stream + Drop> {
+    wire: Wire<S>,
+    // Whether it may have something to give: it stalled, and no event has named it since, where not.
+    may_give: bool,
+}
+
+// By hand, so that this is proved once.
+impl<S: Stream + Drop> Drop for ServerWire<S> {
+    fn drop(self) {
+        let ServerWire {
+            wire: _,
+            may_give: _,
+        } = self;
+    }
+}
+
+impl<S: Stream + Drop> Model for ServerWire<S> {
+    ghost use Rattle.serverlink.specs.Told.{Talk, TellsLines};
+
+    ghost Value = { Talk };
+
+    ghost view = { λ server. record {
+      source = S.source server.wire.stream;
+      sink = S.sink server.wire.stream;
+      heard = server.wire.heard.items;
+      unsent = server.wire.unsent.items;
+      over = server.wire.is_over;
+    } };
+
+    // All that it was told since it began are lines.
+    ghost invariant = { λ server. TellsLines (S.source server.wire.stream) (S.sink server.wire.stream)
+        server.wire.heard.items server.wire.unsent.items };
+}
+
+impl<S: Stream + Drop> ServerWire<S> {
+    /// A connection on which nothing is heard or told yet. Takes no memory.
+    #[tactic(auto, using(crate::proofs::ToldLemmas::tells_begun))]
+    pub fn new(alloc: Global, stream: S) -> ServerWire<S> {
+        ServerWire {
+            wire: Wire::new(alloc, stream, BOUNDS),
+            may_give: true,
+        }
+    }
+
+    /// An event has named it: it may have something to give.
+    pub fn wake(&mut self)
+        ensures same { self.new ≡ self.old }
+    {
+        self.may_give = true;
+    }
+
+    /// Whether it may have something to give: not once it has stalled, until it is woken, and not once it is over.
+    pub fn may_give(&self) -> bool {
+        self.may_give && !self.wire.is_over
+    }
+
+    /// Hears a piece of what has come, where it may have something to give and there is room. Whether a byte came.
+    ///
+    /// # Errors
+    /// `NoMemory` where room is refused. Nothing was heard then.
+    #[tactic(auto, using(crate::proofs::ToldLemmas::tells_on))]
+    pub fn read(&mut self) -> Result<bool, NoMemory> {
+        if !self.may_give || self.wire.is_over || self.wire.is_full() {
+            return Ok(false);
+        }
+        match self.wire.read()? {
+            Given::Bytes(_) => Ok(true),
+            Given::Stall => {
+                self.may_give = false;
+                Ok(false)
+            }
+            Given::End | Given::Fault => Ok(false),
+        }
+    }
+
+    /// What was heard and is not taken yet, which then is. Takes no memory.
+    #[tactic(auto, using(crate::proofs::ToldLemmas::tells_handed))]
+    pub fn take_heard(&mut self, alloc: Global) -> Vec<u8>
+        ensures all { result.items ≡ self.old.heard }
+    {
+        self.wire.take_heard(alloc)
+    }
+
+    /// Leaves a line for the server, after those before. Bytes that are no line go nowhere. Where it does not fit, the
+    /// connection is over.
+    ///
+    /// # Errors
+    /// `NoMemory` where room is refused. Nothing is told then.
+    pub fn tell(&mut self, alloc: Global, line: &[u8]) -> Result<(), NoMemory>
+        ensures none { is_line line.now ≡ false → self.new ≡ self.old }
+    {
+        if !is_line(line) {
+            return Ok(());
+        }
+        let bytes = ended(alloc, line)?;
+        let _fits = self.wire.tell(bytes.as_slice())?;
+        Ok(())
+    }
+
+    /// Offers the server what is unsent, once. Whether it took a byte. Takes no memory.
+    #[tactic(auto, using(crate::proofs::ToldLemmas::tells_on))]
+    pub fn send(&mut self) -> bool {
+        if self.wire.unsent.is_empty() {
+            return false;
+        }
+        match self.wire.send() {
+            Taken::Bytes(_) => true,
+            Taken::Nothing | Taken::Fault => false,
+        }
+    }
+
+    /// Whether it is to be let go: the server ended it, it failed, or the server takes too little.
+    pub fn is_over(&self) -> bool {
+        self.wire.is_over
+    }
+
+    /// How many bytes the server has still to take.
+    pub fn unsent(&self) -> usize {
+        self.wire.unsent.len()
+    }
+}
+
+// A line with CR and LF.
+fn ended(alloc: Global, line: &[u8]) -> Result<Vec<u8>, NoMemory>
+    ensures { IfOk result (λ bytes. bytes.items ≡ ended line.now) }
+{
+    let mut bytes = Vec::from_slice(alloc, line)?;
+    bytes.extend_from_slice(b"\r\n")?;
+    Ok(bytes)
+}

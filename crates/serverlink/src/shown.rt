@@ -1,0 +1,24 @@
+// Bytes as a log shows them.
+use bstr::ByteSlice;
+use std::fmt;
+use std::fmt::Display;
+
+/// Bytes of a server or an operator as a log shows them: their spaces and letters as they are, control bytes and what is
+/// no UTF-8 by a backslash and a number.
+#[derive(Clone, Copy)]
+pub struct Shown<'a>(
+    /// The bytes.
+    pub &'a [u8],
+);
+
+impl Display for Shown<'_> {
+    fn fmt<W: fmt::Write>(&self, f: &mut fmt::Formatter<W>) -> fmt::Result {
+        for (place, word) in self.0.split_str(b" ").enumerate() {
+            if place > 0 {
+                write!(f, " ")?;
+            }
+            write!(f, "{}", word.escape_bytes())?;
+        }
+        Ok(())
+    }
+}
