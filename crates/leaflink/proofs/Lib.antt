@@ -1,5 +1,4 @@
 mod LinkLaws
-mod PumpLaws
 mod InstallLaws
 mod PartLaws
 mod TogetherLaws

@@ -13,7 +13,7 @@ use userfile::{Change, Userfile};
 enum What {
     Apply(Change),
     Out(Change),
-    Done(u32),
+    Done,
     Install(u32, Userfile),
     Compact,
 }
@@ -57,13 +57,11 @@ impl LeafRecord {
         }
     }
 
-    /// The request of this number, which is out, is done.
-    pub fn done(request: u32) -> LeafRecord
-        ensures { result ≡ Done request }
+    /// The request that is out is done.
+    pub fn done() -> LeafRecord
+        ensures { result ≡ Done }
     {
-        LeafRecord {
-            what: What::Done(request),
-        }
+        LeafRecord { what: What::Done }
     }
 
     /// The records of a version take the place of what there was.
@@ -149,7 +147,7 @@ impl EndState for LeafState {
         match entry.what {
             What::Apply(change) => self.apply_next(alloc, ledger, &change),
             What::Out(change) => self.put_out(alloc, ledger, change),
-            What::Done(request) => self.end_request(alloc, ledger, request),
+            What::Done => self.end_request(alloc, ledger),
             What::Install(version, userfile) => {
                 self.install(alloc, number, ledger, version, userfile)
             }

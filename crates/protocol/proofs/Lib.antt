@@ -2,8 +2,6 @@ pub mod Lists
 pub mod Truth
 pub mod Counted
 pub mod Growing
-pub mod Replies
-pub mod Requests
 pub mod Goes
 pub mod Snapshots
 pub mod HubGoes
