@@ -1,5 +1,5 @@
 // What a case asks for.
-use crate::{bots, drives, lives, scripts};
+use crate::{bots, drives, hubs, inboxes, lives, packets, scripts};
 use bytetext::Text;
 use caselines::{CaseError, NO_SUCH_CASE, Sink};
 use std::net::Net;
@@ -19,8 +19,11 @@ pub fn answer<R: Net + AllocGlobal>(
         b"commands" => scripts::commands(alloc, words, out),
         b"config" => bots::config(alloc, words, out),
         b"drive" => drives::drive_case(alloc, words, out),
+        b"inbox" => inboxes::inbox(alloc, words, out),
         b"live" => lives::live_case(rt, words, out),
+        b"said" => packets::said(alloc, words, out),
         b"script" => scripts::script(alloc, words, out),
+        b"turn" => hubs::turns(alloc, words, out),
         b"why" => scripts::why(alloc, words, out),
         _ => Err(NO_SUCH_CASE),
     }

@@ -1,5 +1,5 @@
 // Texts put over bytes in room that is there.
-ghost use Rattle.std.specs.Prelude.{◌≡◌, ◌<◌, ◌≤◌, ◌+◌, ◌++◌, length, take, drop, replicate, vec_len, OnOk};
+ghost use Rattle.std.specs.Prelude.{◌≡◌, ◌<◌, ◌≤◌, ◌+◌, ◌++◌, length, take, drop, replicate, vec_len, OnOk, OnErr};
 ghost use Rattle.std.specs.Vec.{vec_capacity};
 ghost use Rattle.storage.specs.Calls.{Holds, read_count};
 
@@ -15,7 +15,7 @@ fn overwrite(bytes: &mut [u8], at: usize, text: &[u8])
 }
 
 /// Puts a text after the bytes.
-fn put_after(bytes: &mut Vec<u8>, text: &[u8])
+pub(crate) fn put_after(bytes: &mut Vec<u8>, text: &[u8])
     requires { vec_len bytes.old + length text.now ≤ vec_capacity bytes.old }
     ensures items { bytes.new.items ≡ bytes.old.items ++ text.now }
     ensures capacity { vec_capacity bytes.new ≡ vec_capacity bytes.old }
@@ -81,6 +81,7 @@ pub(crate) fn make_room(bytes: &mut Vec<u8>, end: usize) -> Result<(), NoMemory>
     ensures room { OnOk result (end ≤ vec_capacity bytes.new) }
     ensures items { bytes.new.items ≡ bytes.old.items }
     ensures capacity { vec_capacity bytes.old ≤ vec_capacity bytes.new }
+    ensures memory { OnErr result (vec_capacity bytes.old < end) }
 {
     bytes.reserve(end.saturating_sub(bytes.len()))?;
     Ok(())

@@ -1,5 +1,5 @@
 // A disk in a file, with a mirror in memory of what it holds.
-ghost use Rattle.std.specs.Prelude.{◌≡◌, ◌≤ℤ◌, pos, ◌≤◌, ◌<◌, ◌+◌, [], length, true, false, IsTrue, IfOk, OnOk};
+ghost use Rattle.std.specs.Prelude.{◌≡◌, ◌≤ℤ◌, pos, ◌≤◌, ◌<◌, ◌+◌, [], length, true, false, IsTrue, IfOk, OnOk, OnErr};
 ghost use Rattle.storage.specs.Events.{openings};
 ghost use Rattle.storage.specs.State.{IsSettled, may_leave};
 ghost use Rattle.storage.specs.Calls.{Holds, Tears, Elapses, HasCause, Spends, SameBytes};
@@ -162,7 +162,16 @@ impl Disk for FileDisk {
         self.mirror.read(at, buf)
     }
 
-    fn reserve(&mut self, end: usize, calls: usize) -> Result<(), NoMemory> {
+    /// It takes no memory where there is room up to that end.
+    fn reserve(&mut self, end: usize, calls: usize) -> Result<(), NoMemory>
+        ensures calls { OnOk result (calls ≤ (state_of self.new.mirror).calls) }
+        ensures end { OnOk result (end ≤ (state_of self.new.mirror).end) }
+        ensures events { (state_of self.new.mirror).events ≡ (state_of self.old.mirror).events }
+        ensures same { SameBytes (state_of self.old.mirror) (state_of self.new.mirror) }
+        ensures room { Spends 0 (state_of self.old.mirror) (state_of self.new.mirror) }
+        ensures never_fails { (state_of self.new.mirror).failed ≡ (state_of self.old.mirror).failed }
+        ensures memory { OnErr result (self.old.mirror.room < end) }
+    {
         self.mirror.reserve(end, calls)
     }
 

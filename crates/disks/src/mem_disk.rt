@@ -1,12 +1,12 @@
 // A disk in memory, whose faults and crashes can be planned.
-ghost use Rattle.std.specs.Prelude.{◌≡◌, ◌<◌, ◌≤◌, ◌+◌, ◌++◌, ◌↔◌, [], length, take, drop, IfOk, OnOk, OnErr, IsErr};
+ghost use Rattle.std.specs.Prelude.{◌≡◌, ◌<◌, ◌≤◌, ◌+◌, ◌++◌, ◌↔◌, [], length, take, drop, vec_len, IfOk, IfErr, OnOk, OnErr, IsErr};
 ghost use Rattle.storage.specs.Events.{openings};
 ghost use Rattle.storage.specs.State.{IsSettled, may_leave};
 ghost use Rattle.storage.specs.Calls.{Holds, Tears, Elapses, HasCause, Spends, SameBytes, read_count};
 ghost use Rattle.disks.specs.Plans.{IsDue, Leaves, no_plan, with_crash, with_read, after_call, after_read, after_crash};
 ghost use Rattle.disks.specs.Memory.{state_of, empty, with_plan, Fails};
 
-use crate::bytes::{copy_rest, make_room, put, read_from};
+use crate::bytes::{copy_rest, make_room, put, put_after, read_from};
 use crate::countdown::{is_due, is_over};
 use crate::tear::{Tear, tear_range};
 use bytetext::NoMemory;
@@ -72,14 +72,16 @@ impl MemDisk {
     /// A disk that holds these bytes, with nothing pending.
     ///
     /// # Errors
-    /// `NoMemory` where room for a copy is refused.
+    /// `NoMemory` where room for a copy is refused: never where there are no bytes.
     pub fn holding(alloc: Global, content: Vec<u8>) -> Result<MemDisk, NoMemory>
         ensures events { IfOk result (λ disk. disk.events ≡ []) }
         ensures content { IfOk result (λ disk. disk.content ≡ content.items) }
         ensures left { IfOk result (λ disk. disk.left ≡ content.items) }
         ensures plan { IfOk result (λ disk. disk.plan ≡ no_plan) }
+        ensures memory { IfErr result (λ _. 0 < vec_len content) }
     {
-        let torn = Vec::from_slice(alloc, &content)?;
+        let mut torn = Vec::with_capacity(alloc, content.len())?;
+        put_after(&mut torn, &content);
         let same = content.len();
         Ok(MemDisk {
             content,
@@ -165,6 +167,7 @@ impl Disk for MemDisk {
         Ok(read_from(&self.content, at, buf))
     }
 
+    /// It takes no memory where there is room up to that end.
     fn reserve(&mut self, end: usize, calls: usize) -> Result<(), NoMemory>
         ensures calls { OnOk result (calls ≤ (state_of self.new).calls) }
         ensures end { OnOk result (end ≤ (state_of self.new).end) }
@@ -175,6 +178,7 @@ impl Disk for MemDisk {
 
         ensures plan { self.new.plan ≡ self.old.plan }
         ensures left { self.new.left ≡ self.old.left }
+        ensures memory { OnErr result (self.old.room < end) }
     {
         make_room(&mut self.content, end)?;
         make_room(&mut self.torn, end)

@@ -1,7 +1,6 @@
 // The packets, from where they are sent to where they come.
-use crate::canvas::{Point, put_line};
+use crate::canvas::{Canvas, Point};
 use crate::places::place_of;
-use bytetext::NoMemory;
 
 // How far an arrow's head stands from the line of the bot that it goes to.
 const HEAD: u32 = 11;
@@ -29,7 +28,7 @@ pub struct Flight {
 }
 
 /// Adds the arrow of a packet that comes at this height.
-pub fn put_arrow(out: &mut Vec<u8>, flight: &Flight, y: u32) -> Result<(), NoMemory> {
+pub fn put_arrow(out: &mut Canvas, flight: &Flight, y: u32) {
     let from = Point {
         x: place_of(flight.from),
         y: flight.y,
@@ -42,26 +41,20 @@ pub fn put_arrow(out: &mut Vec<u8>, flight: &Flight, y: u32) -> Result<(), NoMem
     };
     let to = Point { x: head, y };
     if flight.has_come {
-        put_line(
-            out,
+        out.put_line(
             from,
             to,
             b"stroke=\"#7a7a7a\" stroke-dasharray=\"6 4\" marker-end=\"url(#again)\"",
-        )
+        );
     } else {
-        put_line(
-            out,
-            from,
-            to,
-            b"stroke=\"#2c5d9b\" marker-end=\"url(#head)\"",
-        )
+        out.put_line(from, to, b"stroke=\"#2c5d9b\" marker-end=\"url(#head)\"");
     }
 }
 
 /// Adds what there is of a packet that never comes: a short line and a cross.
-pub fn put_lost(out: &mut Vec<u8>, flight: &Flight) -> Result<(), NoMemory> {
+pub fn put_lost(out: &mut Canvas, flight: &Flight) {
     if flight.has_come {
-        return Ok(());
+        return;
     }
     let x = place_of(flight.from);
     let end = if flight.from < flight.to {
@@ -74,33 +67,26 @@ pub fn put_lost(out: &mut Vec<u8>, flight: &Flight) -> Result<(), NoMemory> {
         x: end,
         y: flight.y.saturating_add(9),
     };
-    put_line(
-        out,
-        from,
-        to,
-        b"stroke=\"#b04a3a\" stroke-dasharray=\"3 3\"",
-    )?;
-    put_cross(out, to)
+    out.put_line(from, to, b"stroke=\"#b04a3a\" stroke-dasharray=\"3 3\"");
+    put_cross(out, to);
 }
 
 /// Adds a cross.
-pub fn put_cross(out: &mut Vec<u8>, at: Point) -> Result<(), NoMemory> {
+pub fn put_cross(out: &mut Canvas, at: Point) {
     let (left, right) = (at.x.saturating_sub(4), at.x.saturating_add(4));
     let (top, bottom) = (at.y.saturating_sub(4), at.y.saturating_add(4));
     let stroke = b"stroke=\"#b04a3a\" stroke-width=\"1.6\"";
-    put_line(
-        out,
+    out.put_line(
         Point { x: left, y: top },
         Point {
             x: right,
             y: bottom,
         },
         stroke,
-    )?;
-    put_line(
-        out,
+    );
+    out.put_line(
         Point { x: left, y: bottom },
         Point { x: right, y: top },
         stroke,
-    )
+    );
 }

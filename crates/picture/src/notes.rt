@@ -1,5 +1,5 @@
 // What came of a step, as short texts.
-use crate::canvas::{put, put_number};
+use crate::canvas::Canvas;
 use botcalls::MadeCall;
 use botcore::{End, Fault, Note};
 use botworld::Report;
@@ -29,29 +29,38 @@ fn add_end(
     end: End,
     note: &Option<Note>,
 ) -> Result<(), NoMemory> {
-    let mut text = Vec::new(alloc);
     match (end, note) {
-        (End::Done, None) => return Ok(()),
-        (End::Done, Some(_)) => put_note(&mut text, note)?,
-        (End::Refused(refusal), _) => {
-            put(&mut text, b"refused ")?;
-            put(&mut text, refusal.code().as_bytes())?;
+        (End::Done, None) => Ok(()),
+        (End::Done, Some(_)) => {
+            let mut text = Vec::new(alloc);
+            put_note(&mut text, note)?;
+            notes.push(Text::new(text))?;
+            Ok(())
         }
-        (End::NoMemory, _) => return Err(NoMemory),
+        (End::Refused(refusal), _) => {
+            let mut text = Canvas::of(alloc, b"refused ");
+            text.put(refusal.code().as_bytes());
+            add(notes, text)
+        }
+        (End::NoMemory, _) => Err(NoMemory),
     }
-    notes.push(Text::new(text))?;
+}
+
+// Adds a text.
+fn add(notes: &mut Texts, text: Canvas) -> Result<(), NoMemory> {
+    notes.push(Text::new(text.into_bytes()?))?;
     Ok(())
 }
 
 fn add_calls(alloc: Global, notes: &mut Texts, calls: &[MadeCall]) -> Result<(), NoMemory> {
     for call in calls.iter().take(MOST) {
-        let mut text = Vec::from_slice(alloc, b"calls ")?;
-        put(&mut text, call.proc.as_bytes())?;
+        let mut text = Canvas::of(alloc, b"calls ");
+        text.put(call.proc.as_bytes());
         match call.reply.code {
-            Code::Zero => put(&mut text, b": 0")?,
-            Code::One => put(&mut text, b": 1")?,
+            Code::Zero => text.put(b": 0"),
+            Code::One => text.put(b": 1"),
         }
-        notes.push(Text::new(text))?;
+        add(notes, text)?;
     }
     add_more(alloc, notes, calls.len(), b" calls more")
 }
@@ -61,45 +70,43 @@ fn add_more(alloc: Global, notes: &mut Texts, count: usize, of: &[u8]) -> Result
     if count <= MOST {
         return Ok(());
     }
-    let mut text = Vec::from_slice(alloc, b"and ")?;
-    put_number(&mut text, (count - MOST) as u64)?;
-    put(&mut text, of)?;
-    notes.push(Text::new(text))?;
-    Ok(())
+    let mut text = Canvas::of(alloc, b"and ");
+    text.put_number((count - MOST) as u64);
+    text.put(of);
+    add(notes, text)
 }
 
 fn add_packets(alloc: Global, notes: &mut Texts, first: u64, count: usize) -> Result<(), NoMemory> {
     if count == 0 {
         return Ok(());
     }
-    let mut text = Vec::from_slice(alloc, b"sends ")?;
-    put_number(&mut text, first)?;
+    let mut text = Canvas::of(alloc, b"sends ");
+    text.put_number(first);
     if count > 1 {
-        put(&mut text, b" to ")?;
-        put_number(&mut text, first.saturating_add(count as u64 - 1))?;
+        text.put(b" to ");
+        text.put_number(first.saturating_add(count as u64 - 1));
     }
-    notes.push(Text::new(text))?;
-    Ok(())
+    add(notes, text)
 }
 
 fn add_lines(alloc: Global, notes: &mut Texts, lines: &[Text]) -> Result<(), NoMemory> {
     for line in lines.iter().take(MOST) {
-        let mut text = Vec::from_slice(alloc, b"says ")?;
-        put(&mut text, line.as_bytes())?;
-        notes.push(Text::new(text))?;
+        let mut text = Canvas::of(alloc, b"says ");
+        text.put(line.as_bytes());
+        add(notes, text)?;
     }
     add_more(alloc, notes, lines.len(), b" lines more")
 }
 
 fn add_faults(alloc: Global, notes: &mut Texts, faults: &[Fault]) -> Result<(), NoMemory> {
     for fault in faults.iter().take(MOST) {
-        let mut text = Vec::from_slice(alloc, b"fault ")?;
-        put(&mut text, fault.word().as_bytes())?;
+        let mut text = Canvas::of(alloc, b"fault ");
+        text.put(fault.word().as_bytes());
         if let Some(proc) = fault.proc() {
-            put(&mut text, b" ")?;
-            put(&mut text, proc)?;
+            text.put(b" ");
+            text.put(proc);
         }
-        notes.push(Text::new(text))?;
+        add(notes, text)?;
     }
     add_more(alloc, notes, faults.len(), b" faults more")
 }

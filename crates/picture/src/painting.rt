@@ -2,10 +2,7 @@
 ghost use Rattle.std.specs.Prelude.{◌≤◌};
 ghost use Rattle.linkcalls.specs.declared.TheConstants.{MAX_LEAVES as most_leaves};
 
-use crate::canvas::{
-    Anchor, Point, begin_text, end_text, put, put_attribute, put_box, put_circle, put_line,
-    put_number,
-};
+use crate::canvas::{Anchor, Canvas, Point};
 use crate::error::{PictureError, PictureFault};
 use crate::flights::{put_cross, put_lost};
 use crate::places::{FIRST_ROW, LINE, place_of, width_of};
@@ -70,9 +67,9 @@ fn drawn<P: Promise, B: Run>(
     let mut world = new_world(alloc, store, leaves, &zone_or_utc(zone))?;
     let mut sheet = Sheet::new(alloc, FIRST_ROW);
     put_rows(alloc, &mut sheet, &mut world, bytes)?;
-    let mut out = Vec::new(alloc);
-    put_page(&mut out, &mut sheet, &world, leaves)?;
-    Ok(out)
+    let mut out = Canvas::new(alloc);
+    put_page(&mut out, &mut sheet, &world, leaves);
+    out.into_bytes()
 }
 
 // A row for each command but `show`, with its line.
@@ -93,36 +90,33 @@ fn put_rows<P: Promise, D: Disk, B: Run>(
 
 // The whole of it.
 fn put_page<P: Promise, D: Disk, B: Run>(
-    out: &mut Vec<u8>,
+    out: &mut Canvas,
     sheet: &mut Sheet,
     world: &World<P, D, B>,
     leaves: u16,
-) -> Result<(), NoMemory> {
+) {
     let bottom = sheet.y;
-    put_head(out, width_of(leaves), bottom.saturating_add(86))?;
+    put_head(out, width_of(leaves), bottom.saturating_add(86));
     for bot in 0..leaves.saturating_add(1) {
-        put_bot(out, world, bot, bottom)?;
+        put_bot(out, world, bot, bottom);
     }
     for flight in sheet.flights.as_slice() {
-        put_lost(&mut sheet.arrows, flight)?;
+        put_lost(&mut sheet.arrows, flight);
     }
-    put(out, sheet.arrows.as_slice())?;
-    put(out, sheet.marks.as_slice())?;
-    put_legend(out, bottom.saturating_add(62))?;
-    put(out, b"</svg>\n")
+    out.put_canvas(&sheet.arrows);
+    out.put_canvas(&sheet.marks);
+    put_legend(out, bottom.saturating_add(62));
+    out.put(b"</svg>\n");
 }
 
 // What begins a picture of this size: its ground, fonts and the heads of arrows.
-fn put_head(out: &mut Vec<u8>, width: u32, height: u32) -> Result<(), NoMemory> {
-    put(out, b"<svg xmlns=\"http://www.w3.org/2000/svg\"")?;
-    put_attribute(out, b"width", width)?;
-    put_attribute(out, b"height", height)?;
-    put(out, b" font-family=\"sans-serif\" font-size=\"12\">\n")?;
-    put(out, STYLE)?;
-    put(
-        out,
-        b"<rect width=\"100%\" height=\"100%\" fill=\"#ffffff\"/>\n",
-    )
+fn put_head(out: &mut Canvas, width: u32, height: u32) {
+    out.put(b"<svg xmlns=\"http://www.w3.org/2000/svg\"");
+    out.put_attribute(b"width", width);
+    out.put_attribute(b"height", height);
+    out.put(b" font-family=\"sans-serif\" font-size=\"12\">\n");
+    out.put(STYLE);
+    out.put(b"<rect width=\"100%\" height=\"100%\" fill=\"#ffffff\"/>\n");
 }
 
 // How texts and heads of arrows look. A text has a white rim, so that it can be read over an arrow.
@@ -144,90 +138,78 @@ const STYLE: &[u8] = b"<style>\n\
 
 // A bot's name, its line, and its version at the end.
 fn put_bot<P: Promise, D: Disk, B: Run>(
-    out: &mut Vec<u8>,
+    out: &mut Canvas,
     world: &World<P, D, B>,
     bot: u16,
     bottom: u32,
-) -> Result<(), NoMemory> {
+) {
     let x = place_of(bot);
     let (top, end) = (Point { x, y: 46 }, Point { x, y: bottom });
-    put_line(out, top, end, b"stroke=\"#999999\"")?;
+    out.put_line(top, end, b"stroke=\"#999999\"");
     let name = Point { x, y: 34 };
-    put_box(
-        out,
+    out.put_box(
         name,
         Point { x: 76, y: 26 },
         b"rx=\"5\" fill=\"#eef2f7\" stroke=\"#8a9bb0\"",
-    )?;
-    begin_text(out, name, Anchor::Middle, b"class=\"name\"")?;
-    put_name(out, bot)?;
-    end_text(out)?;
+    );
+    out.begin_text(name, Anchor::Middle, b"class=\"name\"");
+    put_name(out, bot);
+    out.end_text();
     let below = Point {
         x,
         y: bottom.saturating_add(LINE),
     };
-    begin_text(out, below, Anchor::Middle, b"class=\"end\"")?;
-    put(out, b"version ")?;
-    put_number(out, u64::from(world.version(bot).unwrap_or(0)))?;
-    end_text(out)
+    out.begin_text(below, Anchor::Middle, b"class=\"end\"");
+    out.put(b"version ");
+    out.put_number(u64::from(world.version(bot).unwrap_or(0)));
+    out.end_text();
 }
 
-fn put_name(out: &mut Vec<u8>, bot: u16) -> Result<(), NoMemory> {
+fn put_name(out: &mut Canvas, bot: u16) {
     if bot == 0 {
-        return put(out, b"hub");
+        out.put(b"hub");
+    } else {
+        out.put(b"leaf ");
+        out.put_number(u64::from(bot));
     }
-    put(out, b"leaf ")?;
-    put_number(out, u64::from(bot))
 }
 
 // What the marks mean.
-fn put_legend(out: &mut Vec<u8>, y: u32) -> Result<(), NoMemory> {
-    put_circle(out, Point { x: 56, y }, 7, b"fill=\"#2b7d3b\"")?;
-    put_meaning(out, 68, y, b"accepted")?;
-    put_circle(out, Point { x: 142, y }, 7, b"fill=\"#2c5d9b\"")?;
-    put_meaning(out, 154, y, b"taken")?;
-    put_circle(out, Point { x: 210, y }, 6, b"fill=\"#c0392b\"")?;
-    put_meaning(out, 221, y, b"refused")?;
-    put_box(
-        out,
+fn put_legend(out: &mut Canvas, y: u32) {
+    out.put_circle(Point { x: 56, y }, 7, b"fill=\"#2b7d3b\"");
+    put_meaning(out, 68, y, b"accepted");
+    out.put_circle(Point { x: 142, y }, 7, b"fill=\"#2c5d9b\"");
+    put_meaning(out, 154, y, b"taken");
+    out.put_circle(Point { x: 210, y }, 6, b"fill=\"#c0392b\"");
+    put_meaning(out, 221, y, b"refused");
+    out.put_box(
         Point { x: 288, y },
         Point { x: 14, y: 14 },
         b"rx=\"2\" fill=\"#c46a14\"",
-    )?;
-    put_meaning(out, 300, y, b"restarted")?;
-    put_legend_arrows(out, y)
+    );
+    put_meaning(out, 300, y, b"restarted");
+    put_legend_arrows(out, y);
 }
 
-fn put_legend_arrows(out: &mut Vec<u8>, y: u32) -> Result<(), NoMemory> {
+fn put_legend_arrows(out: &mut Canvas, y: u32) {
     let (from, to) = (Point { x: 372, y }, Point { x: 400, y });
-    put_line(
-        out,
-        from,
-        to,
-        b"stroke=\"#2c5d9b\" marker-end=\"url(#head)\"",
-    )?;
-    put_meaning(out, 407, y, b"came")?;
+    out.put_line(from, to, b"stroke=\"#2c5d9b\" marker-end=\"url(#head)\"");
+    put_meaning(out, 407, y, b"came");
     let (from, to) = (Point { x: 450, y }, Point { x: 478, y });
-    put_line(
-        out,
+    out.put_line(
         from,
         to,
         b"stroke=\"#7a7a7a\" stroke-dasharray=\"6 4\" marker-end=\"url(#again)\"",
-    )?;
-    put_meaning(out, 485, y, b"again")?;
+    );
+    put_meaning(out, 485, y, b"again");
     let (from, to) = (Point { x: 530, y }, Point { x: 552, y });
-    put_line(
-        out,
-        from,
-        to,
-        b"stroke=\"#b04a3a\" stroke-dasharray=\"3 3\"",
-    )?;
-    put_cross(out, to)?;
-    put_meaning(out, 561, y, b"lost")
+    out.put_line(from, to, b"stroke=\"#b04a3a\" stroke-dasharray=\"3 3\"");
+    put_cross(out, to);
+    put_meaning(out, 561, y, b"lost");
 }
 
-fn put_meaning(out: &mut Vec<u8>, x: u32, y: u32, text: &[u8]) -> Result<(), NoMemory> {
-    begin_text(out, Point { x, y }, Anchor::Start, b"class=\"end\"")?;
-    put(out, text)?;
-    end_text(out)
+fn put_meaning(out: &mut Canvas, x: u32, y: u32, text: &[u8]) {
+    out.begin_text(Point { x, y }, Anchor::Start, b"class=\"end\"");
+    out.put(text);
+    out.end_text();
 }

@@ -1,7 +1,5 @@
 // One row of a picture: a command of the script, and what came of its steps.
-use crate::canvas::{
-    Anchor, Point, begin_text, end_text, put, put_box, put_circle, put_number, put_text,
-};
+use crate::canvas::{Anchor, Canvas, Point};
 use crate::flights::{Flight, put_arrow};
 use crate::notes::notes_of;
 use crate::places::{GAP, LABEL, LINE, NOTE, place_of};
@@ -30,9 +28,9 @@ const COUNT_STYLE: &[u8] = b"class=\"count\"";
 #[derive(Drop)]
 pub struct Sheet {
     /// The arrows, which lie under the rest.
-    pub arrows: Vec<u8>,
+    pub arrows: Canvas,
     /// Marks and texts.
-    pub marks: Vec<u8>,
+    pub marks: Canvas,
     /// The packets, by their numbers from 1.
     pub flights: Vec<Flight>,
     /// Where the next row is.
@@ -45,8 +43,8 @@ impl Sheet {
     /// Nothing is drawn. Takes no memory.
     pub fn new(alloc: Global, y: u32) -> Sheet {
         Sheet {
-            arrows: Vec::new(alloc),
-            marks: Vec::new(alloc),
+            arrows: Canvas::new(alloc),
+            marks: Canvas::new(alloc),
             flights: Vec::new(alloc),
             y,
             rows: 0,
@@ -63,7 +61,7 @@ pub fn put_row<P: Promise, D: Disk, B: Run>(
     steps: &[Step],
 ) -> Result<(), NoMemory> {
     sheet.rows = sheet.rows.saturating_add(1);
-    put_label(alloc, sheet, world, line, steps)?;
+    put_label(alloc, sheet, world, line, steps);
     let mut y = sheet.y;
     for step in steps {
         y = put_step(alloc, sheet, world, step, y)?;
@@ -79,35 +77,37 @@ fn put_label<P: Promise, D: Disk, B: Run>(
     world: &World<P, D, B>,
     line: &[u8],
     steps: &[Step],
-) -> Result<(), NoMemory> {
+) {
     let (y, row) = (sheet.y, sheet.rows);
     let out = &mut sheet.marks;
-    begin_text(out, Point { x: 36, y }, Anchor::End, COUNT_STYLE)?;
-    put_number(out, u64::from(row))?;
-    end_text(out)?;
-    begin_text(out, Point { x: 46, y }, Anchor::Start, LABEL_STYLE)?;
-    put_text(out, line, LABEL)?;
+    out.begin_text(Point { x: 36, y }, Anchor::End, COUNT_STYLE);
+    out.put_number(u64::from(row));
+    out.end_text();
+    out.begin_text(Point { x: 46, y }, Anchor::Start, LABEL_STYLE);
+    out.put_text(line, LABEL);
     if let [Step::Deliver { packet }] = steps {
-        put_kind(alloc, out, world, *packet)?;
+        put_kind(alloc, out, world, *packet);
     }
-    end_text(out)
+    out.end_text();
 }
 
 // What a packet is; nothing where there is none of this number.
 fn put_kind<P: Promise, D: Disk, B: Run>(
     alloc: Global,
-    out: &mut Vec<u8>,
+    out: &mut Canvas,
     world: &World<P, D, B>,
     packet: u64,
-) -> Result<(), NoMemory> {
+) {
     let Some(sent) = world.packet(packet) else {
-        return Ok(());
+        return;
     };
     let mut kind = Vec::new(alloc);
-    put_packet(&mut kind, &sent.packet)?;
-    put(out, b" (")?;
-    put_text(out, kind.as_slice(), 16)?;
-    put(out, b")")
+    if put_packet(&mut kind, &sent.packet).is_err() {
+        out.lack();
+    }
+    out.put(b" (");
+    out.put_text(kind.as_slice(), 16);
+    out.put(b")");
 }
 
 // Makes a step and draws what came of it at this height. Where the next step of the row is.
@@ -125,13 +125,13 @@ fn put_step<P: Promise, D: Disk, B: Run>(
     };
     match outcome {
         Outcome::Report(report) => {
-            land(sheet, step, y)?;
+            land(sheet, step, y);
             send(sheet, world, report, y)?;
             let is_changed = world.version(report.bot) != before;
             put_report(alloc, sheet, world, report, is_changed, y)
         }
-        Outcome::NoSuchBot => put_none(sheet, b"there is no such bot", y),
-        Outcome::NoSuchPacket => put_none(sheet, b"there is no such packet", y),
+        Outcome::NoSuchBot => Ok(put_none(sheet, b"there is no such bot", y)),
+        Outcome::NoSuchPacket => Ok(put_none(sheet, b"there is no such packet", y)),
     }
 }
 
@@ -144,29 +144,27 @@ fn version_of<P: Promise, D: Disk, B: Run>(world: &World<P, D, B>, step: &Step) 
 }
 
 // What is said of a step in which no bot takes part.
-fn put_none(sheet: &mut Sheet, text: &[u8], y: u32) -> Result<u32, NoMemory> {
+fn put_none(sheet: &mut Sheet, text: &[u8], y: u32) -> u32 {
     let at = Point {
         x: place_of(0).saturating_sub(15),
         y,
     };
-    begin_text(&mut sheet.marks, at, Anchor::End, REFUSAL_STYLE)?;
-    put(&mut sheet.marks, text)?;
-    end_text(&mut sheet.marks)?;
-    Ok(y.saturating_add(LINE))
+    sheet.marks.begin_text(at, Anchor::End, REFUSAL_STYLE);
+    sheet.marks.put(text);
+    sheet.marks.end_text();
+    y.saturating_add(LINE)
 }
 
 // Draws the arrow of a packet that comes.
-fn land(sheet: &mut Sheet, step: &Step, y: u32) -> Result<(), NoMemory> {
+fn land(sheet: &mut Sheet, step: &Step, y: u32) {
     let Step::Deliver { packet } = step else {
-        return Ok(());
+        return;
     };
     let place = packet.saturating_sub(1) as usize;
-    let Some(flight) = sheet.flights.get_mut(place) else {
-        return Ok(());
-    };
-    put_arrow(&mut sheet.arrows, flight, y)?;
-    flight.has_come = true;
-    Ok(())
+    if let Some(flight) = sheet.flights.get_mut(place) {
+        put_arrow(&mut sheet.arrows, flight, y);
+        flight.has_come = true;
+    }
 }
 
 // Keeps the packets that a step has sent.
@@ -205,50 +203,39 @@ fn put_report<P: Promise, D: Disk, B: Run>(
     y: u32,
 ) -> Result<u32, NoMemory> {
     let version = world.version(report.bot).unwrap_or(0);
-    put_mark(&mut sheet.marks, report, is_changed, version, y)?;
+    put_mark(&mut sheet.marks, report, is_changed, version, y);
     let notes = notes_of(alloc, report)?;
-    put_notes(&mut sheet.marks, report, &notes, y)
+    Ok(put_notes(&mut sheet.marks, report, &notes, y))
 }
 
 // A step's mark, with the version in it where that has changed or was found.
-fn put_mark(
-    out: &mut Vec<u8>,
-    report: &Report,
-    is_changed: bool,
-    version: u32,
-    y: u32,
-) -> Result<(), NoMemory> {
+fn put_mark(out: &mut Canvas, report: &Report, is_changed: bool, version: u32, y: u32) {
     let at = Point {
         x: place_of(report.bot),
         y,
     };
     if is_restart(&report.note) {
-        put_box(
-            out,
-            at,
-            Point { x: 19, y: 19 },
-            b"rx=\"2\" fill=\"#c46a14\"",
-        )?;
-        put_version(out, at, version)
+        out.put_box(at, Point { x: 19, y: 19 }, b"rx=\"2\" fill=\"#c46a14\"");
+        put_version(out, at, version);
     } else if is_changed {
         let fill: &[u8] = if report.bot == 0 {
             b"fill=\"#2b7d3b\""
         } else {
             b"fill=\"#2c5d9b\""
         };
-        put_circle(out, at, 10, fill)?;
-        put_version(out, at, version)
+        out.put_circle(at, 10, fill);
+        put_version(out, at, version);
     } else if is_refusal(report) {
-        put_circle(out, at, 6, b"fill=\"#c0392b\"")
+        out.put_circle(at, 6, b"fill=\"#c0392b\"");
     } else {
-        put_circle(out, at, 4, b"fill=\"#555555\"")
+        out.put_circle(at, 4, b"fill=\"#555555\"");
     }
 }
 
-fn put_version(out: &mut Vec<u8>, at: Point, version: u32) -> Result<(), NoMemory> {
-    begin_text(out, at, Anchor::Middle, VERSION_STYLE)?;
-    put_number(out, u64::from(version))?;
-    end_text(out)
+fn put_version(out: &mut Canvas, at: Point, version: u32) {
+    out.begin_text(at, Anchor::Middle, VERSION_STYLE);
+    out.put_number(u64::from(version));
+    out.end_text();
 }
 
 fn is_restart(note: &Option<Note>) -> bool {
@@ -267,7 +254,7 @@ fn is_refusal(report: &Report) -> bool {
 }
 
 // The notes of a step, one under the other. Where the next are.
-fn put_notes(out: &mut Vec<u8>, report: &Report, notes: &Texts, y: u32) -> Result<u32, NoMemory> {
+fn put_notes(out: &mut Canvas, report: &Report, notes: &Texts, y: u32) -> u32 {
     let mut y = y;
     let is_refusal = is_refusal(report);
     for (place, note) in notes.as_slice().iter().enumerate() {
@@ -276,34 +263,28 @@ fn put_notes(out: &mut Vec<u8>, report: &Report, notes: &Texts, y: u32) -> Resul
         } else {
             NOTE_STYLE
         };
-        put_note_at(out, report.bot, note, style, y)?;
+        put_note_at(out, report.bot, note, style, y);
         y = y.saturating_add(LINE);
     }
-    Ok(y)
+    y
 }
 
 // A note of a bot: at the left of the hub's line, and at the right of a leaf's.
-fn put_note_at(
-    out: &mut Vec<u8>,
-    bot: u16,
-    note: &Text,
-    style: &[u8],
-    y: u32,
-) -> Result<(), NoMemory> {
+fn put_note_at(out: &mut Canvas, bot: u16, note: &Text, style: &[u8], y: u32) {
     let x = place_of(bot);
     if bot == 0 {
         let at = Point {
             x: x.saturating_sub(15),
             y,
         };
-        begin_text(out, at, Anchor::End, style)?;
+        out.begin_text(at, Anchor::End, style);
     } else {
         let at = Point {
             x: x.saturating_add(15),
             y,
         };
-        begin_text(out, at, Anchor::Start, style)?;
+        out.begin_text(at, Anchor::Start, style);
     }
-    put_text(out, note.as_bytes(), NOTE)?;
-    end_text(out)
+    out.put_text(note.as_bytes(), NOTE);
+    out.end_text();
 }

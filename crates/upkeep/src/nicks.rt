@@ -1,5 +1,5 @@
 // Other nicks, where a server does not take the bot's own.
-ghost use Rattle.std.specs.Prelude.{◌≡◌, ◌<◌, IfOk, length};
+ghost use Rattle.std.specs.Prelude.{◌≡◌, ◌≢◌, ◌<◌, None, IfOk, IfErr, length};
 ghost use Rattle.upkeep.specs.Nicks.{cut_nick, other_nick, place_of};
 
 use bytetext::{NoMemory, Text};
@@ -14,9 +14,10 @@ pub const SHORT_NICK: usize = 9;
 /// place of its last bytes. There is none more where all would be underscores.
 ///
 /// # Errors
-/// `NoMemory` where room is refused.
+/// `NoMemory` where room is refused: never where there is none more.
 pub fn other_nick(alloc: Global, nick: &[u8], tried: usize) -> Result<Option<Text>, NoMemory>
-    ensures { IfOk result (λ found. found ≡ other_nick nick.now tried) }
+    ensures found { IfOk result (λ found. found ≡ other_nick nick.now tried) }
+    ensures memory { IfErr result (λ _. other_nick nick.now tried ≢ None) }
 {
     let place = place_of(nick.len(), tried);
     if place >= SHORT_NICK || place >= nick.len() {

@@ -1,5 +1,6 @@
 // A stream with what was heard and what is unsent.
 ghost use Rattle.std.specs.Prelude.{◌≡◌, ◌≤◌, ◌<◌, ◌+◌, ◌++◌, ◌||◌, ◌↔◌, not, true, false, [], length, IfOk, OnErr, vec_len};
+ghost use Rattle.std.specs.Vec.{vec_capacity};
 ghost use Rattle.streams.specs.Calls.{Takes, bytes_taken};
 ghost use Rattle.streams.specs.Transfers.{ReadsPiece};
 ghost use Rattle.wire.specs.Wires.{Ledger, Holds, begun, ends_hearing, ends_telling, more_handed, more_told, told_bytes};
@@ -83,7 +84,8 @@ impl<S: Stream + Drop> Wire<S> {
     /// failed.
     ///
     /// # Errors
-    /// `NoMemory` where room is refused. The stream was not asked then.
+    /// `NoMemory` where room is refused: never where there is room for all that the wire may hold of what was heard. The
+    /// stream was not asked then.
     pub fn read(&mut self) -> Result<Given, NoMemory>
         requires room { vec_len self.old.heard < self.old.bounds.heard }
         ensures heard { IfOk result (λ answer. ReadsPiece self.old.bounds.heard (S.source self.old.stream) self.old.heard.items answer
@@ -95,6 +97,7 @@ impl<S: Stream + Drop> Wire<S> {
         ensures memory_stream { OnErr result (S.source self.new.stream ≡ S.source self.old.stream) }
         ensures memory_heard { OnErr result (self.new.heard.items ≡ self.old.heard.items) }
         ensures memory_over { OnErr result (self.new.is_over ≡ self.old.is_over) }
+        ensures memory { OnErr result (vec_capacity self.old.heard < self.old.bounds.heard) }
         ensures holds { (ledger : Ledger)
             → Holds ledger (S.source self.old.stream) (S.sink self.old.stream) self.old.heard.items self.old.unsent.items
             → Holds ledger (S.source self.new.stream) (S.sink self.new.stream) self.new.heard.items self.new.unsent.items }
@@ -132,13 +135,14 @@ impl<S: Stream + Drop> Wire<S> {
     /// wire is over.
     ///
     /// # Errors
-    /// `NoMemory` where room is refused. The wire is then as before.
+    /// `NoMemory` where room is refused: never where it is there already. The wire is then as before.
     pub fn tell(&mut self, bytes: &[u8]) -> Result<bool, NoMemory>
         // All of them or none.
         ensures told { self.new.unsent.items ≡ self.old.unsent.items ++ told_bytes result bytes.now }
         ensures fits { IfOk result (λ fits. (fits ≡ true) ↔ (vec_len self.old.unsent + length bytes.now ≤ self.old.bounds.unsent)) }
         ensures over { IfOk result (λ fits. self.new.is_over ≡ (self.old.is_over || not fits)) }
-        ensures memory { OnErr result (self.new.is_over ≡ self.old.is_over) }
+        ensures memory { OnErr result (vec_capacity self.old.unsent < vec_len self.old.unsent + length bytes.now) }
+        ensures memory_over { OnErr result (self.new.is_over ≡ self.old.is_over) }
         ensures heard { self.new.heard.items ≡ self.old.heard.items }
         ensures stream { self.new.stream ≡ self.old.stream }
         ensures bounds { self.new.bounds ≡ self.old.bounds }

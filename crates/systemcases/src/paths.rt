@@ -1,6 +1,7 @@
 // Doors at a path.
 use crate::meeting::hears;
-use crate::texts::{opened, taken, yes};
+use crate::seen::{Seen, yes};
+use crate::texts::{opened, taken};
 use sockets::{UnixDoor, UnixSocket, Watch};
 use std::io::ErrorKind;
 use std::net::Net;
@@ -12,25 +13,22 @@ use streams::Stream;
 const PATH: &str = "control";
 
 /// Opens a door at a path, and connects to it.
-pub fn paths<R: AllocGlobal + Files + Net + Print>(rt: &R) -> anyhow::Result<()> {
+pub fn paths<R: AllocGlobal + Files + Net>(rt: &R, seen: &mut Seen) -> io::Result<()> {
     let _left = fs::remove_file(rt, PATH);
     let mut watch = Watch::new(rt, 8)?;
     let nobody = UnixSocket::connect_path(rt, watch.registry(), 2, PATH);
-    println!(rt; "nothing is at the path: {}", yes(is_missing(nobody)))?;
+    seen.note("nothing is at the path", yes(is_missing(nobody)));
     let door = UnixDoor::open(rt, watch.registry(), 1, PATH);
-    println!(rt; "a door at it: {}", opened(&door))?;
+    seen.note("a door at it", opened(&door));
     let second = UnixDoor::open(rt, watch.registry(), 3, PATH);
-    println!(rt; "a second one: {}", opened(&second))?;
+    seen.note("a second one", opened(&second));
     if let Ok(door) = &door {
-        meet(rt, &mut watch, door)?;
+        meet(rt, seen, &mut watch, door)?;
     }
     drop(door);
     let nobody = UnixSocket::connect_path(rt, watch.registry(), 2, PATH);
-    println!(rt; "nobody listens at it any more: {}", yes(nobody.is_err()))?;
-    println!(rt;
-        "its file is left: {}",
-        yes(fs::remove_file(rt, PATH).is_ok())
-    )?;
+    seen.note("nobody listens at it any more", yes(nobody.is_err()));
+    seen.note("its file is left", yes(fs::remove_file(rt, PATH).is_ok()));
     Ok(())
 }
 
@@ -42,25 +40,20 @@ fn is_missing(connected: io::Result<UnixSocket>) -> bool {
 }
 
 // Connects, is let in, and tells both ways.
-fn meet<R: AllocGlobal + Net + Print>(
+fn meet<R: AllocGlobal + Net>(
     rt: &R,
+    seen: &mut Seen,
     watch: &mut Watch,
     door: &UnixDoor,
-) -> anyhow::Result<()> {
+) -> io::Result<()> {
     let mut caller = UnixSocket::connect_path(rt, watch.registry(), 2, PATH)?;
     let Some(mut guest) = door.let_in(watch.registry(), 4) else {
-        println!(rt; "nobody came")?;
+        seen.note("who came", "nobody");
         return Ok(());
     };
-    println!(rt; "a command is told: {}", taken(caller.take(b"status\n")))?;
-    println!(rt;
-        "it is heard: {}",
-        yes(hears(watch, &mut guest, b"status\n")?)
-    )?;
-    println!(rt; "it is answered: {}", taken(guest.take(b".\n")))?;
-    println!(rt;
-        "that is heard: {}",
-        yes(hears(watch, &mut caller, b".\n")?)
-    )?;
+    seen.note("a command is told", taken(caller.take(b"status\n")));
+    seen.note("it is heard", yes(hears(watch, &mut guest, b"status\n")?));
+    seen.note("it is answered", taken(guest.take(b".\n")));
+    seen.note("that is heard", yes(hears(watch, &mut caller, b".\n")?));
     Ok(())
 }

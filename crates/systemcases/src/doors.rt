@@ -1,47 +1,41 @@
 // Doors over TCP.
-use crate::texts::{opened, yes};
+use crate::seen::{Seen, yes};
+use crate::texts::opened;
 use dialling::literal;
 use sockets::{TcpDoor, Watch};
+use std::io;
 use std::net::{Ipv4Addr, Net, SocketAddr};
 
 /// Opens doors, and one where none can be.
-pub fn doors<R: AllocGlobal + Net + Print>(rt: &R) -> anyhow::Result<()> {
+pub fn doors<R: AllocGlobal + Net>(rt: &R, seen: &mut Seen) -> io::Result<()> {
     let watch = Watch::new(rt, 8)?;
     let here = SocketAddr::from((Ipv4Addr::LOCALHOST, 0));
     let door = TcpDoor::open(rt, watch.registry(), 1, here);
-    println!(rt; "a door: {}", opened(&door))?;
+    seen.note("a door", opened(&door));
     if let Some(address) = door.ok().and_then(|door| door.address()) {
-        println!(rt;
-            "its port is another one than 0: {}",
-            yes(address.port() != 0)
-        )?;
+        seen.note("its port is another one than 0", yes(address.port() != 0));
     }
-    second_door(rt, &watch, here)?;
+    second_door(rt, seen, &watch, here);
     if let Some(nowhere) = literal(b"192.0.2.7", 7100) {
         let door = TcpDoor::open(rt, watch.registry(), 1, nowhere);
-        println!(rt; "a door elsewhere: {}", opened(&door))?;
+        seen.note("a door elsewhere", opened(&door));
     }
-    println!(rt;
-        "a name is no address: {}",
-        yes(literal(b"localhost", 1).is_none())
-    )?;
+    seen.note(
+        "a name is no address",
+        yes(literal(b"localhost", 1).is_none()),
+    );
     Ok(())
 }
 
 // A second door at the address of a first.
-fn second_door<R: AllocGlobal + Net + Print>(
-    rt: &R,
-    watch: &Watch,
-    here: SocketAddr,
-) -> anyhow::Result<()> {
+fn second_door<R: AllocGlobal + Net>(rt: &R, seen: &mut Seen, watch: &Watch, here: SocketAddr) {
     let Ok(door) = TcpDoor::open(rt, watch.registry(), 1, here) else {
-        return Ok(());
+        return;
     };
     let guest = door.let_in(watch.registry(), 2);
-    println!(rt; "nobody waits at it: {}", yes(guest.is_none()))?;
+    seen.note("nobody waits at it", yes(guest.is_none()));
     if let Some(address) = door.address() {
         let second = TcpDoor::open(rt, watch.registry(), 2, address);
-        println!(rt; "a second one there: {}", opened(&second))?;
+        seen.note("a second one there", opened(&second));
     }
-    Ok(())
 }

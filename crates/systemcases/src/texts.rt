@@ -31,8 +31,3 @@ pub fn opened<D>(door: &Result<D, DoorFault>) -> &'static str {
         Err(DoorFault::Closed) => "closed",
     }
 }
-
-/// Whether something is so.
-pub fn yes(is: bool) -> &'static str {
-    if is { "yes" } else { "no" }
-}

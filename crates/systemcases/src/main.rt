@@ -1,4 +1,5 @@
-//! Plays cases of disks in files, in the folder where it runs, and prints what is seen of each file from outside the disk.
+//! Plays cases of what the system gives: of disks in files, in the folder where it runs, and of sockets of this machine. It
+//! prints what is seen of each.
 //!
 //! What a file holds no contract can say, so these cases look: what is written is read back by another opening of the
 //! file; a second disk finds it in use; an opening changes the time of the last writing; and a disk whose descriptor was
@@ -7,27 +8,41 @@
 //! what a start finds after one that was stopped at each step of its making, beside one that runs, and after one that
 //! ended.
 //!
+//! What a socket gives and takes no contract can say either. Of those it prints that bytes which one end is told come out
+//! of the other in order; that who waits is let in; that the watch names the token that has something to say; and that a
+//! refusal shows as a fault of the stream, and an end as its end. They use 127.0.0.1 and a path in the folder where the
+//! program runs, and no name server.
+//!
 //! The crate's file `stdout` was worked out by hand. The program ends with status 0 where all lines could be printed.
 #![tactic(auto)]
 
 mod bots;
+mod connections;
 mod descriptors;
+mod doors;
 mod folders;
+mod meeting;
 mod names;
+mod paths;
 mod seen;
 mod stops;
+mod texts;
 mod writes;
 
 use crate::bots::bot_folders;
+use crate::connections::connections;
 use crate::descriptors::{closed_under, low_descriptor};
+use crate::doors::doors;
 use crate::folders::whole_folder;
 use crate::names::{lone_files, names, tidy};
+use crate::paths::paths;
 use crate::seen::Seen;
 use crate::stops::stops;
 use crate::writes::writes;
 use std::fs::File;
 use std::io;
 use std::io::Write;
+use std::net::Net;
 use std::rt::Files;
 
 /// The layout of the journals that are made here, whose texts are read as they are.
@@ -38,12 +53,13 @@ fn main(rt: HostRuntime) -> anyhow::Result<()> {
     let mut seen = Seen::new(rt.alloc());
     play(&rt, &mut seen);
     tidy(&rt);
+    play_sockets(&rt, &mut seen)?;
     let text = seen.into_bytes()?;
     io::writer(&rt).write_all(&text)?;
     Ok(())
 }
 
-// Plays the cases.
+// Plays the cases of files.
 fn play<R: AllocGlobal + Files<File = File>>(rt: &R, seen: &mut Seen) {
     names(rt, seen);
     lone_files(rt, seen);
@@ -54,4 +70,11 @@ fn play<R: AllocGlobal + Files<File = File>>(rt: &R, seen: &mut Seen) {
     tidy(rt);
     bot_folders(rt, seen);
     stops(rt.alloc(), seen);
+}
+
+// Plays the cases of sockets.
+fn play_sockets<R: AllocGlobal + Files + Net>(rt: &R, seen: &mut Seen) -> io::Result<()> {
+    doors(rt, seen)?;
+    connections(rt, seen)?;
+    paths(rt, seen)
 }

@@ -1,0 +1,98 @@
+// Connections over TCP.
+use crate::meeting::{guest_of, heard, hears};
+use crate::seen::{Seen, yes};
+use crate::texts::{given, taken};
+use dialling::{DialFault, Dialling};
+use sockets::{TcpDoor, TcpSocket, Watch};
+use std::io;
+use std::net::{Ipv4Addr, Net, SocketAddr};
+use streams::Stream;
+
+// The tokens of the door, and of who connects to it.
+const DOOR: usize = 7;
+
+const CALLER: usize = 8;
+
+/// Connects to a door, tells bytes both ways, ends, and connects where nobody listens.
+pub fn connections<R: AllocGlobal + Net>(rt: &R, seen: &mut Seen) -> io::Result<()> {
+    let mut watch = Watch::new(rt, 8)?;
+    let here = SocketAddr::from((Ipv4Addr::LOCALHOST, 0));
+    let Ok(door) = TcpDoor::open(rt, watch.registry(), DOOR, here) else {
+        return Ok(());
+    };
+    let Some(address) = door.address() else {
+        return Ok(());
+    };
+    let dialling = Dialling::new(0, 300, 1);
+    match dialling.connect(rt, watch.registry(), CALLER, b"127.0.0.1", address.port()) {
+        Ok(dialled) => {
+            seen.note("it leads to the door", yes(dialled.address == address));
+            meet(seen, &mut watch, &door, dialled.socket)?;
+        }
+        Err(_) => seen.note("it leads to the door", "refused"),
+    }
+    drop(door);
+    let unread = dialling.connect(rt, watch.registry(), CALLER, b"\xff", 1);
+    seen.note(
+        "a host that can't be read",
+        yes(is_unreadable(unread.err())),
+    );
+    refused(rt, seen, &mut watch, address)
+}
+
+fn is_unreadable(fault: Option<DialFault>) -> bool {
+    matches!(fault, Some(DialFault::Unreadable))
+}
+
+// Lets the caller in, and has both tell something.
+fn meet(seen: &mut Seen, watch: &mut Watch, door: &TcpDoor, caller: TcpSocket) -> io::Result<()> {
+    let mut caller = caller;
+    watch.wait(10_000)?;
+    seen.note(
+        "the door has something to say",
+        yes(watch.tokens().contains(&DOOR)),
+    );
+    let Some(mut guest) = guest_of(watch, door)? else {
+        seen.note("who came", "nobody");
+        return Ok(());
+    };
+    let mut piece = [0; 16];
+    seen.note("before a word", given(guest.give(&mut piece)));
+    seen.note("the caller is told", taken(caller.take(b"PING :a\r\n")));
+    seen.note(
+        "the guest hears it",
+        yes(hears(watch, &mut guest, b"PING :a\r\n")?),
+    );
+    seen.note("the guest is told", taken(guest.take(b"PONG :a\r\n")));
+    seen.note("flushed", yes(guest.flush().is_ok()));
+    seen.note(
+        "the caller hears it",
+        yes(hears(watch, &mut caller, b"PONG :a\r\n")?),
+    );
+    drop(caller);
+    seen.note(
+        "the caller is let go",
+        given(heard(watch, &mut guest, &mut piece)?),
+    );
+    Ok(())
+}
+
+// Connects where nobody listens any more.
+fn refused<R: AllocGlobal + Net>(
+    rt: &R,
+    seen: &mut Seen,
+    watch: &mut Watch,
+    address: SocketAddr,
+) -> io::Result<()> {
+    let mut piece = [0; 16];
+    match TcpSocket::connect(rt, watch.registry(), CALLER, address) {
+        Ok(mut caller) => {
+            seen.note(
+                "where nobody listens",
+                given(heard(watch, &mut caller, &mut piece)?),
+            );
+        }
+        Err(_) => seen.note("where nobody listens", "a fault"),
+    }
+    Ok(())
+}
