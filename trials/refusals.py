@@ -184,15 +184,20 @@ def folders(tally, program, room):
 
 
 def last_generation(tally, program, room):
-    """A journal of layout 1 of the last generation, 4,294,967,295, and one of the generation before."""
-    bot = Bot(program, room, "spent", [Ours(room, program)])
+    """Journals of older layouts, of the last generation, 4,294,967,295, and of the generation before."""
+    for layout in (1, 2):
+        last_generation_of(tally, program, room, layout)
+
+
+def last_generation_of(tally, program, room, layout):
+    bot = Bot(program, room, f"spent{layout}", [Ours(room, program)])
     try:
         bot.start()
         bot.end()
         first = Path(f"{bot.folder}/journal/first")
         held = first.read_bytes()
-        tally.note("a new journal has layout 2", held[:6] == b"\1EGGJ\2", held[:6])
-        spent = held[:5] + b"\1" + b"\xff" * 4 + held[10:]
+        tally.note("a new journal has layout 3", held[:6] == b"\1EGGJ\3", held[:6])
+        spent = held[:5] + bytes([layout]) + b"\xff" * 4 + held[10:]
         first.write_bytes(spent)
         used_up = f"eggnet: {bot.folder} holds a journal of an older layout that can't be written anew"
         says(tally, "a journal whose generations are used up", [program, "run", bot.config], 1, used_up)

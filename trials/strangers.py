@@ -55,8 +55,8 @@ class Stranger:
 
 
 def hello(leaf, version):
-    """The frame of a hello, of a leaf of layout 2."""
-    return struct.pack(">HBBHI", 8, 8, 2, leaf, version)
+    """The frame of a hello, of a leaf of layout 3."""
+    return struct.pack(">HBBHI", 8, 8, 3, leaf, version)
 
 
 def strangers(tally, net):

@@ -13,7 +13,8 @@ import sys
 sys.path.insert(0, os.path.join(os.path.dirname(os.path.realpath(__file__)), ".."))
 from stopping import Disk, Fault
 
-LAYOUT = 2
+LAYOUT = 3    # what is written; layouts 1 and 2 are read
+WINDOW = 8    # how many replies to a leaf, and how many requests that are out, a base has at most
 LAST = 4294967295
 FLAGS = 1 << 52
 
@@ -170,14 +171,30 @@ def read_base(data, layout):
     base["records"] = [reader.record() for _ in range(reader.num(2))]
     base["replies"] = [(reader.num(2), reader.num(4), reader.answer()) for _ in range(reader.num(2))]
     base["last"] = reader.num(4)
-    base["out"] = reader.change() if reader.num(1, 2) else None
+    if layout == LAYOUT:
+        base["out"] = [(reader.num(4), reader.change()) for _ in range(reader.num(1, WINDOW + 1))]
+    else:
+        base["out"] = [(base["last"], reader.change()) for _ in range(reader.num(1, 2))]
     reader.done()
-    leaves = [leaf for leaf, _, _ in base["replies"]]
-    if leaves != sorted(set(leaves)):
+    if not are_in_turn(base["replies"], WINDOW if layout == LAYOUT else 1) or not are_within(base["last"], base["out"]):
         raise Bad
-    if base["last"] or base["out"] if base["bot"] == 0 else leaves:
+    if base["last"] or base["out"] if base["bot"] == 0 else base["replies"]:
         raise Bad
     return base
+
+
+def are_in_turn(replies, most):
+    """Whether the leaves of replies rise, at most so many replies are to a leaf, and the requests of each follow each
+    other."""
+    leaves = [leaf for leaf, _, _ in replies]
+    follow = all(after[1] == before[1] + 1 for before, after in zip(replies, replies[1:]) if before[0] == after[0])
+    return leaves == sorted(leaves) and all(leaves.count(leaf) <= most for leaf in leaves) and follow
+
+
+def are_within(last, out):
+    """Whether the numbers of requests that are out rise, up to the last one at most, which is at most 7 above the lowest."""
+    numbers = [number for number, _ in out]
+    return numbers == sorted(set(numbers)) and (not numbers or numbers[-1] <= last <= numbers[0] + WINDOW - 1)
 
 
 def read_entry(data, layout):
@@ -228,8 +245,8 @@ def base_bytes(base):
     data += num(len(base["replies"]), 2)
     for leaf, request, answer in base["replies"]:
         data += num(leaf, 2) + num(request, 4) + num(answer[0], 1) + b"".join(num(n, 4) for n in answer[1:])
-    data += num(base["last"], 4)
-    return data + (b"\0" if base["out"] is None else b"\1" + change_bytes(base["out"]))
+    data += num(base["last"], 4) + num(len(base["out"]), 1)
+    return data + b"".join(num(number, 4) + change_bytes(change) for number, change in base["out"])
 
 
 def entry_bytes(entry):
@@ -251,7 +268,7 @@ def read_disk(data):
     if reader.take(4) != b"EGGJ":
         raise Bad
     held = {"layout": reader.num(1), "generation": reader.num(4)}
-    if held["layout"] not in (1, LAYOUT):
+    if held["layout"] not in (1, 2, LAYOUT):
         raise Bad
     held["base"] = read_base(reader.take(reader.num(4)), held["layout"])
     held["entries"] = []

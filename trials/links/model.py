@@ -11,7 +11,8 @@ sys.path.insert(0, os.path.join(os.path.dirname(os.path.realpath(__file__)), "..
 from stopping import Disk, Fault
 
 LAST = 4294967295
-LAYOUT = 2    # what is written; layout 1 is read, and put anew where a link is opened
+LAYOUT = 3    # what is written; layouts 1 and 2 are read, and put anew where a link is opened
+WINDOW = 8    # how many requests of a leaf are out at most, and how many replies to a leaf are kept
 
 
 # ---- text
@@ -305,31 +306,49 @@ def item_bytes(item, layout=LAYOUT):
 
 
 class Base:
+    """Replies are lists of a request's number and its answer, by leaves; requests are changes by their numbers."""
+
     def __init__(self, bot, version, records, replies, last, out):
         self.bot, self.version, self.records, self.replies, self.last, self.out = bot, version, records, replies, last, out
 
     def spell(self, layout=LAYOUT):
         items = items_of(self.records)
         out = num(self.bot, 2) + num(self.version, 4) + num(len(items), 2) + b"".join(item_bytes(i, layout) for i in items)
-        out += num(len(self.replies), 2)
-        for leaf, (request, answer) in sorted(self.replies.items()):
-            kind, value = answer
+        replies = [(leaf,) + reply for leaf, kept in sorted(self.replies.items()) for reply in kept]
+        out += num(len(replies), 2)
+        for leaf, request, (kind, value) in replies:
             out += num(leaf, 2) + num(request, 4) + (b"\0" + num(value, 4) if kind == "Accepted" else num(value, 1))
-        out += num(self.last, 4)
-        return out + (b"\0" if self.out is None else b"\1" + change_bytes(self.out))
+        out += num(self.last, 4) + num(len(self.out), 1)
+        for request, change in sorted(self.out.items()):
+            out += (num(request, 4) if layout == LAYOUT else b"") + change_bytes(change)
+        return out
 
 
 def read_base(data, layout):
     r = Reader(data, layout)
     bot, version = r.num(2), r.num(4)
     records = records_from([r.record() for _ in range(r.num(2))])
-    replies = {}
+    replies, before = {}, 0
     for _ in range(r.num(2)):
         leaf, request, code = r.num(2), r.num(4), r.num(1)
-        replies[leaf] = (request, ("Accepted", r.num(4)) if code == 0 else ("Refused", code))
-    last = r.num(4)
-    out = r.change() if r.num(1) else None
+        kept = replies.setdefault(leaf, [])
+        if leaf < before or (kept and request != kept[-1][0] + 1) or code > 11:
+            raise Bad
+        kept.append((request, ("Accepted", r.num(4)) if code == 0 else ("Refused", code)))
+        before = leaf
+    if any(len(kept) > (WINDOW if layout == LAYOUT else 1) for kept in replies.values()):
+        raise Bad
+    last, out, count = r.num(4), {}, r.num(1)
+    if count > (WINDOW if layout == LAYOUT else 1):
+        raise Bad
+    for _ in range(count):
+        request = r.num(4) if layout == LAYOUT else last
+        if (out and request <= max(out)) or request > last:
+            raise Bad
+        out[request] = r.change()
     r.done()
+    if out and last > min(out) + WINDOW - 1:
+        raise Bad
     return Base(bot, version, records, replies, last, out)
 
 
@@ -407,7 +426,7 @@ def read_disk(data):
         if r.take(4) != b"EGGJ":
             raise Bad
         layout = r.num(1)
-        if layout not in (1, LAYOUT):
+        if layout not in (1, 2, LAYOUT):
             raise Bad
         generation = r.num(4)
         base = read_base(r.take(r.num(4)), layout)
@@ -488,7 +507,7 @@ class Bot:
         self.number, self.leaves, self.journal = number, leaves, Journal(disks)
         self.down = False
         if new:
-            self.journal.create(Base(number, 0, ((), ()), {}, 0, None))
+            self.journal.create(Base(number, 0, ((), ()), {}, 0, {}))
         self.read()
 
     def read(self):
@@ -558,9 +577,21 @@ class Bot:
         return "Stray", []
 
 
+def last_of(kept):
+    """The number of the last request that was answered, of the replies that are kept of a leaf."""
+    return kept[-1][0] if kept else 0
+
+
+def with_reply(kept, request, answer):
+    """The replies that are kept after one more."""
+    return ((kept or []) + [(request, answer)])[-WINDOW:]
+
+
 class Hub(Bot):
     def fold(self, base, entries):
         if base.bot != 0 or any(not 1 <= leaf <= self.leaves for leaf in base.replies) or not stand_together(base.records):
+            raise Code("J2")
+        if base.last or base.out:
             raise Code("J2")
         version, records, replies, tail = base.version, base.records, dict(base.replies), []
         for entry in entries:
@@ -569,21 +600,21 @@ class Hub(Bot):
             origin, request = entry[1], entry[2]
             if origin > self.leaves or (origin == 0) != (request == 0) or (origin == 0 and entry[0] == 2):
                 raise Code("J2")
-            if origin and request != replies.get(origin, (0,))[0] + 1:
+            if origin and request != last_of(replies.get(origin)) + 1:
                 raise Code("J2")
             if entry[0] == 2:
-                replies[origin] = (request, ("Refused", entry[3]))
+                replies[origin] = with_reply(replies.get(origin), request, ("Refused", entry[3]))
                 continue
             if refusal(records, entry[3]) or version == LAST:
                 raise Code("J2")
             records, version = apply(records, entry[3]), version + 1
             tail.append(entry[1:])
             if origin:
-                replies[origin] = (request, ("Accepted", version))
+                replies[origin] = with_reply(replies.get(origin), request, ("Accepted", version))
         return dict(floor=base.version, version=version, records=records, replies=replies, tail=tail)
 
     def base(self):
-        return Base(0, self.version, self.records, self.replies, 0, None)
+        return Base(0, self.version, self.records, self.replies, 0, {})
 
     def compacted(self):
         self.floor, self.tail = self.version, []
@@ -595,7 +626,7 @@ class Hub(Bot):
         self.records, self.version = apply(self.records, change), self.version + 1
         self.tail.append((origin, request, change))
         if origin:
-            self.replies[origin] = (request, ("Accepted", self.version))
+            self.replies[origin] = with_reply(self.replies.get(origin), request, ("Accepted", self.version))
             first = [(origin, ("Accepted", origin, request, self.version))]
         packet = ("Change", self.version, origin, request, change)
         return "Accepted %d" % self.version, first + [(leaf, packet) for leaf in range(1, self.leaves + 1)]
@@ -613,18 +644,19 @@ class Hub(Bot):
     def take_request(self, leaf, request, change):
         if not 1 <= leaf <= self.leaves or request == 0:
             return self.stray()
-        last, answer = self.replies.get(leaf, (0, None))
-        if request < last:
+        kept = self.replies.get(leaf, [])
+        for number, answer in kept:
+            if number == request:
+                return "Repeat", [(leaf, (answer[0], leaf, request, answer[1]))]
+        if request <= last_of(kept):
             return "Old", []
-        if request == last:
-            return "Repeat", [(leaf, (answer[0], leaf, request, answer[1]))]
-        if request > last + 1:
+        if request > last_of(kept) + 1:
             return "Gap", []
         fault = refusal(self.records, change)
         if not fault:
             return self.accept(leaf, request, change, [])
         self.kept(self.journal.append, (2, leaf, request, fault))
-        self.replies[leaf] = (request, ("Refused", fault))
+        self.replies[leaf] = with_reply(kept, request, ("Refused", fault))
         return "Refused U%d" % fault, [(leaf, ("Refused", leaf, request, fault))]
 
     def take_hello(self, layout, leaf, version):
@@ -652,24 +684,30 @@ class Hub(Bot):
     take_change = take_part = take_accepted = take_refused = Bot.stray
 
 
+def has_room(last, out):
+    """Whether the request after the last one may go out: its number is below the lowest that is out, plus 8."""
+    return not out or last + 1 < min(out) + WINDOW
+
+
 class Leaf(Bot):
     def fold(self, base, entries):
         if base.bot != self.number or base.replies or not stand_together(base.records):
             raise Code("J2")
-        version, records, last, out = base.version, base.records, base.last, base.out
+        version, records, last, out = base.version, base.records, base.last, dict(base.out)
         for entry in entries:
             if entry[0] == 3:
                 if entry[1] != version + 1 or refusal(records, entry[2]):
                     raise Code("J2")
                 records, version = apply(records, entry[2]), version + 1
             elif entry[0] == 4:
-                if out is not None or entry[1] != last + 1:
+                if entry[1] != last + 1 or not has_room(last, out):
                     raise Code("J2")
-                last, out = entry[1], entry[2]
+                last = entry[1]
+                out[last] = entry[2]
             elif entry[0] == 5:
-                if out is None or entry[1] != last:
+                if entry[1] not in out:
                     raise Code("J2")
-                out = None
+                del out[entry[1]]
             else:
                 raise Code("J2")
         return dict(version=version, records=records, last=last, out=out)
@@ -682,15 +720,16 @@ class Leaf(Bot):
 
     def pump(self):
         self.up()
-        hello = (0, ("Hello", LAYOUT, self.number, self.version))
-        if self.out is None:
-            if not self.waiting:
-                return "Idle", [hello]
-            if self.last == LAST:
+        if self.waiting and has_room(self.last, self.out):
+            if self.last < LAST:
+                self.kept(self.journal.append, (4, self.last + 1, self.waiting[0]))
+                self.last += 1
+                self.out[self.last] = self.waiting.pop(0)
+            elif not self.out:
                 raise Code("S4")
-            self.kept(self.journal.append, (4, self.last + 1, self.waiting[0]))
-            self.last, self.out = self.last + 1, self.waiting.pop(0)
-        return "Sent %d" % self.last, [hello, (0, ("Request", self.number, self.last, self.out))]
+        packets = [(0, ("Hello", LAYOUT, self.number, self.version))]
+        packets += [(0, ("Request", self.number, request, change)) for request, change in sorted(self.out.items())]
+        return "Sent %d" % max(self.out) if self.out else "Idle", packets
 
     def take_change(self, n, origin, request, change):
         if n <= self.version:
@@ -727,10 +766,10 @@ class Leaf(Bot):
     def replied(self, leaf, request, note):
         if leaf != self.number or request == 0:
             return self.stray()
-        if self.out is None or request != self.last:
+        if request not in self.out:
             return "Old", []
         self.kept(self.journal.append, (5, request))
-        self.out = None
+        del self.out[request]
         return note, []
 
     def take_accepted(self, leaf, request, n):

@@ -1,15 +1,21 @@
 """Writes steps for the program `linkcases`, and what the model says that they answer.
 
-    python3 scripts.py FOLDER [--further N] [--runs N] [--steps N] [--seed N] [--rows FIRST LAST] [--bare]
+    python3 scripts.py FOLDER [--further N] [--runs N] [--steps N] [--openings N] [--seed N] [--outs all] [--rows FIRST LAST]
+                       [--bare]
 
 writes FOLDER/stdin and FOLDER/stdout: the worked examples, whose answers stand here and were worked out by hand; then each
 device call of each row stopped with each outcome, a restart, and `--further` random steps; then each of an opening of an
-older journal, whose answers stand here too; then `--runs` random runs of `--steps` steps. `--rows` takes some of the stopped rows alone, `--bare` leaves the worked examples out.
+older journal, whose answers stand here too, and `--openings` that are stopped twice; then `--runs` random runs of `--steps`
+steps. A row has one to eight requests of a leaf out: one number of them in turn, or each with `--outs all`. What is too long
+for one run of the program goes on in FOLDER/stdin.2 and FOLDER/stdout.2, and so on. `--rows` takes some of the stopped rows
+alone, `--bare` leaves the worked examples and the openings out. It tells how often each note and code comes, on standard error.
 """
 import argparse
 import random
+import sys
 
-from model import Base, LAST, LAYOUT, Net, User, num, spell_entry, user_bytes
+from journals import FIRST_HUB, FIRST_LEAF, FIRST_LEAF_COMPACTED, SECOND_HUB, SECOND_LEAF, SECOND_LEAF_COMPACTED
+from model import Base, Bot, LAST, LAYOUT, Net, User, WINDOW, num, spell_entry, user_bytes
 
 TEARS = ["old", "new", "0", "1", "7"]
 
@@ -18,9 +24,15 @@ class Script:
     """Steps, played by the model as they are written."""
 
     def __init__(self):
-        self.lines, self.told, self.net = [], [], None
+        # The steps, what all of them tell, and how many lines each tells; how many rows were stopped so far.
+        self.lines, self.told, self.each, self.net, self.turn = [], [], [], None, 0
 
     def __call__(self, line):
+        before = len(self.told)
+        self.play(line)
+        self.each.append(len(self.told) - before)
+
+    def play(self, line):
         self.lines.append(line)
         if line.startswith("#"):
             self.told.append(line)
@@ -50,7 +62,7 @@ def disk(base, entries=(), generation=1, layout=LAYOUT):
     return (out + b"\0").hex()
 
 
-def base(bot, version, users=(), replies={}, last=0, out=None):
+def base(bot, version, users=(), replies={}, last=0, out={}):
     return Base(bot, version, (tuple(User(u) for u in users), ()), replies, last, out)
 
 
@@ -129,8 +141,8 @@ WORKED = [
      ["1 refused J2", "1 apart", "world O2", "0 Restarted 1", "0 version 1 users 1 bans 0", " user alice - -",
       "1 Restarted 0", "send 1 1>0 Hello 0", "1 Idle"]),
     ("journals that are not this bot's, or do not fold",
-     ["leaves 2", "hold 0 %s 00" % disk(base(0, 7, replies={2: (3, ("Refused", 2))})), "hold 0 %s 00" %
-      disk(base(0, 7, replies={3: (3, ("Refused", 2))})), "hold 2 %s 00" % disk(base(1, 0)), "hold 1 %s 00" %
+     ["leaves 2", "hold 0 %s 00" % disk(base(0, 7, replies={2: [(3, ("Refused", 2))]})), "hold 0 %s 00" %
+      disk(base(0, 7, replies={3: [(3, ("Refused", 2))]})), "hold 2 %s 00" % disk(base(1, 0)), "hold 1 %s 00" %
       disk(base(1, 0), [(3, 2, ALICE)]), "hold 1 %s 00" % disk(base(1, 0), [(3, 1, ALICE), (4, 2, ALICE)]),
       "hold 1 %s 00" % disk(base(1, 0), [(5, 1)]), "hold 0 %s 00" % disk(base(0, 0), [(1, 1, 2, ALICE)]),
       "hold 0 %s 00" % disk(base(0, 0), [(1, 0, 0, ALICE), (1, 0, 0, ALICE)]), "hold 0 00 00", "hold 0 %s %s" %
@@ -202,46 +214,25 @@ WORKED = [
 ]
 
 
-# ---- journals of layout 1, as the program wrote them that knew no other
+# ---- journals of older layouts
 
-# the hub of two leaves at version 11: five changes after a compaction at version 7, the last reply to each leaf
-OLD_HUB = (
-    "014547474a01000000010000000f000000000000000000000000000000010000000e010000000000000105616c69636501000000240100"
-    "00000000000305616c696365152a212a616c69636540686f6d652e6578616d706c650100000016010000000000000505616c6963650000"
-    "000000005000010000001b010000000000000605616c69636504236567670000000000004001010000002b0100000000000008000b2a21"
-    "2a406261642e6e657405616c696365000000000000000007676f2061776179010000000c010000000000000103626f62010000000e0100"
-    "010000000101056361726f6c0100000008020001000000020200",
-    "014547474a0100000002000000a600000000000700040105616c69636501152a212a616c69636540686f6d652e6578616d706c65000000"
-    "0000005000010423656767000000000000400100000000000000000103626f620000000000000000000000000000000000000105636172"
-    "6f6c00000000000000000000000000000000000002000b2a212a406261642e6e657405616c696365000000000000000007676f20617761"
-    "790001000100000002020000000000010000000d0100000000000001046461766501000000150100000000000009000b2a212a40626164"
-    "2e6e6574010000002d010000000000000804236567670d2a212a40776f7273652e6e657403626f620000000077359400056c6174657201"
-    "0000000d0100010000000301046572696e00")
-
-# its first leaf at version 11, with request 4 out
-OLD_LEAF = (
-    "014547474a01000000010000000f000100000000000000000000000000010000000c03000000010105616c696365010000002203000000"
-    "020305616c696365152a212a616c69636540686f6d652e6578616d706c65010000001403000000030505616c6963650000000000005000"
-    "010000001903000000040605616c696365042365676700000000000040010100000029030000000508000b2a212a406261642e6e657405"
-    "616c696365000000000000000007676f2061776179010000000a03000000060103626f62010000000c040000000101056361726f6c0100"
-    "0000050500000001010000000c030000000701056361726f6c010000000c04000000020105616c69636501000000050500000002010000"
-    "000b03000000080104646176650100000013030000000909000b2a212a406261642e6e6574010000002b030000000a0804236567670d2a"
-    "212a40776f7273652e6e657403626f620000000077359400056c61746572010000000b040000000301046572696e010000000505000000"
-    "03010000000b030000000b01046572696e010000000c040000000401056672616e6b00",
-    "00")
-
-OLD_RECORDS = [" user alice mo - *!*alice@home.example #egg ao", " user bob - -", " user carol - -", " user dave - -",
-               " user erin - -", " ban #egg *!*@worse.net bob 2000000000 later"]
+# the records of the journals that a program of layout 1 wrote, and one of layout 2
+FIRST_RECORDS = [" user alice mo - *!*alice@home.example #egg ao", " user bob - -", " user carol - -", " user dave - -",
+                 " user erin - -", " ban #egg *!*@worse.net bob 2000000000 later"]
+SECOND_RECORDS = [" user alice mo - *!*alice@home.example #egg ao", " info alice the first of us", " user bob - -", " user carol - -",
+                  " info carol of the first leaf", " user dave - -", " user erin - -", " ban * *!*@bad.net alice 0 go away",
+                  " sticky * *!*@bad.net", " ban #egg *!*@worse.net bob 2000000000 later", " sticky #egg *!*@worse.net"]
 
 ONE = disk(base(0, 0), [(1, 0, 0, ALICE)], layout=1)
 OUT = disk(base(1, 3), [(4, 1, ALICE)], layout=1)
 
 WORKED += [
     ("a hello of another layout",
-     ["leaves 1", "give 0 %s" % hello(1, 0, layout=1), "give 0 %s" % hello(9, 5, layout=3), "give 0 %s" % hello(1, 0),
-      "give 1 %s" % hello(1, 0, layout=1), "plan 0 1 1 old", "ask 0 adduser alice", "pump 0",
+     ["leaves 1", "give 0 %s" % hello(1, 0, layout=1), "give 0 %s" % hello(1, 0, layout=2), "give 0 %s" % hello(9, 5, layout=4), "give 0 %s" %
+      hello(1, 0), "give 1 %s" % hello(1, 0, layout=1), "plan 0 1 1 old", "ask 0 adduser alice", "pump 0",
       "give 0 %s" % hello(1, 0, layout=1)],
-     ["0 refused S8", "0 refused S8", "0 Served 0", "1 Stray", "0 Restarted 0", "0 Queued", "0 refused S5", "0 refused S2"]),
+     ["0 refused S8", "0 refused S8", "0 refused S8", "0 Served 0", "1 Stray", "0 Restarted 0", "0 Queued", "0 refused S5",
+      "0 refused S2"]),
     ("infos and marks",
      ["leaves 1", "ask 0 adduser alice", "pump 0", "ask 0 info alice the first of us", "pump 0", "ask 0 info bob hi", "pump 0",
       "ask 0 info alice %s" % ("x" * 81), "ask 0 addban #a *!*@b alice 0", "pump 0", "ask 0 sticky #A *!*@B 1", "pump 0",
@@ -260,7 +251,7 @@ WORKED += [
       "0 Queued", "send 2 0>1 Change 2", "0 Accepted 2", "1 Applied 2", "0 Restarted 2", "0 version 2 users 1 bans 0",
       " user alice - -", " info alice hi", "1 version 2 users 1 bans 0", " user alice - -", " info alice hi", "same"]),
     ("a hub of layout 1 keeps the last reply",
-     ["leaves 1", "hold 0 %s 00" % disk(base(0, 7, replies={1: (3, ("Refused", 2))}), layout=1), "give 0 %s" %
+     ["leaves 1", "hold 0 %s 00" % disk(base(0, 7, replies={1: [(3, ("Refused", 2))]}), layout=1), "give 0 %s" %
       frame(b"\4" + num(1, 2) + num(3, 4) + b"\1\1a"), "restart 0", "give 0 %s" %
       frame(b"\4" + num(1, 2) + num(3, 4) + b"\1\1a"), "give 0 %s" % frame(b"\4" + num(1, 2) + num(4, 4) + b"\1\1a")],
      ["0 Restarted 7", "send 1 0>1 Refused 3 U2", "0 Repeat", "0 Restarted 7", "send 2 0>1 Refused 3 U2", "0 Repeat",
@@ -270,21 +261,301 @@ WORKED += [
      ["1 Restarted 3", "send 1 1>0 Hello 3", "send 2 1>0 Request 1", "1 Sent 1", "1 Restarted 3", "send 3 1>0 Hello 3",
       "send 4 1>0 Request 1", "1 Sent 1", "send 5 0>1 Accepted 1 1", "send 6 0>1 Change 1", "0 Accepted 1", "1 Accepted 1",
       "send 7 1>0 Hello 3", "1 Idle"]),
-    ("layout 1 in the last generation can't be put anew",
+    ("an older layout in the last generation can't be put anew",
      ["leaves 1", "hold 0 %s 00" % disk(base(0, 3), generation=LAST, layout=1), "pump 0", "again 0", "hold 1 00 %s" %
-      disk(base(1, 3), generation=LAST, layout=1), "hold 1 00 %s" % disk(base(1, 3), generation=LAST)],
-     ["0 refused J4", "0 apart", "0 refused J4", "1 refused J4", "1 Restarted 3"]),
+      disk(base(1, 3), generation=LAST, layout=1), "hold 1 00 %s" % disk(base(1, 3), generation=LAST, layout=2), "pump 1",
+      "hold 1 00 %s" % disk(base(1, 3), generation=LAST)],
+     ["0 refused J4", "0 apart", "0 refused J4", "1 refused J4", "1 refused J4", "1 apart", "1 Restarted 3"]),
     ("each disk is read by its own layout",
      ["leaves 1", "stop 0 %s %s 1 1 old" % (ONE, disk(base(0, 2), generation=2)), "stop 0 %s %s 2 1 old" %
       (disk(base(0, 2), generation=2), ONE), "stop 0 %s %s 1 1 old" % (disk(base(0, 2)), ONE),
       "hold 0 %s %s" % (disk(base(0, 2)), disk(base(0, 3), generation=2, layout=1)),
-      "hold 0 %s 00" % disk(base(0, 2), layout=1).replace("4547474a01", "4547474a03"),
+      "hold 0 %s %s" % (disk(base(0, 2), layout=1), disk(base(0, 3), generation=2, layout=2)),
+      "hold 0 %s 00" % disk(base(0, 2), layout=1).replace("4547474a01", "4547474a04"),
       "hold 0 %s 00" % disk(base(0, 2, [b"a"]), layout=1).replace("4547474a01", "4547474a02"),
-      "hold 0 %s 00" % disk(base(0, 2, [b"a"])).replace("4547474a02", "4547474a01"),
+      "hold 0 %s 00" % disk(base(0, 2, [b"a"])).replace("4547474a03", "4547474a01"),
+      "hold 0 %s 00" % disk(base(0, 2, [b"a"])).replace("4547474a03", "4547474a02"),
+      "hold 1 %s 00" % disk(base(1, 2, last=4, out={4: ALICE}), layout=2).replace("4547474a02", "4547474a03"),
+      "hold 1 %s 00" % disk(base(1, 2, last=4, out={4: ALICE})).replace("4547474a03", "4547474a02"),
       "hold 0 %s 00" % disk(base(0, 2, [b"a"]), [(1, 0, 0, (10, b"a", b"hi"))], layout=1),
+      "hold 0 %s 00" % disk(base(0, 2, [b"a"]), [(1, 0, 0, (10, b"a", b"hi"))], layout=2),
       "hold 0 %s 00" % disk(base(0, 2, [b"a"]), [(1, 0, 0, (10, b"a", b"hi"))])],
-     ["0 Restarted 2", "0 Restarted 2", "0 refused J2", "0 Restarted 3", "0 refused J2", "0 refused J2", "0 refused J2",
-      "0 refused J2", "0 Restarted 3"]),
+     ["0 Restarted 2", "0 Restarted 2", "0 refused J2", "0 Restarted 3", "0 Restarted 3", "0 refused J2", "0 refused J2",
+      "0 refused J2", "0 Restarted 2", "1 refused J2", "1 refused J2", "0 refused J2", "0 Restarted 3", "0 Restarted 3"]),
+]
+
+# ---- eight requests at once
+
+def request(leaf, number, handle):
+    return frame(b"\4" + num(leaf, 2) + num(number, 4) + b"\1" + num(len(handle), 1) + handle)
+
+
+def accepted(leaf, number, version):
+    return frame(b"\5" + num(leaf, 2) + num(number, 4) + num(version, 4))
+
+
+def refused(leaf, number, code):
+    return frame(b"\6" + num(leaf, 2) + num(number, 4) + num(code, 1))
+
+
+def asking(numbers):
+    """Requests that are out, each for a user of its own."""
+    return {number: (1, b"q%d" % number) for number in numbers}
+
+
+def answers(numbers):
+    """Replies that are kept: each of these requests was accepted, under 100 and its number's last digit."""
+    return [(number, ("Accepted", 100 + number % 10)) for number in numbers]
+
+
+# nine pumps of a leaf with ten asks, of which nothing is delivered: pump K sends requests 1 to K, and the ninth 1 to 8
+NINE_PUMPS_TOLD = [
+    "send 1 1>0 Hello 0", "send 2 1>0 Request 1", "1 Sent 1",
+    "send 3 1>0 Hello 0", "send 4 1>0 Request 1", "send 5 1>0 Request 2", "1 Sent 2",
+    "send 6 1>0 Hello 0", "send 7 1>0 Request 1", "send 8 1>0 Request 2", "send 9 1>0 Request 3", "1 Sent 3",
+    "send 10 1>0 Hello 0", "send 11 1>0 Request 1", "send 12 1>0 Request 2", "send 13 1>0 Request 3",
+    "send 14 1>0 Request 4", "1 Sent 4",
+    "send 15 1>0 Hello 0", "send 16 1>0 Request 1", "send 17 1>0 Request 2", "send 18 1>0 Request 3",
+    "send 19 1>0 Request 4", "send 20 1>0 Request 5", "1 Sent 5",
+    "send 21 1>0 Hello 0", "send 22 1>0 Request 1", "send 23 1>0 Request 2", "send 24 1>0 Request 3",
+    "send 25 1>0 Request 4", "send 26 1>0 Request 5", "send 27 1>0 Request 6", "1 Sent 6",
+    "send 28 1>0 Hello 0", "send 29 1>0 Request 1", "send 30 1>0 Request 2", "send 31 1>0 Request 3",
+    "send 32 1>0 Request 4", "send 33 1>0 Request 5", "send 34 1>0 Request 6", "send 35 1>0 Request 7", "1 Sent 7",
+    "send 36 1>0 Hello 0", "send 37 1>0 Request 1", "send 38 1>0 Request 2", "send 39 1>0 Request 3",
+    "send 40 1>0 Request 4", "send 41 1>0 Request 5", "send 42 1>0 Request 6", "send 43 1>0 Request 7",
+    "send 44 1>0 Request 8", "1 Sent 8",
+    "send 45 1>0 Hello 0", "send 46 1>0 Request 1", "send 47 1>0 Request 2", "send 48 1>0 Request 3",
+    "send 49 1>0 Request 4", "send 50 1>0 Request 5", "send 51 1>0 Request 6", "send 52 1>0 Request 7",
+    "send 53 1>0 Request 8", "1 Sent 8"]
+
+WORKED += [
+    ("two requests are out; the second comes first",
+     ["leaves 1", "ask 1 adduser a", "ask 1 adduser b", "pump 1", "pump 1", "deliver 5", "deliver 2", "deliver 5", "deliver 4",
+      "deliver 8", "deliver 8"],
+     ["1 Queued", "1 Queued", "send 1 1>0 Hello 0", "send 2 1>0 Request 1", "1 Sent 1", "send 3 1>0 Hello 0",
+      "send 4 1>0 Request 1", "send 5 1>0 Request 2", "1 Sent 2", "0 Gap", "send 6 0>1 Accepted 1 1", "send 7 0>1 Change 1",
+      "0 Accepted 1", "send 8 0>1 Accepted 2 2", "send 9 0>1 Change 2", "0 Accepted 2", "send 10 0>1 Accepted 1 1",
+      "0 Repeat", "1 Accepted 2", "1 Old"]),
+    ("ten asks and nine pumps: eight are out, and two wait until the first is answered; the hub keeps the last eight replies",
+     ["leaves 1"] + ["ask 1 adduser u%d" % n for n in range(1, 11)] + ["pump 1"] * 9
+     + ["deliver %d" % k for k in (46, 47, 48, 49, 50, 51, 52, 53)]
+     + ["deliver %d" % k for k in (68, 66, 64, 62, 60, 58, 56)]
+     + ["pump 1", "deliver 71", "deliver 72", "deliver 54", "pump 1", "pump 1", "pump 1", "deliver 77", "deliver 74",
+        "deliver 2", "deliver 47", "deliver 77", "deliver 47", "deliver 48", "deliver 83", "compact 0", "deliver 48",
+        "restart 0", "deliver 47", "deliver 48", "deliver 77", "compact 1", "restart 1", "pump 1", "deliver 84", "restart 1",
+        "pump 1", "deliver 81", "pump 1", "show 0", "show 1"],
+     ["1 Queued"] * 10 + NINE_PUMPS_TOLD + [
+         "send 54 0>1 Accepted 1 1", "send 55 0>1 Change 1", "0 Accepted 1",
+         "send 56 0>1 Accepted 2 2", "send 57 0>1 Change 2", "0 Accepted 2",
+         "send 58 0>1 Accepted 3 3", "send 59 0>1 Change 3", "0 Accepted 3",
+         "send 60 0>1 Accepted 4 4", "send 61 0>1 Change 4", "0 Accepted 4",
+         "send 62 0>1 Accepted 5 5", "send 63 0>1 Change 5", "0 Accepted 5",
+         "send 64 0>1 Accepted 6 6", "send 65 0>1 Change 6", "0 Accepted 6",
+         "send 66 0>1 Accepted 7 7", "send 67 0>1 Change 7", "0 Accepted 7",
+         "send 68 0>1 Accepted 8 8", "send 69 0>1 Change 8", "0 Accepted 8",
+         # the first alone is out: the ninth would not be below 1 and 8
+         "1 Accepted 8", "1 Accepted 7", "1 Accepted 6", "1 Accepted 5", "1 Accepted 4", "1 Accepted 3", "1 Accepted 2",
+         "send 70 1>0 Hello 0", "send 71 1>0 Request 1", "1 Sent 1", "send 72 0>1 Accepted 1 1", "0 Repeat", "1 Accepted 1",
+         "1 Old", "send 73 1>0 Hello 0", "send 74 1>0 Request 9", "1 Sent 9", "send 75 1>0 Hello 0",
+         "send 76 1>0 Request 9", "send 77 1>0 Request 10", "1 Sent 10", "send 78 1>0 Hello 0", "send 79 1>0 Request 9",
+         "send 80 1>0 Request 10", "1 Sent 10",
+         # the replies to 2 to 9 are kept, then those to 3 to 10
+         "0 Gap", "send 81 0>1 Accepted 9 9", "send 82 0>1 Change 9", "0 Accepted 9", "0 Old", "send 83 0>1 Accepted 2 2",
+         "0 Repeat", "send 84 0>1 Accepted 10 10", "send 85 0>1 Change 10", "0 Accepted 10", "0 Old",
+         "send 86 0>1 Accepted 3 3", "0 Repeat", "1 Old", "0 Compacted", "send 87 0>1 Accepted 3 3", "0 Repeat",
+         "0 Restarted 10", "0 Old", "send 88 0>1 Accepted 3 3", "0 Repeat", "send 89 0>1 Accepted 10 10", "0 Repeat",
+         "1 Compacted", "1 Restarted 0", "send 90 1>0 Hello 0", "send 91 1>0 Request 9", "send 92 1>0 Request 10",
+         "1 Sent 10", "1 Accepted 10", "1 Restarted 0", "send 93 1>0 Hello 0", "send 94 1>0 Request 9", "1 Sent 9",
+         "1 Accepted 9", "send 95 1>0 Hello 0", "1 Idle", "0 version 10 users 10 bans 0"]
+     + [" user u%d - -" % n for n in range(1, 11)] + ["1 version 0 users 0 bans 0"]),
+    ("requests that are out end in any order, refused ones too",
+     ["leaves 1", "ask 0 adduser alice", "pump 0", "ask 1 adduser alice", "ask 1 deluser alice", "ask 1 adduser ALICE",
+      "pump 1", "pump 1", "pump 1", "deliver 10", "deliver 3", "deliver 10", "deliver 6", "deliver 5", "deliver 10",
+      "deliver 8", "restart 0", "deliver 9", "deliver 15", "deliver 14", "deliver 17", "restart 1", "pump 1", "deliver 12",
+      "deliver 18", "pump 1", "show 0"],
+     ["0 Queued", "send 1 0>1 Change 1", "0 Accepted 1", "1 Queued", "1 Queued", "1 Queued", "send 2 1>0 Hello 0",
+      "send 3 1>0 Request 1", "1 Sent 1", "send 4 1>0 Hello 0", "send 5 1>0 Request 1", "send 6 1>0 Request 2", "1 Sent 2",
+      "send 7 1>0 Hello 0", "send 8 1>0 Request 1", "send 9 1>0 Request 2", "send 10 1>0 Request 3", "1 Sent 3", "0 Gap",
+      "send 11 0>1 Refused 1 U2", "0 Refused U2", "0 Gap", "send 12 0>1 Accepted 2 2", "send 13 0>1 Change 2",
+      "0 Accepted 2", "send 14 0>1 Refused 1 U2", "0 Repeat", "send 15 0>1 Accepted 3 3", "send 16 0>1 Change 3",
+      "0 Accepted 3", "send 17 0>1 Refused 1 U2", "0 Repeat", "0 Restarted 3", "send 18 0>1 Accepted 2 2", "0 Repeat",
+      "1 Accepted 3", "1 Refused U2", "1 Old", "1 Restarted 0", "send 19 1>0 Hello 0", "send 20 1>0 Request 2", "1 Sent 2",
+      "1 Accepted 2", "1 Old", "send 21 1>0 Hello 0", "1 Idle", "0 version 3 users 1 bans 0", " user ALICE - -"]),
+    ("each leaf has a window of its own",
+     ["leaves 2", "give 0 %s" % request(1, 1, b"a"), "give 0 %s" % request(2, 2, b"b"), "give 0 %s" % request(2, 1, b"c"),
+      "give 0 %s" % request(1, 2, b"d"), "give 0 %s" % request(2, 1, b"c"), "give 0 %s" % request(1, 1, b"a"), "give 0 %s" %
+      request(1, 4, b"e"), "give 0 %s" % request(2, 2, b"A")],
+     ["send 1 0>1 Accepted 1 1", "send 2 0>1 Change 1", "send 3 0>2 Change 1", "0 Accepted 1", "0 Gap",
+      "send 4 0>2 Accepted 1 2", "send 5 0>1 Change 2", "send 6 0>2 Change 2", "0 Accepted 2", "send 7 0>1 Accepted 2 3",
+      "send 8 0>1 Change 3", "send 9 0>2 Change 3", "0 Accepted 3", "send 10 0>2 Accepted 1 2", "0 Repeat",
+      "send 11 0>1 Accepted 1 1", "0 Repeat", "0 Gap", "send 12 0>2 Refused 2 U2", "0 Refused U2"]),
+    ("the last request numbers: what is out goes again, and no ask goes out",
+     ["leaves 1", "hold 1 %s 00" % disk(base(1, 3, last=LAST, out=asking([LAST - 1, LAST]))), "ask 1 adduser a", "pump 1",
+      "give 1 %s" % accepted(1, LAST, 9), "pump 1", "give 1 %s" % refused(1, LAST - 1, 2), "pump 1", "compact 1", "pump 1",
+      "hold 1 %s 00" % disk(base(1, 3, last=LAST - 1)), "ask 1 adduser a", "ask 1 adduser b", "pump 1", "pump 1",
+      "give 1 %s" % accepted(1, LAST, 9), "pump 1"],
+     ["1 Restarted 3", "1 Queued", "send 1 1>0 Hello 3", "send 2 1>0 Request 4294967294", "send 3 1>0 Request 4294967295",
+      "1 Sent 4294967295", "1 Accepted 9", "send 4 1>0 Hello 3", "send 5 1>0 Request 4294967294", "1 Sent 4294967294",
+      "1 Refused U2", "1 refused S4", "1 Compacted", "1 refused S4", "1 Restarted 3", "1 Queued", "1 Queued",
+      "send 6 1>0 Hello 3", "send 7 1>0 Request 4294967295", "1 Sent 4294967295", "send 8 1>0 Hello 3",
+      "send 9 1>0 Request 4294967295", "1 Sent 4294967295", "1 Accepted 9", "1 refused S4"]),
+    ("replies to the last request numbers",
+     ["leaves 1", "hold 0 %s 00" % disk(base(0, 7, replies={1: answers(range(LAST - 8, LAST))})), "give 0 %s" %
+      request(1, LAST - 8, b"a"), "give 0 %s" % request(1, LAST, b"a"), "give 0 %s" % request(1, LAST - 8, b"a"), "give 0 %s" %
+      request(1, LAST - 7, b"a"), "give 0 %s" % request(1, LAST, b"a")],
+     ["0 Restarted 7", "send 1 0>1 Accepted 4294967287 107", "0 Repeat", "send 2 0>1 Accepted 4294967295 8",
+      "send 3 0>1 Change 8", "0 Accepted 8", "0 Old", "send 4 0>1 Accepted 4294967288 108", "0 Repeat",
+      "send 5 0>1 Accepted 4294967295 8", "0 Repeat"]),
+    ("a hub at the last version: nothing is kept of a request, and the next one comes early",
+     ["leaves 1", "hold 0 %s 00" % disk(base(0, LAST)), "give 0 %s" % request(1, 1, b"a"), "give 0 %s" % request(1, 2, b"b"),
+      "give 0 %s" % request(1, 1, b"a")],
+     ["0 Restarted 4294967295", "0 refused S4", "0 Gap", "0 refused S4"]),
+    ("a window that its lowest request closes, and one that a reply opens",
+     ["leaves 1", "hold 1 %s 00" % disk(base(1, 3, last=8, out=asking([1, 8]))), "ask 1 adduser a", "pump 1", "give 1 %s" %
+      refused(1, 1, 2), "pump 1", "hold 1 %s 00" % disk(base(1, 3, last=8, out=asking([2]))), "ask 1 adduser a", "pump 1",
+      "ask 1 adduser b", "pump 1", "give 1 %s" % accepted(1, 9, 5), "give 1 %s" % accepted(1, 9, 5), "pump 1",
+      "hold 1 %s 00" % disk(base(1, 3, last=8)), "ask 1 adduser a", "pump 1"],
+     ["1 Restarted 3", "1 Queued", "send 1 1>0 Hello 3", "send 2 1>0 Request 1", "send 3 1>0 Request 8", "1 Sent 8",
+      "1 Refused U2", "send 4 1>0 Hello 3", "send 5 1>0 Request 8", "send 6 1>0 Request 9", "1 Sent 9", "1 Restarted 3",
+      "1 Queued", "send 7 1>0 Hello 3", "send 8 1>0 Request 2", "send 9 1>0 Request 9", "1 Sent 9", "1 Queued",
+      "send 10 1>0 Hello 3", "send 11 1>0 Request 2", "send 12 1>0 Request 9", "1 Sent 9", "1 Accepted 5", "1 Old",
+      "send 13 1>0 Hello 3", "send 14 1>0 Request 2", "1 Sent 2", "1 Restarted 3", "1 Queued", "send 15 1>0 Hello 3",
+      "send 16 1>0 Request 9", "1 Sent 9"]),
+    ("bases of a leaf with requests that are out",
+     ["leaves 1"] + ["hold 1 %s 00" % disk(base(1, 3, last=last, out=asking(numbers))) for last, numbers in (
+         (8, range(1, 9)), (9, range(1, 10)), (9, range(2, 10)), (8, [1]), (9, [1]), (9, [2]), (3, [4]), (4, [2, 4]),
+         (LAST, [LAST - 7]), (LAST, [LAST - 8]))]
+     + ["hold 1 %s 00" % disk(base(1, 3, last=9, out=asking([5, 7]))).replace("0000000701027137", "0000000501027137"),
+        "hold 1 %s 00" % disk(base(1, 3, last=9, out=asking([5, 7]))).replace("0000000501027135", "0000000801027135"),
+        "hold 1 %s 00" % disk(base(1, 3, replies={1: answers([1])})), "hold 0 %s 00" % disk(base(0, 3, last=1)),
+        "hold 0 %s 00" % disk(base(0, 3, last=1, out=asking([1])))],
+     ["1 Restarted 3", "1 refused J2", "1 Restarted 3", "1 Restarted 3", "1 refused J2", "1 Restarted 3", "1 refused J2",
+      "1 Restarted 3", "1 Restarted 3", "1 refused J2", "1 refused J2", "1 refused J2", "1 refused J2", "0 refused J2",
+      "0 refused J2"]),
+    ("bases of a hub with replies",
+     ["leaves 2"] + ["hold 0 %s 00" % disk(base(0, 200, replies=replies)) for replies in (
+         {1: answers(range(1, 9)), 2: answers(range(4, 12))}, {1: answers(range(1, 10))}, {1: answers([4, 6])},
+         {1: answers([5, 5])}, {1: answers([6, 5])}, {2: answers([7])}, {2: answers([7]), 3: answers([1])})]
+     # leaf 2's before leaf 1's
+     + ["hold 0 %s 00" % disk(base(0, 200, replies={1: answers([7]), 2: answers([7])})).replace(
+         "00010000000700" "0000006b" "00020000000700" "0000006b", "00020000000700" "0000006b" "00010000000700" "0000006b")],
+     ["0 Restarted 200", "0 refused J2", "0 refused J2", "0 refused J2", "0 refused J2", "0 Restarted 200", "0 refused J2",
+      "0 refused J2"]),
+    ("a leaf's entries behind a base with requests that are out",
+     ["leaves 1"] + ["hold 1 %s 00" % disk(base(1, 3, last=1, out=asking([1])), entries) for entries in (
+         [(4, n, ALICE) for n in range(2, 9)], [(4, n, ALICE) for n in range(2, 10)],
+         [(4, n, ALICE) for n in range(2, 9)] + [(5, 1), (4, 9, ALICE)],
+         [(4, n, ALICE) for n in range(2, 9)] + [(5, 2), (4, 9, ALICE)], [(5, 1), (5, 1)], [(5, 2)],
+         [(4, 2, ALICE), (4, 3, ALICE), (5, 2), (5, 3), (5, 1), (4, 4, ALICE)], [(4, 3, ALICE)], [(4, 1, ALICE)])]
+     + ["pump 1", "hold 1 %s 00" % disk(base(1, 3, last=1, out=asking([1])), [(4, n, (1, b"q%d" % n)) for n in range(2, 9)]
+                                       + [(5, 3), (3, 4, ALICE), (5, 1), (4, 9, ALICE), (5, 9)]), "pump 1"],
+     ["1 Restarted 3", "1 refused J2", "1 Restarted 3", "1 refused J2", "1 refused J2", "1 refused J2", "1 Restarted 3",
+      "1 refused J2", "1 refused J2", "1 apart", "1 Restarted 4", "send 1 1>0 Hello 4", "send 2 1>0 Request 2",
+      "send 3 1>0 Request 4", "send 4 1>0 Request 5", "send 5 1>0 Request 6", "send 6 1>0 Request 7",
+      "send 7 1>0 Request 8", "1 Sent 8"]),
+    ("a hub's entries behind a base with eight replies",
+     ["leaves 1"] + ["hold 0 %s 00" % disk(base(0, 200, replies={1: answers(range(3, 11))}), entries) for entries in (
+         [(2, 1, 10, 2)], [(2, 1, 12, 2)], [(2, 1, 11, 2)])]
+     + ["give 0 %s" % request(1, n, b"a") for n in (3, 4, 11, 10, 13, 12)]
+     + ["hold 0 %s 00" % disk(base(0, 200, replies={1: answers(range(3, 11))}),
+                              [(2, 1, n, 3) for n in range(11, 18)] + [(1, 1, 18, ALICE), (2, 1, 19, 2)])]
+     + ["give 0 %s" % request(1, n, b"a") for n in (11, 12, 18, 19, 21)],
+     ["0 refused J2", "0 refused J2", "0 Restarted 200", "0 Old", "send 1 0>1 Accepted 4 104", "0 Repeat",
+      "send 2 0>1 Refused 11 U2", "0 Repeat", "send 3 0>1 Accepted 10 100", "0 Repeat", "0 Gap",
+      "send 4 0>1 Accepted 12 201", "send 5 0>1 Change 201", "0 Accepted 201", "0 Restarted 201", "0 Old",
+      "send 6 0>1 Refused 12 U3", "0 Repeat", "send 7 0>1 Accepted 18 201", "0 Repeat", "send 8 0>1 Refused 19 U2",
+      "0 Repeat", "0 Gap"]),
+    ("a hub of layout 2 keeps the last reply, and further ones beside it",
+     ["leaves 1", "hold 0 %s 00" % disk(base(0, 200, replies={1: [(3, ("Refused", 2))]}), layout=2)]
+     + ["give 0 %s" % request(1, n, b"a%d" % n) for n in (2, 3, 4, 5, 3, 2, 7)] + ["restart 0"]
+     + ["give 0 %s" % request(1, n, b"a%d" % n) for n in (3, 2, 6, 7, 8, 9, 10, 3, 4, 11, 3)],
+     ["0 Restarted 200", "0 Old", "send 1 0>1 Refused 3 U2", "0 Repeat", "send 2 0>1 Accepted 4 201", "send 3 0>1 Change 201",
+      "0 Accepted 201", "send 4 0>1 Accepted 5 202", "send 5 0>1 Change 202", "0 Accepted 202", "send 6 0>1 Refused 3 U2",
+      "0 Repeat", "0 Old", "0 Gap", "0 Restarted 202", "send 7 0>1 Refused 3 U2", "0 Repeat", "0 Old",
+      "send 8 0>1 Accepted 6 203", "send 9 0>1 Change 203", "0 Accepted 203", "send 10 0>1 Accepted 7 204",
+      "send 11 0>1 Change 204", "0 Accepted 204", "send 12 0>1 Accepted 8 205", "send 13 0>1 Change 205", "0 Accepted 205",
+      "send 14 0>1 Accepted 9 206", "send 15 0>1 Change 206", "0 Accepted 206", "send 16 0>1 Accepted 10 207",
+      "send 17 0>1 Change 207", "0 Accepted 207",
+      # the replies to 3 to 10 are eight
+      "send 18 0>1 Refused 3 U2", "0 Repeat", "send 19 0>1 Accepted 4 201", "0 Repeat", "send 20 0>1 Accepted 11 208",
+      "send 21 0>1 Change 208", "0 Accepted 208", "0 Old"]),
+    ("a leaf of layout 2 whose request is out gets seven more out",
+     ["leaves 1", "hold 1 %s 00" % disk(base(1, 3, last=4, out={4: ALICE}), layout=2)]
+     + ["ask 1 adduser u%d" % n for n in range(5, 13)] + ["pump 1"] * 7 + ["restart 1", "ask 1 adduser u12", "pump 1",
+                                                                          "give 1 %s" % accepted(1, 4, 4), "pump 1"],
+     ["1 Restarted 3"] + ["1 Queued"] * 8 + [
+         "send 1 1>0 Hello 3", "send 2 1>0 Request 4", "send 3 1>0 Request 5", "1 Sent 5",
+         "send 4 1>0 Hello 3", "send 5 1>0 Request 4", "send 6 1>0 Request 5", "send 7 1>0 Request 6", "1 Sent 6",
+         "send 8 1>0 Hello 3", "send 9 1>0 Request 4", "send 10 1>0 Request 5", "send 11 1>0 Request 6",
+         "send 12 1>0 Request 7", "1 Sent 7",
+         "send 13 1>0 Hello 3", "send 14 1>0 Request 4", "send 15 1>0 Request 5", "send 16 1>0 Request 6",
+         "send 17 1>0 Request 7", "send 18 1>0 Request 8", "1 Sent 8",
+         "send 19 1>0 Hello 3", "send 20 1>0 Request 4", "send 21 1>0 Request 5", "send 22 1>0 Request 6",
+         "send 23 1>0 Request 7", "send 24 1>0 Request 8", "send 25 1>0 Request 9", "1 Sent 9",
+         "send 26 1>0 Hello 3", "send 27 1>0 Request 4", "send 28 1>0 Request 5", "send 29 1>0 Request 6",
+         "send 30 1>0 Request 7", "send 31 1>0 Request 8", "send 32 1>0 Request 9", "send 33 1>0 Request 10", "1 Sent 10",
+         "send 34 1>0 Hello 3", "send 35 1>0 Request 4", "send 36 1>0 Request 5", "send 37 1>0 Request 6",
+         "send 38 1>0 Request 7", "send 39 1>0 Request 8", "send 40 1>0 Request 9", "send 41 1>0 Request 10",
+         "send 42 1>0 Request 11", "1 Sent 11", "1 Restarted 3", "1 Queued",
+         "send 43 1>0 Hello 3", "send 44 1>0 Request 4", "send 45 1>0 Request 5", "send 46 1>0 Request 6",
+         "send 47 1>0 Request 7", "send 48 1>0 Request 8", "send 49 1>0 Request 9", "send 50 1>0 Request 10",
+         "send 51 1>0 Request 11", "1 Sent 11", "1 Accepted 4", "send 52 1>0 Hello 3", "send 53 1>0 Request 5",
+         "send 54 1>0 Request 6", "send 55 1>0 Request 7", "send 56 1>0 Request 8", "send 57 1>0 Request 9",
+         "send 58 1>0 Request 10", "send 59 1>0 Request 11", "send 60 1>0 Request 12", "1 Sent 12"]),
+    ("a hub's journal that a program of layout 1 wrote",
+     ["leaves 2", "hold 0 %s %s" % FIRST_HUB, "show 0", "give 0 %s" % request(1, 1, b"a"), "give 0 %s" % request(1, 2, b"a"),
+      "give 0 %s" % request(1, 3, b"a"), "give 0 %s" % request(1, 5, b"a"), "give 0 %s" % request(2, 2, b"a"), "give 0 %s" %
+      request(1, 4, b"alice"), "restart 0", "give 0 %s" % request(1, 2, b"a"), "give 0 %s" % request(1, 3, b"a"), "give 0 %s" %
+      request(1, 4, b"a"), "compact 0", "give 0 %s" % request(1, 2, b"a"), "show 0"],
+     ["0 Restarted 11", "0 version 11 users 5 bans 1"] + FIRST_RECORDS
+     + ["0 Old", "send 1 0>1 Refused 2 U2", "0 Repeat", "send 2 0>1 Accepted 3 11", "0 Repeat", "0 Gap", "0 Gap",
+        "send 3 0>1 Refused 4 U2", "0 Refused U2", "0 Restarted 11", "send 4 0>1 Refused 2 U2", "0 Repeat",
+        "send 5 0>1 Accepted 3 11", "0 Repeat", "send 6 0>1 Refused 4 U2", "0 Repeat", "0 Compacted",
+        "send 7 0>1 Refused 2 U2", "0 Repeat", "0 version 11 users 5 bans 1"] + FIRST_RECORDS),
+    ("a leaf's journal that a program of layout 1 wrote",
+     ["leaves 2", "hold 1 %s %s" % FIRST_LEAF, "show 1", "pump 1", "ask 1 adduser gina", "pump 1", "restart 1", "pump 1",
+      "give 1 %s" % accepted(1, 5, 13), "pump 1", "give 1 %s" % accepted(1, 4, 12), "pump 1", "show 1"],
+     ["1 Restarted 11", "1 version 11 users 5 bans 1"] + FIRST_RECORDS
+     + ["send 1 1>0 Hello 11", "send 2 1>0 Request 4", "1 Sent 4", "1 Queued", "send 3 1>0 Hello 11", "send 4 1>0 Request 4",
+        "send 5 1>0 Request 5", "1 Sent 5", "1 Restarted 11", "send 6 1>0 Hello 11", "send 7 1>0 Request 4",
+        "send 8 1>0 Request 5", "1 Sent 5", "1 Accepted 13", "send 9 1>0 Hello 11", "send 10 1>0 Request 4", "1 Sent 4",
+        "1 Accepted 12", "send 11 1>0 Hello 11", "1 Idle", "1 version 11 users 5 bans 1"] + FIRST_RECORDS),
+    ("another leaf's journal that a program of layout 1 wrote: its base has the request that is out",
+     ["leaves 2", "hold 2 %s %s" % FIRST_LEAF_COMPACTED, "show 2", "pump 2", "ask 2 adduser hal", "pump 2", "compact 2",
+      "restart 2", "give 2 %s" % refused(2, 2, 2), "pump 2", "hold 0 %s %s" % FIRST_HUB, "deliver 7", "pump 2", "give 2 %s" %
+      accepted(2, 1, 12), "pump 2"],
+     ["2 Restarted 11", "2 version 11 users 5 bans 1"] + FIRST_RECORDS
+     + ["send 1 2>0 Hello 11", "send 2 2>0 Request 1", "2 Sent 1", "2 Queued", "send 3 2>0 Hello 11", "send 4 2>0 Request 1",
+        "send 5 2>0 Request 2", "2 Sent 2", "2 Compacted", "2 Restarted 11", "2 Refused U2", "send 6 2>0 Hello 11",
+        "send 7 2>0 Request 1", "2 Sent 1", "0 Restarted 11", "send 8 0>2 Accepted 1 12", "send 9 0>1 Change 12",
+        "send 10 0>2 Change 12", "0 Accepted 12", "send 11 2>0 Hello 11", "send 12 2>0 Request 1", "2 Sent 1", "2 Accepted 12",
+        "send 13 2>0 Hello 11", "2 Idle"]),
+    ("a hub's journal that a program of layout 2 wrote",
+     ["leaves 2", "hold 0 %s %s" % SECOND_HUB, "show 0", "give 0 %s" % hello(1, 13), "give 0 %s" % hello(1, 14), "give 0 %s" %
+      request(1, 1, b"a"), "give 0 %s" % request(1, 2, b"a"), "give 0 %s" % request(1, 3, b"a"), "give 0 %s" %
+      request(1, 4, b"a"), "give 0 %s" % request(1, 6, b"a"), "give 0 %s" % request(2, 1, b"a"), "give 0 %s" %
+      request(2, 2, b"a"), "give 0 %s" % request(2, 4, b"a"), "give 0 %s" % request(1, 5, b"ALICE"), "restart 0", "give 0 %s" %
+      request(1, 2, b"a"), "give 0 %s" % request(1, 5, b"a"), "show 0"],
+     ["0 Restarted 14", "0 version 14 users 5 bans 2"] + SECOND_RECORDS
+     + ["send 1 0>1 Part 14 1 1", "0 Served 1", "0 Served 0", "0 Old", "send 2 0>1 Refused 2 U2", "0 Repeat",
+        "send 3 0>1 Accepted 3 14", "0 Repeat", "send 4 0>1 Refused 4 U6", "0 Repeat", "0 Gap", "0 Old",
+        "send 5 0>2 Refused 2 U3", "0 Repeat", "0 Gap", "send 6 0>1 Refused 5 U2", "0 Refused U2", "0 Restarted 14",
+        "send 7 0>1 Refused 2 U2", "0 Repeat", "send 8 0>1 Refused 5 U2", "0 Repeat", "0 version 14 users 5 bans 2"]
+     + SECOND_RECORDS),
+    ("leaves' journals that a program of layout 2 wrote",
+     ["leaves 2", "hold 1 %s %s" % SECOND_LEAF, "show 1", "pump 1", "hold 2 %s %s" % SECOND_LEAF_COMPACTED, "show 2", "pump 2",
+      "ask 2 adduser hal", "pump 2", "give 2 %s" % accepted(2, 3, 15), "compact 2", "restart 2", "pump 2", "hold 0 %s %s" %
+      SECOND_HUB, "deliver 2", "deliver 8", "deliver 4", "deliver 8", "deliver 13", "deliver 12", "show 2"],
+     ["1 Restarted 14", "1 version 14 users 5 bans 2"] + SECOND_RECORDS
+     + ["send 1 1>0 Hello 14", "send 2 1>0 Request 5", "1 Sent 5", "2 Restarted 14", "2 version 14 users 5 bans 2"]
+     + SECOND_RECORDS
+     + ["send 3 2>0 Hello 14", "send 4 2>0 Request 3", "2 Sent 3", "2 Queued", "send 5 2>0 Hello 14", "send 6 2>0 Request 3",
+        "send 7 2>0 Request 4", "2 Sent 4", "2 Accepted 15", "2 Compacted", "2 Restarted 14", "send 8 2>0 Hello 14",
+        "send 9 2>0 Request 4", "2 Sent 4", "0 Restarted 14", "send 10 0>1 Accepted 5 15", "send 11 0>1 Change 15",
+        "send 12 0>2 Change 15", "0 Accepted 15", "send 13 0>2 Change 15", "0 Served 1", "send 14 0>2 Accepted 3 16",
+        "send 15 0>1 Change 16", "send 16 0>2 Change 16", "0 Accepted 16", "send 17 0>2 Change 15", "send 18 0>2 Change 16",
+        "0 Served 2", "2 Applied 15", "2 Old", "2 version 15 users 6 bans 2"] + SECOND_RECORDS[:7] + [" user frank - -"]
+     + SECOND_RECORDS[7:]),
 ]
 
 
@@ -300,71 +571,116 @@ def worked(s):
 
 # ---- each device call of each row, stopped
 
-def hub_accepts(s, plan):
+def put_out(s, count):
+    """Puts so many requests of the first leaf out. Each third one is for what the hub refuses."""
+    for n in range(1, count + 1):
+        s("ask 1 adduser %s" % ("ALICE" if n % 3 == 2 else "o%d" % n))
+        s("pump 1")
+
+
+def request_of(s, number):
+    """The last packet that is the first leaf's request of this number."""
+    return max(k for k, (_, packet) in enumerate(s.net.packets, 1) if packet[:3] == ("Request", 1, number))
+
+
+def reply_to(s, number):
+    """The last packet that is a reply to the first leaf's request of this number."""
+    return max(k for k, (_, packet) in enumerate(s.net.packets, 1)
+               if packet[0] in ("Accepted", "Refused") and packet[1:3] == (1, number))
+
+
+def take_requests(s, first, last):
+    """The hub takes the first leaf's requests of these numbers."""
+    for number in range(first, last + 1):
+        s("deliver %d" % request_of(s, number))
+
+
+def hub_accepts(s, plan, out):
+    put_out(s, out)
+    take_requests(s, 1, out)
     plan(0, 1)
     s("ask 0 adduser bob")
     s("pump 0")
+    yield 0
+    take_requests(s, 1, out)
 
 
-def hub_accepts_a_request(s, plan):
+def hub_accepts_a_request(s, plan, out):
+    put_out(s, out - 1)
     s("ask 1 adduser bob")
     s("pump 1")
+    take_requests(s, 1, out - 1)
     plan(0, 1)
-    s.deliver("Request")
+    take_requests(s, out, out)
     yield 0
-    s.deliver("Request")
+    take_requests(s, 1, out)
 
 
-def hub_refuses_a_request(s, plan):
-    s("ask 1 adduser ALICE")
+def hub_refuses_a_request(s, plan, out):
+    put_out(s, out - 1)
+    s("ask 1 adduser alicE")
     s("pump 1")
+    take_requests(s, 1, out - 1)
     plan(0, 1)
-    s.deliver("Request")
+    take_requests(s, out, out)
     yield 0
     s("ask 0 deluser alice")
     s("pump 0")
-    s.deliver("Request")
+    take_requests(s, 1, out)
 
 
-def hub_compacts(s, plan):
+def hub_compacts(s, plan, out):
+    put_out(s, out)
+    take_requests(s, 1, out)
     plan(0, 2)
     s("compact 0")
+    yield 0
+    take_requests(s, 1, out)
 
 
-def hub_compacts_again(s, plan):
+def hub_compacts_again(s, plan, out):
     s("compact 0")
+    put_out(s, out)
+    take_requests(s, 1, out)
     plan(0, 1)
     s("compact 0")
+    yield 0
+    take_requests(s, 1, out)
 
 
-def leaf_puts_out(s, plan):
+def leaf_puts_out(s, plan, out):
+    put_out(s, out - 1)
     plan(1, 1)
     s("ask 1 adduser bob")
     s("pump 1")
     yield 1
     s("ask 1 adduser carl")
     s("pump 1")
+    s("pump 1")
 
 
-def leaf_applies(s, plan):
+def leaf_applies(s, plan, out):
+    put_out(s, out)
     plan(1, 1)
     s("deliver 1")
     yield 1
     s("deliver 1")
 
 
-def leaf_ends_a_request(s, plan):
-    s("ask 1 adduser bob")
-    s("pump 1")
-    s.deliver("Request")
+def leaf_ends_a_request(s, plan, out):
+    put_out(s, out)
+    take_requests(s, 1, out)
+    which = 1 + s.turn % out
     plan(1, 1)
-    s.deliver("Accepted")
+    s("deliver %d" % reply_to(s, which))
     yield 1
-    s("pump 1")
-    s.deliver("Accepted")
+    s("deliver %d" % reply_to(s, which))
+    for number in range(out, 0, -1):
+        s("deliver %d" % reply_to(s, number))
 
 
-def leaf_installs(s, plan):
+def leaf_installs(s, plan, out):
+    put_out(s, out)
     s("compact 0")
     s("pump 1")
     s.deliver("Hello")
@@ -374,8 +690,9 @@ def leaf_installs(s, plan):
     s.deliver("Part")
 
 
-def leaf_installs_again(s, plan):
+def leaf_installs_again(s, plan, out):
     s("compact 1")
+    put_out(s, out)
     s("compact 0")
     s("pump 1")
     s.deliver("Hello")
@@ -385,17 +702,21 @@ def leaf_installs_again(s, plan):
     s.deliver("Part")
 
 
-def leaf_compacts(s, plan):
-    s("ask 1 adduser bob")
-    s("pump 1")
+def leaf_compacts(s, plan, out):
+    put_out(s, out)
     plan(1, 2)
     s("compact 1")
+    yield 1
+    take_requests(s, 1, out)
 
 
-def leaf_compacts_again(s, plan):
+def leaf_compacts_again(s, plan, out):
     s("compact 1")
+    put_out(s, out)
     plan(1, 1)
     s("compact 1")
+    yield 1
+    take_requests(s, 1, out)
 
 
 # the row, how many device calls it has, and whose they are
@@ -404,43 +725,63 @@ ROWS = [(hub_accepts, 4, 0), (hub_accepts_a_request, 4, 0), (hub_refuses_a_reque
         (leaf_installs, 4, 1), (leaf_installs_again, 6, 1), (leaf_compacts, 4, 1), (leaf_compacts_again, 6, 1)]
 
 
-def stopped(s, row, call, tear, bot, rng, further):
-    """One row with one device call stopped, a restart, and so many random steps."""
-    s("# %s, call %d, %s" % (row.__name__, call, tear))
+def stopped(s, row, call, tear, out, bot, rng, further):
+    """One row, with so many requests of the first leaf out, and one device call stopped; a restart, and so many random
+    steps."""
+    s("# %s with %d out, call %d, %s" % (row.__name__, out, call, tear))
     s("leaves 2")
     s("ask 0 adduser alice")
     s("pump 0")
     begin = len(s.told)
-    rest = row(s, lambda b, d: s("plan %d %d %d %s" % (b, d, call, tear)))
-    if rest is not None:
-        next(rest)
+    rest = row(s, lambda b, d: s("plan %d %d %d %s" % (b, d, call, tear)), out)
+    next(rest)
     assert "%d refused S5" % bot in s.told[begin:], s.lines[-9:]
     s("restart %d" % bot)
     s("show %d" % bot)
-    if rest is not None:
-        for _ in rest:
-            pass
-    for _ in range(further):
-        random_step(s, rng)
+    s("pump %d" % bot)
+    for _ in rest:
+        pass
+    steps(s, rng, further)
     s("check")
     assert s.told[-1] == "same", s.lines[-30:]
 
 
-# ---- each device call of an opening that puts a journal of layout 1 anew, stopped
+def stopped_rows(s, rows, outs, rng, further):
+    """Each device call of these rows with each outcome: with one to eight requests out, or with one of these numbers in
+    turn."""
+    for row, calls, bot in rows:
+        for call in range(1, calls + 1):
+            for tear in TEARS:
+                for out in range(1, WINDOW + 1) if outs == "all" else [1 + s.turn % WINDOW]:
+                    s.turn += 1
+                    stopped(s, row, call, tear, out, bot, rng, further)
 
-# whose it is, its disks, the disk that is written, how many device calls there are, the version, the records, and what the
-# hub answers to a hello at version 0, or the leaf to a pump
-OPENINGS = [(0, (ONE, "00"), 2, 4, 1, [" user alice - -"], "0 Served 1"), (1, (OUT, "00"), 2, 4, 3, [], "1 Sent 1"),
-            (0, OLD_HUB, 1, 6, 11, OLD_RECORDS, "0 Served 1"), (1, OLD_LEAF, 2, 4, 11, OLD_RECORDS, "1 Sent 4")]
+
+# ---- each device call of an opening that puts a journal of an older layout anew, stopped
+
+# of which layout it is, whose it is, the disks of all bots of its net that have been in use, the disk that is written, how many
+# device calls there are, the version, the records, and what the hub answers to a hello at version 0, or the leaf to a pump
+FIRST = {0: FIRST_HUB, 1: FIRST_LEAF, 2: FIRST_LEAF_COMPACTED}
+SECOND = {0: SECOND_HUB, 1: SECOND_LEAF, 2: SECOND_LEAF_COMPACTED}
+OPENINGS = [(1, 0, {0: (ONE, "00")}, 2, 4, 1, [" user alice - -"], "0 Served 1"),
+            (1, 1, {0: (disk(base(0, 3), layout=1), "00"), 1: (OUT, "00")}, 2, 4, 3, [], "1 Sent 1"),
+            (1, 0, FIRST, 1, 6, 11, FIRST_RECORDS, "0 Served 1"), (1, 1, FIRST, 2, 4, 11, FIRST_RECORDS, "1 Sent 4"),
+            (1, 2, FIRST, 1, 6, 11, FIRST_RECORDS, "2 Sent 1"),
+            (2, 0, SECOND, 1, 6, 14, SECOND_RECORDS, "0 Served 1"), (2, 1, SECOND, 2, 4, 14, SECOND_RECORDS, "1 Sent 5"),
+            (2, 2, SECOND, 1, 6, 14, SECOND_RECORDS, "2 Sent 3")]
 
 
 def stopped_opening(s, opening, call, tear, again, rng, further):
-    """One opening with one device call stopped, once more where `again` names a call, and so many random steps."""
-    bot, disks, written, calls, version, records, next_answer = opening
-    s("# layout 1 of bot %d at version %d, call %d, %s" % (bot, version, call, tear))
+    """One opening with one device call stopped, once more where `again` names a call, and so many random steps. Where they are
+    many the other bots of its net are opened before, since a new hub would come to the version with other records."""
+    layout, bot, disks, written, calls, version, records, next_answer = opening
+    s("# layout %d of bot %d at version %d, call %d, %s" % (layout, bot, version, call, tear))
     s("leaves 2")
+    for other in disks if further > 20 else ():
+        if other != bot:
+            s("hold %d %s %s" % ((other,) + disks[other]))
     begin = len(s.told)
-    s("stop %d %s %s %d %d %s" % (bot, disks[0], disks[1], written, call, tear))
+    s("stop %d %s %s %d %d %s" % ((bot,) + disks[bot] + (written, call, tear)))
     assert s.told[begin:] == ["%d refused J1" % bot if call <= calls else "%d Restarted %d" % (bot, version)], s.told[begin:]
     if again:
         s("plan %d %d %d %s" % ((bot, written) + again))
@@ -450,29 +791,31 @@ def stopped_opening(s, opening, call, tear, again, rng, further):
     begin = len(s.told)
     s("show %d" % bot)
     assert s.told[begin + 1:] == records and s.told[begin].startswith("%d version %d " % (bot, version)), s.told[begin:]
-    s("pump 1" if bot else "give 0 %s" % hello(1, 0))
+    s("pump %d" % bot if bot else "give 0 %s" % hello(1, 0))
     assert s.told[-1] == next_answer, s.told[-9:]
-    for _ in range(further):
-        random_step(s, rng)
+    steps(s, rng, further)
     s("check")
     assert s.told[-1] == "same", s.lines[-30:]
 
 
-def stopped_openings(s, rng, further):
+def stopped_openings(s, rng, further, more):
     for opening in OPENINGS:
-        for call in range(1, opening[3] + 2):
+        for call in range(1, opening[4] + 2):
             for tear in TEARS:
                 stopped_opening(s, opening, call, tear, None, rng, 0)
-    for _ in range(further * 20):
+    for _ in range(more):
         opening = rng.choice(OPENINGS)
-        again = (rng.randrange(1, opening[3] + 2), rng.choice(TEARS))
-        stopped_opening(s, opening, rng.randrange(1, opening[3] + 1), rng.choice(TEARS), again, rng, further)
+        again = (rng.randrange(1, opening[4] + 2), rng.choice(TEARS))
+        stopped_opening(s, opening, rng.randrange(1, opening[4] + 1), rng.choice(TEARS), again, rng, further)
 
 
 # ---- random steps
 
 HANDLES = ["alice", "Alice", "bob", "carl", "dan", "eve", "fred", "gus", "hal", "ida", "jo", "kim", "lou", "max[", "MAX{", "ned"]
 MASKS = ["*!*@a.net", "*!*@A.net", "bob!*@*", "*!x@b"]
+
+# how much of the steps are asks, pumps and deliveries; the rest are of all the other kinds
+MOODS = [(0.2, 0.25, 0.39), (0.3, 0.35, 0.2), (0.1, 0.2, 0.6), (0.15, 0.15, 0.2)]
 
 
 def random_change(rng):
@@ -491,50 +834,95 @@ def random_change(rng):
 
 
 def packet_number(s, rng):
-    count = len(s.net.packets)
-    if rng.random() < 0.7:
-        return max(1, count - rng.randrange(12))
+    count, draw = len(s.net.packets), rng.random()
+    if draw < 0.8:
+        return max(1, count - rng.randrange(12 if draw < 0.5 else 40))
     return rng.randrange(1, count + 2)
 
 
-def random_step(s, rng):
+def random_step(s, rng, mood):
     bot = rng.choice([0] * 2 + list(range(s.net.leaves + 1)))
+    asks, pumps, deliveries = mood
+    # What is down, or whose link didn't open, is soon brought up again.
+    if not isinstance(s.net.bots[bot], Bot):
+        return s("again %d" % bot)
+    if s.net.bots[bot].down and rng.random() < 0.4:
+        return s("restart %d" % bot)
+    draw = rng.random() - asks
+    if draw < 0:
+        return s("ask %d %s" % (bot, random_change(rng)))
+    if draw < pumps:
+        return s("pump %d" % bot)
+    if draw < pumps + deliveries:
+        return s("deliver %d" % packet_number(s, rng))
     draw = rng.random()
-    if draw < 0.2:
-        s("ask %d %s" % (bot, random_change(rng)))
-    elif draw < 0.45:
-        s("pump %d" % bot)
-    elif draw < 0.84:
-        s("deliver %d" % packet_number(s, rng))
-    elif draw < 0.88:
+    if draw < 0.25:
         s("compact %d" % bot)
-    elif draw < 0.92:
+    elif draw < 0.5:
         s("restart %d" % bot)
-    elif draw < 0.97:
+    elif draw < 0.8:
         s("plan %d %d %d %s" % (bot, rng.choice([1, 2]), rng.randrange(1, 7), rng.choice(TEARS)))
-    elif draw < 0.98:
+    elif draw < 0.85:
         s("planread %d %d" % (bot, rng.choice([1, 2])))
-    elif draw < 0.99:
+    elif draw < 0.9:
         s("show %d" % bot)
     else:
         leaves = s.net.leaves
         s("give %d %s" % (bot, rng.choice([
-            hello(leaves + 1, 0), hello(1, LAST),
-            frame(b"\4" + num(0, 2) + num(1, 4) + b"\1\1a"), frame(b"\4" + num(1, 2) + num(LAST, 4) + b"\1\1a"),
-            part(LAST, 3, 2, [b"a"]), frame(b"\7" + num(0, 2) + num(1, 2) + num(2, 2) + b"hi"),
-            frame(b"\5" + num(bot, 2) + num(LAST, 4) + num(1, 4))])))
+            hello(leaves + 1, 0), hello(1, LAST), hello(1, 0, layout=2), request(0, 1, b"a"), request(1, LAST, b"a"),
+            part(LAST, 3, 2, [b"a"]), frame(b"\7" + num(0, 2) + num(1, 2) + num(2, 2) + b"hi"), accepted(bot, LAST, 1)])))
 
 
-def random_run(s, rng, steps):
+def steps(s, rng, count):
+    """So many random steps, of one mood for 40 steps."""
+    for at in range(count):
+        if at % 40 == 0:
+            mood = rng.choice(MOODS)
+        random_step(s, rng, mood)
+
+
+def random_run(s, rng, count):
     leaves = rng.randrange(0, 5)
     s("# a random run")
     s("leaves %d" % leaves)
-    for _ in range(steps):
-        random_step(s, rng)
+    steps(s, rng, count)
     for bot in range(leaves + 1):
         s("show %d" % bot)
     s("check")
     assert s.told[-1] == "same", s.lines[-30:]
+
+
+# ---- what is written
+
+MOST = 1000000    # bytes: the program reads no more than 1,048,576
+
+
+def pieces(s):
+    """The cases in lists of lines that the program reads at one time, and what they tell."""
+    said, told, at = [[]], [[]], 0
+    size = 0
+    for line, answers in zip(s.lines, s.each):
+        if line.startswith("#") and size > MOST - 60000:
+            said.append([])
+            told.append([])
+            size = 0
+        said[-1].append(line)
+        told[-1] += s.told[at:at + answers]
+        at += answers
+        size += len(line) + 1
+        assert size < MOST
+    return zip(said, told)
+
+
+def counts(told):
+    """How often each note and code was told, the commonest first."""
+    seen = {}
+    for line in told:
+        words = line.split(" ")
+        if words[0].isdigit():
+            note = words[2] if words[1] == "refused" else words[1]
+            seen[note] = seen.get(note, 0) + 1
+    return ", ".join("%s %d" % (note, seen[note]) for note in sorted(seen, key=seen.get, reverse=True))
 
 
 def main():
@@ -543,24 +931,26 @@ def main():
     words.add_argument("--further", type=int, default=4)
     words.add_argument("--runs", type=int, default=12)
     words.add_argument("--steps", type=int, default=150)
+    words.add_argument("--openings", type=int, default=80)
     words.add_argument("--seed", type=int, default=1)
+    words.add_argument("--outs", choices=["turn", "all"], default="turn")
     words.add_argument("--rows", type=int, nargs=2, default=[0, len(ROWS)])
     words.add_argument("--bare", action="store_true")
     given = words.parse_args()
     rng, s = random.Random(given.seed), Script()
     if not given.bare:
         worked(s)
-    for row, calls, bot in ROWS[given.rows[0]:given.rows[1]]:
-        for call in range(1, calls + 1):
-            for tear in TEARS:
-                stopped(s, row, call, tear, bot, rng, given.further)
+    stopped_rows(s, ROWS[given.rows[0]:given.rows[1]], given.outs, rng, given.further)
+    stops = s.turn
     if not given.bare:
-        stopped_openings(s, rng, given.further)
+        stopped_openings(s, rng, given.further, given.openings)
     for _ in range(given.runs):
         random_run(s, rng, given.steps)
-    for name, lines in (("stdin", s.lines), ("stdout", s.told)):
-        with open("%s/%s" % (given.folder, name), "w", encoding="latin-1") as file:
-            file.write("\n".join(lines) + "\n")
+    for place, (said, told) in enumerate(pieces(s), 1):
+        for name, lines in (("stdin", said), ("stdout", told)):
+            with open("%s/%s%s" % (given.folder, name, "" if place == 1 else ".%d" % place), "w", encoding="latin-1") as file:
+                file.write("\n".join(lines) + "\n")
+    print("%d stops of rows, %d lines; %s" % (stops, len(s.lines), counts(s.told)), file=sys.stderr)
 
 
 if __name__ == "__main__":

@@ -17,8 +17,8 @@ use Rattle.protocol.specs.Notes.Note.{Accepted, Installed, Old, Stray, Text}
 use Rattle.protocol.specs.Notes.LinkFault.{OtherLayout, NumbersSpent, Down}
 use Rattle.protocol.specs.Bots.{How, Works, Row, noted, refused, journals}
 use Rattle.protocol.specs.Snapshots.{PartSet, records_from, joined, set_for, with_part, is_behind}
-use Rattle.protocol.specs.HubRules.{Hub, Accept, hub_folded, version_of, last_request, is_no_leaf, accepts, replied, next_request, repeats, request_placed, request_of, hello_served, hello_met, text_passed, hub_received, hub_received_up}
-use Rattle.protocol.specs.LeafRules.{Leaf, Install, leaf_folded, change_placed, next_applied, reply_taken, reply_received, installed, set_taken, part_taken, leaf_received, leaf_received_up}
+use Rattle.protocol.specs.HubRules.{Hub, Accept, hub_folded, version_of, last_request, reply_to, is_no_leaf, accepts, replied, next_request, repeats, request_placed, request_of, hello_served, hello_met, text_passed, hub_received, hub_received_up}
+use Rattle.protocol.specs.LeafRules.{Leaf, Install, leaf_folded, is_out, change_placed, next_applied, reply_taken, reply_received, installed, set_taken, part_taken, leaf_received, leaf_received_up}
 use Rattle.linknet.specs.Ends.{End, AtHub, AtLeaf, end_received}
 use Rattle.botcore.specs.Happenings.{Saying, saying_of}
 
@@ -61,20 +61,20 @@ module _ (leaves : ℕ) (old : Hub) where
       accepts_silent (record { origin = leaf; request = request; change = change })
       (replied leaves Works old leaf request (Taken (version_of old.kept + 1))) old.loose
 
-  repeats_silent : (leaf request : ℕ) (last : Option Reply) → IsSilent (repeats leaves Works old leaf request last)
+  repeats_silent : (leaf request : ℕ) (reply : Option Reply) → IsSilent (repeats leaves Works old leaf request reply)
   repeats_silent leaf request None = refl
   repeats_silent leaf request (Some reply) = refl
 
-  placed_silent : (leaf request : ℕ) (change : UserChange) (last : Option Reply) (place : Place)
-      → IsSilent (request_placed leaves Works old leaf request change last place)
-  placed_silent leaf request change last Below = refl
-  placed_silent leaf request change last Same = repeats_silent leaf request last
-  placed_silent leaf request change last Next = next_silent leaf request change (refusal old.kept.records change)
-  placed_silent leaf request change last Above = refl
+  placed_silent : (leaf request : ℕ) (change : UserChange) (kept : List Reply) (place : Place)
+      → IsSilent (request_placed leaves Works old leaf request change kept place)
+  placed_silent leaf request change kept Below = repeats_silent leaf request (reply_to request kept)
+  placed_silent leaf request change kept Same = repeats_silent leaf request (reply_to request kept)
+  placed_silent leaf request change kept Next = next_silent leaf request change (refusal old.kept.records change)
+  placed_silent leaf request change kept Above = refl
 
-  request_silent : (leaf request : ℕ) (change : UserChange) (last : Option (Option Reply)) → IsSilent (request_of leaves Works old leaf request change last)
+  request_silent : (leaf request : ℕ) (change : UserChange) (place : Option (List Reply)) → IsSilent (request_of leaves Works old leaf request change place)
   request_silent leaf request change None = refl
-  request_silent leaf request change (Some last) = placed_silent leaf request change last (place_of request (last_request last))
+  request_silent leaf request change (Some kept) = placed_silent leaf request change kept (place_of request (last_request kept))
 
   hello_silent : (leaf version : ℕ) (below : Bool) → IsSilent (hello_served leaves Works old leaf version below)
   hello_silent leaf version true = refl
@@ -124,15 +124,14 @@ module _ (leaves number : ℕ) (old : Leaf) where
   change_silent change Next = applied_silent change (refusal old.kept.records change)
   change_silent change Above = refl
 
-  taken_silent : (answer : Answer) (out : Option UserChange) (is_last : Bool) → IsSilent (reply_taken leaves number Works old answer out is_last)
-  taken_silent answer None is_last = refl
-  taken_silent answer (Some change) false = refl
-  taken_silent (Taken n) (Some change) true = refl
-  taken_silent (refused_request fault) (Some change) true = refl
+  taken_silent : (request : ℕ) (answer : Answer) (is_out : Bool) → IsSilent (reply_taken leaves number Works old request answer is_out)
+  taken_silent request answer false = refl
+  taken_silent request (Taken n) true = refl
+  taken_silent request (refused_request fault) true = refl
 
   reply_silent : (leaf request : ℕ) (answer : Answer) → IsSilent (reply_received leaves number Works old leaf request answer)
   reply_silent leaf request answer =
-      silent_if (not (leaf == number) || (request == 0)) (noted Stray old) _ refl (taken_silent answer old.kept.out (request == old.kept.last))
+      silent_if (not (leaf == number) || (request == 0)) (noted Stray old) _ refl (taken_silent request answer (is_out request old.kept.out))
 
   installed_silent : (version : ℕ) (records : Records) (fault : Option ChangeFault) → IsSilent (installed leaves number Works old version records fault)
   installed_silent version records (Some fault) = refl

@@ -1,15 +1,13 @@
 -- Bases in each layout: what is read is spelled so, and what is spelled so is read.
-use Rattle.std.proofs.Common.{◌≡◌, ℕ, ◌^◌, ◌<◌, true, eqb, List, [], ◌∷◌, ◌++◌, Option, Some, None, Ok, Err, refl, sym, ap, subst, ◌∙◌, inl, inr}
+use Rattle.std.proofs.Common.{◌≡◌, ℕ, ◌^◌, ◌<◌, true, eqb, List, [], ◌∷◌, ◌++◌, Option, Some, None, Ok, refl, sym, ap, subst, ◌∙◌, inl, inr}
 use Rattle.std.specs.Int.{w32}
 use Rattle.std.proofs.lemmas.Bool.{eqb-true}
-use Rattle.userfile.specs.declared.change.Change.{Change}
 use Rattle.userfile.specs.declared.error.ChangeFault.{ChangeFault}
 use Rattle.userfile.specs.declared.error.ChangeFault.TheVariants.{BadHandle, BadMask, BadChannel, BadComment, NoSuchUser, UserExists, MaskExists}
 use Rattle.userfile.specs.declared.error.ChangeFault.TheVariants.{NoSuchMask, BanExists, NoSuchBan, Full}
-use Rattle.usercodec.specs.declared.fault.CodecFault.TheVariants.{NotCanonical}
 use Rattle.usercodec.specs.declared.records.Record.{Record}
-use Rattle.usercodec.specs.Fields.{number, Reading, byte_at, number_at}
-use Rattle.usercodec.specs.Changes.{made, change_bytes}
+use Rattle.usercodec.specs.Fields.{number, byte_at, number_at}
+use Rattle.usercodec.specs.Changes.{made}
 use Rattle.usercodec.specs.Records.{IsGoodRecord}
 use Rattle.usercodec.proofs.Steps.{IsBytes, chosen, bind_ok, ok_is, Takes}
 use Rattle.usercodec.specs.FaultBytes.{fault_byte, fault_from, known}
@@ -17,18 +15,21 @@ use Rattle.botjournal.specs.declared.base.Base.{Base}
 use Rattle.botjournal.specs.declared.reply.Answer.{Answer}
 use Rattle.botjournal.specs.declared.reply.Answer.TheVariants.{Taken, Refused}
 use Rattle.botjournal.specs.declared.reply.Reply.{Reply}
+use Rattle.botjournal.specs.declared.request.Request.{Request}
 use Rattle.botjournal.specs.declared.layouts.Layout.{Layout}
-use Rattle.botjournal.specs.declared.layouts.Layout.TheVariants.{First, Second}
-use Rattle.botjournal.specs.Layouts.{IsGoodChangeBy, change_by, record_bytes_by, IsGoodRecordBy}
-use Rattle.botjournal.specs.Bases.{listed, answer_bytes, reply_bytes, out_bytes, base_bytes, base_bytes_by, are_rising, is_of_its_bot, IsGoodAnswer, IsGoodReply, IsGoodOut}
-use Rattle.botjournal.specs.Bases.{AreListed, IsGoodOutWith, IsGoodBase, IsGoodBaseBy}
-use Rattle.botjournal.specs.Bases.{answer_from, answer_at, reply_at, replies_listed_at, replies_at, records_at, out_from, out_at, base_of, parts_at, base_at}
+use Rattle.botjournal.specs.declared.layouts.Layout.TheVariants.{First, Second, Third}
+use Rattle.botjournal.specs.Layouts.{record_bytes_by, IsGoodRecordBy}
+use Rattle.botjournal.specs.Bases.{listed, answer_bytes, reply_bytes, base_bytes, base_bytes_by, are_kept_by, is_of_its_bot, IsGoodAnswer, IsGoodReply}
+use Rattle.botjournal.specs.Bases.{AreListed, AreOutBy, IsGoodBase, IsGoodBaseBy}
+use Rattle.botjournal.specs.Bases.{answer_from, answer_at, reply_at, replies_listed_at, replies_at, records_at, base_of, parts_at, base_at}
 use Rattle.botjournal.specs.Bases.{base_in, IsBaseBy}
 use Rattle.usercodec.proofs.PartLaws.{IsPart, checked_part, made_part, both_part}
 use Rattle.usercodec.proofs.ReaderLaws.{byte_part, u16_part, u32_part, record_part, record_part_old, fault_byte-from, known_is}
 use Rattle.botjournal.proofs.ItemLaws.{listed_part}
 use Rattle.botjournal.proofs.WholeLaws.{whole_again, whole_spelled}
-use Rattle.botjournal.proofs.LayoutLaws.{change_part_by, change_good, record_good}
+use Rattle.botjournal.proofs.LayoutLaws.{record_good}
+use Rattle.botjournal.proofs.WindowLaws.{kept_good, out_good}
+use Rattle.botjournal.proofs.RequestLaws.{out_part}
 use Rattle.usercodec.proofs.RecordLengths.{all_map}
 
 -- ---- replies
@@ -91,67 +92,19 @@ reply_part =
     (λ y. refl)
     IsGoodReply (λ x g. g) (λ y g. g)
 
-replies_part : IsPart replies_at (listed reply_bytes) (λ x. AreListed IsGoodReply x × (are_rising x ≡ true))
+replies_part : (layout : Layout) → IsPart (replies_at layout) (listed reply_bytes) (λ x. AreListed IsGoodReply x × (are_kept_by layout x ≡ true))
 unfolding replies_at replies_listed_at
-replies_part = checked_part (listed_part reply_part) are_rising
+replies_part layout = checked_part (listed_part reply_part) (are_kept_by layout)
 
 records_part : (layout : Layout) → IsPart (records_at layout) (listed (record_bytes_by layout)) (AreListed (IsGoodRecordBy layout))
 unfolding records_at
 records_part First = listed_part record_part_old
 records_part Second = listed_part record_part
-
--- ---- the change that is out
-
-no_out : (x : Option Change) (rest : List ℕ) → (let r : Reading (Option Change) = Err NotCanonical in r) ≡ Ok (x, rest) → ⊥
-no_out x rest e = cc
-
-abbrev some_change : Change → Option Change
-some_change change = Some change
-
-abbrev none_out : Option Change
-none_out = None
-
-out_part : (layout : Layout) → IsPart (out_at layout) out_bytes (IsGoodOutWith (IsGoodChangeBy layout))
-unfolding out_at out_from byte_at
-out_part layout = record { takes = takes; again = again }
-  where
-    from_takes : (byte : ℕ) (bytes : List ℕ) (x : Option Change) (rest : List ℕ) → IsBytes bytes → out_from layout byte bytes ≡ Ok (x, rest)
-        → Takes (byte ∷ bytes) (out_bytes x) rest × IsGoodOutWith (IsGoodChangeBy layout) x
-    from_takes byte bytes x rest fits e =
-        elim (chosen (eqb byte 0) _ _ _ e) [
-          | inl p ↦
-              let parts : byte ∷ bytes ≡ (0 ∷ []) ++ bytes = ap (λ (k : ℕ). k ∷ bytes) (eqb-true byte 0 p.0) in
-              subst (λ (q : Option Change × List ℕ). Takes (byte ∷ bytes) (out_bytes q.0) q.1 × IsGoodOutWith (IsGoodChangeBy layout) q.0) (ok_is (none_out, bytes) (x, rest) p.1)
-              (record { parts = parts; rest_fits = fits }, tt)
-          | inr p ↦
-              elim (chosen (eqb byte 1) _ _ _ p.1) [
-                | inl p ↦
-                    let a = bind_ok (change_by layout bytes) (λ c. Ok (some_change c.0, c.1)) (x, rest) p.1 in
-                    let t = (change_part_by layout).takes bytes a.0.0 a.0.1 fits a.1 in
-                    let parts : byte ∷ bytes ≡ (1 ∷ change_bytes a.0.0) ++ a.0.1 =
-                    ap (λ (k : ℕ). k ∷ bytes) (eqb-true byte 1 p.0) ∙ ap (λ (b : List ℕ). 1 ∷ b) t.0.parts in
-                    subst (λ (q : Option Change × List ℕ). Takes (byte ∷ bytes) (out_bytes q.0) q.1 × IsGoodOutWith (IsGoodChangeBy layout) q.0)
-                    (ok_is (some_change a.0.0, a.0.1) (x, rest) a.2)
-                    (record { parts = parts; rest_fits = t.0.rest_fits }, t.1)
-                | inr p ↦ absurd (no_out x rest p.1)
-              ]
-        ]
-
-    takes : (bytes : List ℕ) (x : Option Change) (rest : List ℕ) → IsBytes bytes → out_at layout bytes ≡ Ok (x, rest)
-        → Takes bytes (out_bytes x) rest × IsGoodOutWith (IsGoodChangeBy layout) x
-    takes bytes x rest fits e =
-        let a = bind_ok (byte_at bytes) (λ byte. out_from layout byte.0 byte.1) (x, rest) e in
-        let t = byte_part.takes bytes a.0.0 a.0.1 fits a.1 in
-        let u = from_takes a.0.0 a.0.1 x rest t.0.rest_fits a.2 in
-        (record { parts = t.0.parts ∙ u.0.parts; rest_fits = u.0.rest_fits }, u.1)
-
-    again : (x : Option Change) (rest : List ℕ) → IsGoodOutWith (IsGoodChangeBy layout) x → out_at layout (out_bytes x ++ rest) ≡ Ok (x, rest)
-    again None rest good = refl
-    again (Some change) rest good = ap (made some_change) ((change_part_by layout).again change rest good)
+records_part Third = listed_part record_part
 
 -- ---- bases
 
-abbrev fields_of : Base → ℕ × (ℕ × (List Record × (List Reply × (ℕ × Option Change))))
+abbrev fields_of : Base → ℕ × (ℕ × (List Record × (List Reply × (ℕ × List Request))))
 fields_of b = (b.bot, (b.version, (b.records, (b.replies, (b.last_request, b.out)))))
 
 -- a base that has a spelling, but for what its bot wants
@@ -159,17 +112,16 @@ record PartsPass (layout : Layout) (base : Base) : Type 0 where
   bot : base.bot < 2 ^ 16
   version : base.version < 2 ^ 32
   records : AreListed (IsGoodRecordBy layout) base.records
-  replies : AreListed IsGoodReply base.replies × (are_rising base.replies ≡ true)
-  last_request : base.last_request < 2 ^ 32
-  out : IsGoodOutWith (IsGoodChangeBy layout) base.out
+  replies : AreListed IsGoodReply base.replies × (are_kept_by layout base.replies ≡ true)
+  out : (base.last_request < 2 ^ 32) × AreOutBy layout base.last_request base.out
 
 parts_part : (layout : Layout) → IsPart (parts_at layout) (base_bytes_by layout) (PartsPass layout)
 unfolding parts_at
 parts_part layout =
-    made_part (both_part u16_part (both_part u32_part (both_part (records_part layout) (both_part replies_part (both_part u32_part (out_part layout))))))
+    made_part (both_part u16_part (both_part u32_part (both_part (records_part layout) (both_part (replies_part layout) (out_part layout)))))
     base_of fields_of (λ y. refl) (base_bytes_by layout) (λ x. refl) (λ y. refl) (PartsPass layout)
-    (λ x g. record { bot = g.0; version = g.1.0; records = g.1.1.0; replies = g.1.1.1.0; last_request = g.1.1.1.1.0; out = g.1.1.1.1.1 })
-    (λ y g. (g.bot, (g.version, (g.records, (g.replies, (g.last_request, g.out))))))
+    (λ x g. record { bot = g.0; version = g.1.0; records = g.1.1.0; replies = g.1.1.1.0; out = g.1.1.1.1 })
+    (λ y g. (g.bot, (g.version, (g.records, (g.replies, g.out)))))
 
 pub base_part : (layout : Layout) → IsPart (base_at layout) (base_bytes_by layout) (IsGoodBaseBy layout)
 unfolding base_at
@@ -184,9 +136,9 @@ base_part layout = record {
       version = p.version;
       records = p.records;
       replies = p.replies.0;
-      rising = p.replies.1;
-      last_request = p.last_request;
-      out = p.out;
+      kept = p.replies.1;
+      last_request = p.out.0;
+      out = p.out.1;
       of_its_bot = own;
     }
 
@@ -195,9 +147,8 @@ base_part layout = record {
       bot = g.bot;
       version = g.version;
       records = g.records;
-      replies = (g.replies, g.rising);
-      last_request = g.last_request;
-      out = g.out;
+      replies = (g.replies, g.kept);
+      out = (g.last_request, g.out);
     }
 
 -- ---- bases that are all of their bytes
@@ -222,27 +173,23 @@ base_good layout base good = record {
   version = good.version;
   records = (good.records.0, all_map (IsGoodRecordBy layout) IsGoodRecord (record_good layout) base.records good.records.1);
   replies = good.replies;
-  rising = good.rising;
+  kept = kept_good layout base.replies good.kept;
   last_request = good.last_request;
-  out = by base.out good.out;
+  out = out_good layout base.last_request base.out good.last_request good.out;
   of_its_bot = good.of_its_bot;
 }
-  where
-    by : (out : Option Change) → IsGoodOutWith (IsGoodChangeBy layout) out → IsGoodOut out
-    by None g = tt
-    by (Some change) g = change_good layout change g
 
-pub good_now : (base : Base) → IsGoodBase base → IsGoodBaseBy Second base
+pub good_now : (base : Base) → IsGoodBase base → IsGoodBaseBy Third base
 good_now base good = record {
   bot = good.bot;
   version = good.version;
   records = good.records;
   replies = good.replies;
-  rising = good.rising;
+  kept = good.kept;
   last_request = good.last_request;
   out = good.out;
   of_its_bot = good.of_its_bot;
 }
 
-pub base_again : (base : Base) → IsGoodBase base → base_in Second (base_bytes base) ≡ Some base
-base_again base good = base_again_by Second base (good_now base good)
+pub base_again : (base : Base) → IsGoodBase base → base_in Third (base_bytes base) ≡ Some base
+base_again base good = base_again_by Third base (good_now base good)

@@ -16,7 +16,7 @@ use Rattle.bytejournal.proofs.Recovering.{some_is, some_map}
 use Rattle.botjournal.specs.declared.base.Base.{Base}
 use Rattle.botjournal.specs.declared.entry.Entry.{Entry}
 use Rattle.botjournal.specs.declared.layouts.Layout.{Layout}
-use Rattle.botjournal.specs.declared.layouts.Layout.TheVariants.{Second}
+use Rattle.botjournal.specs.declared.layouts.Layout.TheVariants.{Third}
 use Rattle.botjournal.specs.declared.TheConstants.{LAYOUT}
 use Rattle.botjournal.specs.Layouts.{layout_of}
 use Rattle.botjournal.specs.Bases.{base_bytes, base_in, IsGoodBase}
@@ -64,11 +64,11 @@ pub typed_added : (entry : Entry) → IsGoodEntry entry → (texts : Option Text
     → typed (option_map (added_text (entry_bytes entry)) texts) ≡ option_map (added entry) (typed texts)
 typed_added entry good None current = refl
 typed_added entry good (Some texts) current =
-    let known : layout_of texts.layout ≡ Some Second = ap layout_of current in
+    let known : layout_of texts.layout ≡ Some Third = ap layout_of current in
     ap (λ o. spelled_by o (added_text (entry_bytes entry) texts)) known
-    ∙ ap (with_base texts.layout texts.generation (base_in Second texts.base))
-    (entries_added Second texts.entries (entry_bytes entry) entry (entry_again Second entry good))
-    ∙ with_added texts.layout texts.generation (base_in Second texts.base) entry (entries_in Second texts.entries)
+    ∙ ap (with_base texts.layout texts.generation (base_in Third texts.base))
+    (entries_added Third texts.entries (entry_bytes entry) entry (entry_again Third entry good))
+    ∙ with_added texts.layout texts.generation (base_in Third texts.base) entry (entries_in Third texts.entries)
     ∙ sym (ap (λ o. option_map (added entry) (spelled_by o texts)) known)
 
 -- ---- another base

@@ -1,6 +1,6 @@
 -- What a ledger's disks mean, between two calls and after each of them.
 use Rattle.std.proofs.Common.{◌≡◌, ◌⊎◌, inl, inr, ⊎_elim, ℕ, Bool, true, false, Option, Some, None, List, Ok, Err, refl, sym, ap, subst, ◌∙◌, arith}
-use Rattle.std.specs.Prelude.{option_map}
+use Rattle.std.specs.Prelude.{IsSome, option_map}
 use Rattle.bytetext.specs.declared.failure.Failure.{Failure}
 use Rattle.bytetext.specs.declared.failure.Failure.TheVariants.{Refused, NoMemory}
 use Rattle.storage.specs.declared.disk.DiskFault.{DiskFault}
@@ -27,7 +27,7 @@ use Rattle.botjournal.specs.Contents.{Contents, meaning, with_base, entries_in, 
 use Rattle.botjournal.specs.declared.layouts.Layout.{Layout}
 use Rattle.botjournal.specs.Layouts.{layout_of}
 use Rattle.botjournal.specs.Bases.{base_in}
-use Rattle.botjournal.specs.Journal.{IsEither, Refuses, Opens, contents_of, contents_found}
+use Rattle.botjournal.specs.Journal.{IsAtRest, IsEither, Refuses, Opens, contents_of, contents_found}
 use Rattle.botjournal.specs.Ledger.{Ledger, Account, Pending, Device, Failed, Reopens, AtEachMoment, AreStill, NoFewer, Leaves, Restarts, settled, written_if, counted, device_on, without_room}
 use Rattle.botjournal.specs.Stores.{AreIn, IsGoing, Stands, OpensAgain, read_error, shown, device_of}
 use Rattle.botjournal.proofs.MeaningLaws.{contents_in_order, texts_are, typed_moments}
@@ -39,6 +39,10 @@ shown_is o contents is = ap shown is
 
 pub some_shown : (o : Option Contents) (contents : Contents) → o ≡ Some contents → o ≡ Some (shown o)
 some_shown o contents is = is ∙ ap Some (sym (shown_is o contents is))
+
+some_is_shown : (o : Option Contents) → IsSome o → o ≡ Some (shown o)
+some_is_shown None some = absurd cc
+some_is_shown (Some contents) some = refl
 
 same_contents : (a b : Contents) → (let o : Option Contents = Some a in o) ≡ Some b → a ≡ b
 same_contents a b e = ap shown e
@@ -145,6 +149,13 @@ module _ {D : Type 0} (state : D → State) where
   stand_leaves true InHand account disks s i = absurd s
 
 module _ {D : Type 0} (state : D → State) where
+  -- ---- a journal that takes calls
+
+  pub rest_goes : (journal : OfTexts D) → journal.spent ≡ false → IsAtRest state journal
+      → IsGoing state journal (record { contents = shown (contents_of state journal); doubt = None; down = false })
+  rest_goes journal going rest =
+      record { going = going; rest = rest; contents = some_is_shown (contents_of state journal) rest.some; doubt = refl }
+
   -- ---- a journal that was opened again
 
   opened_contents : (first second : D) (opened : Opened D) → Opens state first second (Ok opened)

@@ -1,5 +1,5 @@
 -- How long spellings are.
-use Rattle.std.proofs.Common.{◌<◌, ◌≤◌, ◌^◌, length, None, Some, arith}
+use Rattle.std.proofs.Common.{◌<◌, ◌≤◌, ◌^◌, length, arith}
 use Rattle.std.proofs.lemmas.List.{length-append}
 use Rattle.usercodec.specs.Records.{record_bytes, HasShape, IsGoodRecord}
 use Rattle.usercodec.proofs.ShapeLaws.{short_texts, change_is_short}
@@ -10,8 +10,10 @@ use Rattle.botjournal.specs.declared.entry.Entry.TheVariants.{Accepted, Settled,
 use Rattle.botjournal.specs.declared.reply.Answer.{Answer}
 use Rattle.botjournal.specs.declared.reply.Answer.TheVariants as answers
 use Rattle.botjournal.specs.declared.reply.Reply.{Reply}
+use Rattle.botjournal.specs.declared.request.Request.{Request}
 use Rattle.botjournal.specs.Entries.{entry_bytes, IsGoodEntry}
-use Rattle.botjournal.specs.Bases.{reply_bytes, out_bytes, base_bytes, IsGoodReply, IsGoodOut, HasShapeOut, HasShapes, IsGoodBase}
+use Rattle.botjournal.specs.Bases.{reply_bytes, request_bytes, base_bytes, IsGoodReply, IsGoodRequest, HasShapeOut, HasShapes, IsGoodBase}
+use Rattle.botjournal.proofs.WindowLaws.{out_few}
 
 -- ---- entries
 
@@ -31,19 +33,10 @@ reply_is_short reply good = by reply.answer
     by (answers.Taken n) = omega arith
     by (answers.Refused fault) = omega arith
 
-pub out_shape : (base : Base) → IsGoodOut base.out → HasShapeOut base.out
-out_shape base good = by base.out good
-  where
-    by : (out : _) → IsGoodOut out → HasShapeOut out
-    by None good = tt
-    by (Some change) good = good.shape
-
-out_is_short : (base : Base) → IsGoodOut base.out → length (out_bytes base.out) ≤ 2000
-out_is_short base good = by base.out good
-  where
-    by : (out : _) → IsGoodOut out → length (out_bytes out) ≤ 2000
-    by None good = omega arith
-    by (Some change) good = let short = change_is_short change (short_texts change good.shape) in omega arith
+request_is_short : (request : Request) → IsGoodRequest request → length (request_bytes request) ≤ 2100
+request_is_short request good =
+    let short = change_is_short request.change (short_texts request.change good.1.shape) in
+    simp length-append (omega arith)
 
 pub base_is_short : (base : Base) → IsGoodBase base → length (base_bytes base) < 2 ^ 32
 base_is_short base good =
@@ -52,7 +45,8 @@ base_is_short base good =
     let replies_are = many_short reply_bytes 300 base.replies (all_map IsGoodReply (λ r. length (reply_bytes r) ≤ 300) reply_is_short base.replies good.replies.1) in
     let m = good.records.0 in
     let n = good.replies.0 in
-    let out = out_is_short base good.out in
+    let requests_are = many_short request_bytes 2100 base.out (all_map IsGoodRequest (λ r. length (request_bytes r) ≤ 2100) request_is_short base.out good.out.0) in
+    let few = out_few base.last_request base.out good.out.1 in
     simp length-append (omega arith)
 
 pub shapes_are : (base : Base) → IsGoodBase base → HasShapes base
@@ -60,5 +54,6 @@ shapes_are base good = record {
   few_records = good.records.0;
   records = all_map IsGoodRecord HasShape (λ r g. g.shape) base.records good.records.1;
   few_replies = good.replies.0;
-  out = out_shape base good.out;
+  few_out = out_few base.last_request base.out good.out.1;
+  out = all_map IsGoodRequest HasShapeOut (λ r g. g.1.shape) base.out good.out.0;
 }

@@ -2,6 +2,8 @@ pub mod WholeLaws
 pub mod LayoutLaws
 pub mod EntryLaws
 pub mod ItemLaws
+pub mod WindowLaws
+pub mod RequestLaws
 pub mod BaseLaws
 pub mod LengthLaws
 pub mod MeaningLaws

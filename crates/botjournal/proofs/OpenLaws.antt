@@ -20,10 +20,13 @@ use Rattle.botjournal.specs.declared.base.Base.{Base}
 use Rattle.botjournal.specs.declared.opening.Opened.{Opened}
 use Rattle.botjournal.specs.declared.TheConstants.{LAYOUT}
 use Rattle.botjournal.specs.Bases.{base_bytes, IsGoodBase}
-use Rattle.botjournal.specs.Contents.{new_contents, with_base, spelled, checked, typed, meaning}
-use Rattle.botjournal.specs.Journal.{IsAtRest, contents_of, Creates, Refuses, Opens, Restarts, CannotRead, is_spelled, texts_found, contents_read, ReadsTexts}
+use Rattle.botjournal.specs.Contents.{Contents, new_contents, with_base, spelled, checked, typed, meaning}
+use Rattle.botjournal.specs.Journal.{IsAtRest, contents_of, Creates, Refuses, Opens, Restarts, IsNotRefused, CannotRead, is_spelled, texts_found, contents_read, ReadsTexts}
 use Rattle.botjournal.proofs.BaseLaws.{base_again}
 use Rattle.botjournal.proofs.MeaningLaws.{meaning_comm, alone_means, found_means, means_none, contents_in_order}
+
+some_not_none : (read : Option Contents) (contents : Contents) → read ≡ Some contents → read ≡ None → ⊥
+some_not_none read contents is none = cc
 
 module _ {D : Type 0} (state : D → State) where
   -- ---- made
@@ -118,6 +121,14 @@ module _ {D : Type 0} (state : D → State) where
   pub opens_nothing : (first second : D) (returned : Returned D) → OpensTexts state first second (Err returned) → Opens state first second (Err returned)
   opens_nothing first second returned o =
       (cannot_open first second returned.disks.first returned.disks.second returned.error o.0, o.1, o.2)
+
+  -- disks that mean a journal are never told to hold none
+  pub not_refused : (first second : D) (result : Result (Opened D) (Returned D)) → Opens state first second result → (contents : Contents)
+      → meaning (state first).seen (state second).seen ≡ Some contents → IsNotRefused result
+  not_refused first second (Ok opened) o contents is = tt
+  not_refused first second (Err returned) o contents is = λ refused.
+      some_not_none (meaning (state first).seen (state second).seen) contents is
+      (subst (λ error. Refuses state first second error returned.disks.first returned.disks.second) refused o.0)
 
   -- ---- opened again
 

@@ -1,25 +1,27 @@
 -- The one spelling of a base in each layout, and what reading one answers.
-use Rattle.std.specs.Prelude.{◌≡◌, ℕ, ◌+◌, ◌<◌, ◌^◌, ◌==◌, nat_le, Bool, true, false, ◌&&◌, List, [], ◌∷◌, ◌++◌, length, Option, Some, None, Result, Ok, Err}
+use Rattle.std.specs.Prelude.{◌≡◌, ℕ, ◌+◌, ◌<◌, ◌≤◌, ◌^◌, ◌==◌, nat_le, nat_lt, Bool, true, false, ◌&&◌, List, [], ◌∷◌, ◌++◌, length, Option, Some, None, Result, Ok, Err}
 use Rattle.std.specs.Prelude.{if◌then◌else◌}
-use Rattle.std.specs.List.{flat_map, AllByRecursion}
+use Rattle.std.specs.List.{flat_map, list_all, AllByRecursion}
 use Rattle.std.specs.Int.{w16, w32}
 use Rattle.bytetext.specs.declared.memory.NoMemory.{NoMemory}
 use Rattle.userfile.specs.Apply.{bad_shape}
 use Rattle.userfile.specs.declared.change.Change.{Change}
 use Rattle.usercodec.specs.declared.fault.CodecFault.TheVariants.{NotCanonical}
 use Rattle.usercodec.specs.declared.records.Record.{Record}
-use Rattle.usercodec.specs.Fields.{number, Reading, ◌>>=◌, checked, byte_at, number_at}
-use Rattle.usercodec.specs.Changes.{change_bytes, IsGoodChange, both, made}
-use Rattle.usercodec.specs.Records.{HasShape, IsGoodRecord, items_at}
+use Rattle.usercodec.specs.Fields.{number, counted, Reading, ◌>>=◌, checked, byte_at, number_at}
+use Rattle.usercodec.specs.Changes.{change_bytes, IsGoodChange, change_at, both, made}
+use Rattle.usercodec.specs.Records.{HasShape, IsGoodRecord, items_at, counted_at}
 use Rattle.usercodec.specs.FaultBytes.{fault_byte, fault_from, known}
 use Rattle.botjournal.specs.Whole.{whole}
 use Rattle.botjournal.specs.Layouts.{IsGoodChangeBy, change_by, record_bytes_by, IsGoodRecordBy, so_many_records_by}
 use Rattle.botjournal.specs.declared.layouts.Layout.{Layout}
-use Rattle.botjournal.specs.declared.layouts.Layout.TheVariants.{Second}
+use Rattle.botjournal.specs.declared.layouts.Layout.TheVariants.{First, Second, Third}
+use Rattle.botjournal.specs.declared.TheConstants.{WINDOW}
 use Rattle.botjournal.specs.declared.base.Base.{Base}
 use Rattle.botjournal.specs.declared.reply.Answer.{Answer}
 use Rattle.botjournal.specs.declared.reply.Answer.TheVariants.{Taken, Refused}
 use Rattle.botjournal.specs.declared.reply.Reply.{Reply}
+use Rattle.botjournal.specs.declared.request.Request.{Request}
 
 -- ---- spellings
 
@@ -35,20 +37,29 @@ answer_bytes (Refused fault) = fault_byte fault ∷ []
 abbrev pub reply_bytes : Reply → List ℕ
 reply_bytes reply = number w16 reply.leaf ++ (number w32 reply.request ++ answer_bytes reply.answer)
 
--- the change that is out: 0 for none, or 1 and the change
-abbrev pub out_bytes : Option Change → List ℕ
-out_bytes None = 0 ∷ []
-out_bytes (Some change) = 1 ∷ change_bytes change
+abbrev pub request_bytes : Request → List ℕ
+request_bytes request = number w32 request.number ++ change_bytes request.change
+
+-- the request of an older layout, whose number is the last request's: 0 for none, or 1 and its change
+abbrev pub one_out_bytes : List Request → List ℕ
+one_out_bytes [] = 0 ∷ []
+one_out_bytes (request ∷ more) = 1 ∷ change_bytes request.change
+
+-- the requests that are out: those of layout 3 after their count, which has one byte
+abbrev pub out_bytes_by : Layout → List Request → List ℕ
+out_bytes_by First = one_out_bytes
+out_bytes_by Second = one_out_bytes
+out_bytes_by Third = counted request_bytes
 
 -- a base in this layout, its fields one after the other, each number with its most significant byte first
 abbrev pub base_bytes_by : Layout → Base → List ℕ
 base_bytes_by layout base =
     number w16 base.bot ++ (number w32 base.version ++ (listed (record_bytes_by layout) base.records ++ (listed reply_bytes base.replies
-    ++ (number w32 base.last_request ++ out_bytes base.out))))
+    ++ (number w32 base.last_request ++ out_bytes_by layout base.out))))
 
 -- a base as it is written
 abbrev pub base_bytes : Base → List ℕ
-base_bytes base = base_bytes_by Second base
+base_bytes base = base_bytes_by Third base
 
 -- ---- which bases have a spelling
 
@@ -57,32 +68,64 @@ abbrev pub rises_from : ℕ → List Reply → Bool
 rises_from least [] = true
 rises_from least (reply ∷ replies) = nat_le least reply.leaf && rises_from (reply.leaf + 1) replies
 
--- each reply is to a leaf above that of the reply before it
+-- each reply is to a leaf above that of the reply before it: older layouts had one reply to a leaf
 abbrev pub are_rising : List Reply → Bool
 are_rising replies = rises_from 0 replies
 
-abbrev pub is_no_change : Option Change → Bool
-is_no_change None = true
-is_no_change (Some change) = false
+-- the second reply is to the first one's leaf, and to its next request
+abbrev pub is_next_reply : Reply → Reply → Bool
+is_next_reply first second = second.leaf == first.leaf && second.request == first.request + 1
 
-abbrev pub are_none : List Reply → Bool
+-- These replies may follow this one, which is the so many'th to its leaf: each is to a leaf above that of the reply before
+-- it, or to the same leaf's next request. A leaf has at most eight.
+abbrev pub may_follow : Reply → ℕ → List Reply → Bool
+may_follow before count [] = true
+may_follow before count (reply ∷ replies) =
+    if nat_lt before.leaf reply.leaf then may_follow reply 1 replies
+    else ((is_next_reply before reply && nat_lt count WINDOW) && may_follow reply (count + 1) replies)
+
+-- replies as a hub keeps them: leaf by leaf, to each leaf at most eight, whose requests have numbers one after the other
+abbrev pub are_kept : List Reply → Bool
+are_kept [] = true
+are_kept (reply ∷ replies) = may_follow reply 1 replies
+
+abbrev pub are_kept_by : Layout → List Reply → Bool
+are_kept_by First = are_rising
+are_kept_by Second = are_rising
+are_kept_by Third = are_kept
+
+-- the first number is at least this, and each other above the one before it
+abbrev pub numbers_rise_from : ℕ → List Request → Bool
+numbers_rise_from least [] = true
+numbers_rise_from least (request ∷ requests) = nat_le least request.number && numbers_rise_from (request.number + 1) requests
+
+-- this number is the request's, or at most 7 above it
+abbrev pub is_near : ℕ → Request → Bool
+is_near last request = nat_le request.number last && nat_lt last (request.number + WINDOW)
+
+-- Requests that may be out where the last one had this number: their numbers rise, and it is at most 7 above each of them.
+-- So they are at most eight.
+abbrev pub are_out : ℕ → List Request → Bool
+are_out last requests = numbers_rise_from 0 requests && list_all (is_near last) requests
+
+abbrev pub are_none : {A : Type 0} → List A → Bool
 are_none [] = true
-are_none (reply ∷ replies) = false
+are_none (item ∷ items) = false
 
 -- the hub, which is bot 0, has no request; a leaf has no replies
 abbrev pub is_of_its_bot : Base → Bool
-is_of_its_bot base = if base.bot == 0 then (base.last_request == 0 && is_no_change base.out) else are_none base.replies
+is_of_its_bot base = if base.bot == 0 then (base.last_request == 0 && are_none base.out) else are_none base.replies
 
-abbrev pub HasShapeOut : Option Change → Type 0
-HasShapeOut None = Unit {0}
-HasShapeOut (Some change) = bad_shape change ≡ None
+abbrev pub HasShapeOut : Request → Type 0
+HasShapeOut request = bad_shape request.change ≡ None
 
--- the lists are not too long for their counts, and the shapes of the records and the change are good, as the userfile says
+-- the lists are not too long for their counts, and the shapes of the records and the changes are good, as the userfile says
 pub record HasShapes (base : Base) : Type 0 where
   pub few_records : length base.records < 2 ^ 16
   pub records : AllByRecursion HasShape base.records
   pub few_replies : length base.replies < 2 ^ 16
-  pub out : HasShapeOut base.out
+  pub few_out : length base.out ≤ WINDOW
+  pub out : AllByRecursion HasShapeOut base.out
 
 abbrev pub IsGoodAnswer : Answer → Type 0
 IsGoodAnswer (Taken n) = n < 2 ^ 32
@@ -91,12 +134,24 @@ IsGoodAnswer (Refused fault) = Unit {0}
 abbrev pub IsGoodReply : Reply → Type 0
 IsGoodReply reply = (reply.leaf < 2 ^ 16) × ((reply.request < 2 ^ 32) × IsGoodAnswer reply.answer)
 
-abbrev pub IsGoodOutWith : (Change → Type 0) → Option Change → Type 0
-IsGoodOutWith IsGood None = Unit {0}
-IsGoodOutWith IsGood (Some change) = IsGood change
+abbrev pub IsGoodRequest : Request → Type 0
+IsGoodRequest request = (request.number < 2 ^ 32) × IsGoodChange request.change
 
-abbrev pub IsGoodOut : Option Change → Type 0
-IsGoodOut out = IsGoodOutWith IsGoodChange out
+-- requests that have spellings, and may be out where the last one had this number
+abbrev pub AreOut : ℕ → List Request → Type 0
+AreOut last requests = AllByRecursion IsGoodRequest requests × (are_out last requests ≡ true)
+
+-- no request, or one that has this number and whose change has a spelling in this layout
+abbrev pub IsOneOut : Layout → ℕ → List Request → Type 0
+IsOneOut layout last [] = Unit {0}
+IsOneOut layout last (request ∷ []) = (request.number ≡ last) × IsGoodChangeBy layout request.change
+IsOneOut layout last (request ∷ other ∷ more) = ⊥
+
+-- the requests that a layout can say are out
+abbrev pub AreOutBy : Layout → ℕ → List Request → Type 0
+AreOutBy First = IsOneOut First
+AreOutBy Second = IsOneOut Second
+AreOutBy Third = AreOut
 
 -- items that have spellings, and not too many for their count
 abbrev pub AreListed : {A : Type 0} → (A → Type 0) → List A → Type 0
@@ -108,9 +163,9 @@ pub record IsGoodBase (base : Base) : Type 0 where
   pub version : base.version < 2 ^ 32
   pub records : AreListed IsGoodRecord base.records
   pub replies : AreListed IsGoodReply base.replies
-  pub rising : are_rising base.replies ≡ true
+  pub kept : are_kept base.replies ≡ true
   pub last_request : base.last_request < 2 ^ 32
-  pub out : IsGoodOut base.out
+  pub out : AreOut base.last_request base.out
   pub of_its_bot : is_of_its_bot base ≡ true
 
 -- a base that has a spelling in this layout
@@ -119,9 +174,9 @@ pub record IsGoodBaseBy (layout : Layout) (base : Base) : Type 0 where
   pub version : base.version < 2 ^ 32
   pub records : AreListed (IsGoodRecordBy layout) base.records
   pub replies : AreListed IsGoodReply base.replies
-  pub rising : are_rising base.replies ≡ true
+  pub kept : are_kept_by layout base.replies ≡ true
   pub last_request : base.last_request < 2 ^ 32
-  pub out : IsGoodOutWith (IsGoodChangeBy layout) base.out
+  pub out : AreOutBy layout base.last_request base.out
   pub of_its_bot : is_of_its_bot base ≡ true
 
 -- ---- reading
@@ -148,8 +203,8 @@ reply_at bytes =
 unfoldable pub replies_listed_at : List ℕ → Reading (List Reply)
 replies_listed_at bytes = listed_at reply_at bytes
 
-unfoldable pub replies_at : List ℕ → Reading (List Reply)
-replies_at bytes = checked are_rising (replies_listed_at bytes)
+unfoldable pub replies_at : Layout → List ℕ → Reading (List Reply)
+replies_at layout bytes = checked (are_kept_by layout) (replies_listed_at bytes)
 
 unfoldable pub records_at : Layout → List ℕ → Reading (List Record)
 records_at layout bytes = do
@@ -157,21 +212,47 @@ records_at layout bytes = do
   so_many_records_by layout count.0 count.1
 
 -- what follows the byte that says whether a change is out
-unfoldable pub out_from : Layout → ℕ → List ℕ → Reading (Option Change)
-out_from layout byte bytes = if byte == 0 then Ok (None, bytes) else (if byte == 1 then made Some (change_by layout bytes) else Err NotCanonical)
+unfoldable pub change_out_from : Layout → ℕ → List ℕ → Reading (Option Change)
+change_out_from layout byte bytes =
+    if byte == 0 then Ok (None, bytes) else (if byte == 1 then made Some (change_by layout bytes) else Err NotCanonical)
 
-unfoldable pub out_at : Layout → List ℕ → Reading (Option Change)
-out_at layout bytes = do
+unfoldable pub change_out_at : Layout → List ℕ → Reading (Option Change)
+change_out_at layout bytes = do
   byte ← byte_at bytes
-  out_from layout byte.0 byte.1
+  change_out_from layout byte.0 byte.1
+
+-- the request of this number whose change is out, where one is
+abbrev pub one_out : ℕ → Option Change → List Request
+one_out last None = []
+one_out last (Some change) = record { number = last; change = change } ∷ []
+
+-- an older layout's last request number, and its request that is out
+unfoldable pub one_out_at : Layout → List ℕ → Reading (ℕ × List Request)
+one_out_at layout bytes = made (λ x. (x.0, one_out x.0 x.1)) (both (number_at w32) (change_out_at layout) bytes)
+
+unfoldable pub request_at : List ℕ → Reading Request
+request_at bytes = made (λ x. record { number = x.0; change = x.1 }) (both (number_at w32) change_at bytes)
+
+unfoldable pub requests_listed_at : List ℕ → Reading (List Request)
+requests_listed_at bytes = counted_at WINDOW (λ held more. request_at more) bytes
+
+-- layout 3's last request number, and its requests that are out
+unfoldable pub window_at : List ℕ → Reading (ℕ × List Request)
+window_at bytes = checked (λ x. are_out x.0 x.1) (both (number_at w32) requests_listed_at bytes)
+
+-- the last request number, and the requests that are out
+abbrev pub out_at : Layout → List ℕ → Reading (ℕ × List Request)
+out_at First = one_out_at First
+out_at Second = one_out_at Second
+out_at Third = window_at
 
 -- the base of these fields
-abbrev pub base_of : ℕ × (ℕ × (List Record × (List Reply × (ℕ × Option Change)))) → Base
+abbrev pub base_of : ℕ × (ℕ × (List Record × (List Reply × (ℕ × List Request)))) → Base
 base_of x = record { bot = x.0; version = x.1.0; records = x.1.1.0; replies = x.1.1.1.0; last_request = x.1.1.1.1.0; out = x.1.1.1.1.1 }
 
 unfoldable pub parts_at : Layout → List ℕ → Reading Base
 parts_at layout bytes =
-    made base_of (both (number_at w16) (both (number_at w32) (both (records_at layout) (both replies_at (both (number_at w32) (out_at layout))))) bytes)
+    made base_of (both (number_at w16) (both (number_at w32) (both (records_at layout) (both (replies_at layout) (out_at layout)))) bytes)
 
 unfoldable pub base_at : Layout → List ℕ → Reading Base
 base_at layout bytes = checked is_of_its_bot (parts_at layout bytes)

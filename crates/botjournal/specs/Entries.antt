@@ -16,8 +16,8 @@ use Rattle.botjournal.specs.declared.entry.Entry.TheVariants.{Accepted, Settled,
 
 -- ---- spellings
 
--- an entry: a byte that is its tag, and its fields, each number with its most significant byte first. Both layouts spell it
--- alike, where its change is one that the layout has.
+-- an entry: a byte that is its tag, and its fields, each number with its most significant byte first. All layouts spell
+-- it alike, where its change is one that the layout has.
 abbrev pub entry_bytes : Entry → List ℕ
 entry_bytes (Accepted origin request change) = 1 ∷ (number w16 origin ++ (number w32 request ++ change_bytes change))
 entry_bytes (Settled leaf request fault) = 2 ∷ (number w16 leaf ++ (number w32 request ++ fault_byte fault ∷ []))

@@ -28,7 +28,7 @@ pending_of (RebasingTo base) = Rebasing base.value
 -- the contents where there are any: those of nothing else are never shown
 abbrev pub shown : Option Contents → Contents
 shown None =
-    record { layout = 0; generation = 0; base = record { bot = 0; version = 0; records = []; replies = []; last_request = 0; out = None }; entries = [] }
+    record { layout = 0; generation = 0; base = record { bot = 0; version = 0; records = []; replies = []; last_request = 0; out = [] }; entries = [] }
 shown (Some contents) = contents
 
 -- why the disks of a ledger could not be read

@@ -1,11 +1,9 @@
 // Where a journal starts.
-ghost use Rattle.std.specs.Prelude.{◌≡◌, IfOk};
-
 use crate::reply::Reply;
+use crate::request::Request;
 use bytetext::{NoMemory, Seq, TryCopy};
 use std::alloc::Global;
 use usercodec::Record;
-use userfile::Change;
 
 /// What a bot's journal starts from: the bot's state at a version. Bot 0 is the hub, and leaves are numbered from 1.
 #[derive(Debug)]
@@ -16,12 +14,14 @@ pub struct Base {
     pub version: u32,
     /// The userfile's records at that version: a userfile gives its users first, and then its bans.
     pub records: Seq<Record>,
-    /// The hub's last reply to each leaf that has one, by rising leaf. A leaf has none.
+    /// The hub's last replies to each leaf that has any, by rising leaf: at most [`WINDOW`](crate::WINDOW) to each, the
+    /// oldest first, to requests with numbers one after the other. A leaf has none.
     pub replies: Seq<Reply>,
     /// The number of the leaf's last request. The hub has 0.
     pub last_request: u32,
-    /// The leaf's change that is out, which has that number. The hub has none.
-    pub out: Option<Change>,
+    /// The leaf's requests that are out, by rising number. The last number is at most 7 above that of the first, so
+    /// that they are at most [`WINDOW`](crate::WINDOW). The hub has none.
+    pub out: Seq<Request>,
 }
 
 // By hand, so that this is proved once, and not in each function in which a base ends.
@@ -46,16 +46,7 @@ impl TryCopy for Base {
             records: self.records.copy(alloc)?,
             replies: self.replies.copy(alloc)?,
             last_request: self.last_request,
-            out: copy_of_out(alloc, &self.out)?,
+            out: self.out.copy(alloc)?,
         })
-    }
-}
-
-fn copy_of_out(alloc: Global, out: &Option<Change>) -> Result<Option<Change>, NoMemory>
-    ensures { IfOk result (λ twin. twin ≡ out.now) }
-{
-    match out {
-        Some(change) => Ok(Some(change.copy(alloc)?)),
-        None => Ok(None),
     }
 }

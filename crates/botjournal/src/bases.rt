@@ -1,21 +1,19 @@
 // Bases as bytes.
-ghost use Rattle.std.specs.Prelude.{◌≡◌, ◌++◌, IfOk, IfSome, OnOk, None};
-ghost use Rattle.std.specs.Int.{w16, w32};
-ghost use Rattle.userfile.specs.Apply.{bad_shape};
+ghost use Rattle.std.specs.Prelude.{◌≡◌, ◌++◌, IfOk, IfSome, OnOk};
 ghost use Rattle.botjournal.specs.declared.base.Base.{Base};
 ghost use Rattle.usercodec.specs.Answers.{Finds};
-ghost use Rattle.botjournal.specs.Bases.{base_bytes, out_bytes, base_in, IsGoodBase, HasShapes, HasShapeOut, IsBaseOf};
+ghost use Rattle.botjournal.specs.Bases.{base_bytes, base_in, IsGoodBase, HasShapes, IsBaseOf};
 ghost use Rattle.botjournal.specs.Bases.{base_bytes_by, IsGoodBaseBy, IsBaseBy, FindsBase, is_of_its_bot};
-ghost use Rattle.botjournal.specs.Bases.{out_at, out_from, parts_at, base_at};
-ghost use Rattle.botjournal.specs.declared.layouts.Layout.TheVariants.{Second};
+ghost use Rattle.botjournal.specs.Bases.{parts_at, base_at};
+ghost use Rattle.botjournal.specs.declared.layouts.Layout.TheVariants.{Third};
 
 use crate::base::Base;
-use crate::layouts::{Layout, change};
+use crate::layouts::Layout;
 use crate::lists::{put_records, put_replies, records, replies};
+use crate::requests::{out, put_requests};
 use bytetext::{Failure, NoMemory};
 use std::alloc::Global;
-use usercodec::{CodecError, CodecFault, Reader, put_change, put_u16, put_u32};
-use userfile::Change;
+use usercodec::{CodecError, CodecFault, Reader, put_u16, put_u32};
 
 /// The one spelling of a base.
 ///
@@ -39,23 +37,7 @@ fn put_base(out: &mut Vec<u8>, base: &Base) -> Result<(), NoMemory>
     put_records(out, base.records.as_slice())?;
     put_replies(out, base.replies.as_slice())?;
     put_u32(out, base.last_request)?;
-    put_out(out, &base.out)
-}
-
-fn put_out(bytes: &mut Vec<u8>, out: &Option<Change>) -> Result<(), NoMemory>
-    requires { HasShapeOut out.now }
-    ensures { OnOk result (bytes.new.items ≡ bytes.old.items ++ out_bytes out.now) }
-{
-    match out {
-        None => {
-            bytes.push(0)?;
-            Ok(())
-        }
-        Some(change) => {
-            bytes.push(1)?;
-            put_change(bytes, change)
-        }
-    }
+    put_requests(out, base.out.as_slice())
 }
 
 /// The base whose spelling these bytes are, all of them, where they are one's.
@@ -63,13 +45,13 @@ fn put_out(bytes: &mut Vec<u8>, out: &Option<Change>) -> Result<(), NoMemory>
 /// # Errors
 /// `NoMemory` where room for the base is refused.
 pub fn read_base(alloc: Global, bytes: &[u8]) -> Result<Option<Base>, NoMemory>
-    ensures exact { IfOk result (λ read. read ≡ base_in Second bytes.now) }
+    ensures exact { IfOk result (λ read. read ≡ base_in Third bytes.now) }
     // What is read is spelled by the bytes.
     ensures spelled { IfOk result (λ read. IsBaseOf bytes.now read) }
     // What is spelled is read.
     ensures only { (base : Base) → IsGoodBase base → bytes.now ≡ base_bytes base → FindsBase base result }
 {
-    read_base_by(alloc, Layout::Second, bytes)
+    read_base_by(alloc, Layout::Third, bytes)
 }
 
 /// The base whose spelling in this layout these bytes are, all of them, where they are one's.
@@ -123,9 +105,8 @@ fn parts(alloc: Global, layout: Layout, reader: &mut Reader<'_>) -> Result<Base,
     let bot = reader.u16()?;
     let version = reader.u32()?;
     let records = records(alloc, layout, reader)?;
-    let replies = replies(alloc, reader)?;
-    let last_request = reader.u32()?;
-    let out = out(alloc, layout, reader)?;
+    let replies = replies(alloc, layout, reader)?;
+    let (last_request, out) = out(alloc, layout, reader)?;
     Ok(Base {
         bot,
         version,
@@ -136,36 +117,12 @@ fn parts(alloc: Global, layout: Layout, reader: &mut Reader<'_>) -> Result<Base,
     })
 }
 
-#[tactic(auto, unfolding(crate::specs::Bases::out_at))]
-fn out(alloc: Global, layout: Layout, reader: &mut Reader<'_>) -> Result<Option<Change>, CodecError>
-    ensures { Finds (λ out. (out, reader.new)) result (out_at layout reader.old) }
-{
-    let byte = reader.byte()?;
-    out_of(alloc, layout, byte, reader)
-}
-
-#[tactic(auto, unfolding(crate::specs::Bases::out_from))]
-fn out_of(
-    alloc: Global,
-    layout: Layout,
-    byte: u8,
-    reader: &mut Reader<'_>,
-) -> Result<Option<Change>, CodecError>
-    ensures { Finds (λ out. (out, reader.new)) result (out_from layout byte reader.old) }
-{
-    match byte {
-        0 => Ok(None),
-        1 => Ok(Some(change(alloc, layout, reader)?)),
-        _ => Err(Failure::Refused(CodecFault::NotCanonical)),
-    }
-}
-
 // Whether what a base holds fits its bot: a leaf has no replies, and the hub no request.
 fn is_of_its_bot(base: &Base) -> bool
     ensures { result ≡ is_of_its_bot base.now }
 {
     if base.bot == 0 {
-        base.last_request == 0 && base.out.is_none()
+        base.last_request == 0 && base.out.is_empty()
     } else {
         base.replies.is_empty()
     }

@@ -9,7 +9,7 @@ ghost use Rattle.botjournal.specs.declared.entry.Entry.{Entry};
 ghost use Rattle.botjournal.specs.Entries.{entry_bytes, entry_in, IsGoodEntry, IsGoodEntryBy, HasShape, IsEntryOf, FindsEntry};
 ghost use Rattle.botjournal.specs.Entries.{entry_at, entry_fields_at, accepted_at, settled_at, applied_at};
 ghost use Rattle.botjournal.specs.Entries.{request_out_at, request_done_at};
-ghost use Rattle.botjournal.specs.declared.layouts.Layout.TheVariants.{Second};
+ghost use Rattle.botjournal.specs.declared.layouts.Layout.TheVariants.{Third};
 
 use crate::entry::Entry;
 use crate::layouts::{Layout, change};
@@ -86,13 +86,13 @@ fn put_numbered(out: &mut Vec<u8>, tag: u8, n: u32, change: &Change) -> Result<(
 /// # Errors
 /// `NoMemory` where room for the entry is refused.
 pub fn read_entry(alloc: Global, bytes: &[u8]) -> Result<Option<Entry>, NoMemory>
-    ensures exact { IfOk result (λ read. read ≡ entry_in Second bytes.now) }
+    ensures exact { IfOk result (λ read. read ≡ entry_in Third bytes.now) }
     // What is read is spelled by the bytes.
-    ensures spelled { IfOk result (λ read. IsEntryOf Second bytes.now read) }
+    ensures spelled { IfOk result (λ read. IsEntryOf Third bytes.now read) }
     // What is spelled is read.
     ensures only { (entry : Entry) → IsGoodEntry entry → bytes.now ≡ entry_bytes entry → FindsEntry entry result }
 {
-    read_entry_by(alloc, Layout::Second, bytes)
+    read_entry_by(alloc, Layout::Third, bytes)
 }
 
 /// The entry whose spelling in this layout these bytes are, all of them, where they are one's.

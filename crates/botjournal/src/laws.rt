@@ -9,7 +9,8 @@ ghost use Rattle.botjournal.specs.declared.base.Base.{Base};
 ghost use Rattle.botjournal.specs.Bases.{base_bytes, base_bytes_by, base_in, IsGoodBase, IsGoodBaseBy};
 ghost use Rattle.botjournal.specs.declared.entry.Entry.{Entry};
 ghost use Rattle.botjournal.specs.Entries.{entry_bytes, entry_in, IsGoodEntry, IsGoodEntryBy};
-ghost use Rattle.botjournal.specs.declared.layouts.Layout.TheVariants.{First, Second};
+ghost use Rattle.botjournal.specs.declared.layouts.Layout.{Layout};
+ghost use Rattle.botjournal.specs.declared.layouts.Layout.TheVariants.{Third};
 ghost use Rattle.botjournal.specs.declared.opening.Opened.{Opened};
 ghost use Rattle.botjournal.specs.Journal.{IsSound, Creates, Opens, Restarts};
 ghost use Rattle.botjournal.specs.Recovery.{Calls, IsJournal, FindsJournal};
@@ -19,19 +20,21 @@ use storage::Disk;
 /// The law of the spellings of entries. It does nothing: what it ensures holds of any entries.
 pub fn laws_of_entries()
     // Each entry is what its spelling reads as, so no two entries have one spelling.
-    ensures again { (entry : Entry) → IsGoodEntry entry → entry_in Second (entry_bytes entry) ≡ Some entry }
-    // So it is in layout 1, and what that spelled may be written.
-    ensures again_old { (entry : Entry) → IsGoodEntryBy First entry → entry_in First (entry_bytes entry) ≡ Some entry }
-    ensures writable { (entry : Entry) → IsGoodEntryBy First entry → IsGoodEntry entry }
+    ensures again { (entry : Entry) → IsGoodEntry entry → entry_in Third (entry_bytes entry) ≡ Some entry }
+    // So it is in each layout that is read, and what that spelled may be written.
+    ensures again_old { (layout : Layout) (entry : Entry) → IsGoodEntryBy layout entry
+        → entry_in layout (entry_bytes entry) ≡ Some entry }
+    ensures writable { (layout : Layout) (entry : Entry) → IsGoodEntryBy layout entry → IsGoodEntry entry }
 {}
 
 /// The law of the spellings of bases. It does nothing: what it ensures holds of any bases.
 pub fn laws_of_bases()
     // Each base is what its spelling reads as, so no two bases have one spelling.
-    ensures again { (base : Base) → IsGoodBase base → base_in Second (base_bytes base) ≡ Some base }
-    // So it is in layout 1, and what that spelled may be written.
-    ensures again_old { (base : Base) → IsGoodBaseBy First base → base_in First (base_bytes_by First base) ≡ Some base }
-    ensures writable { (base : Base) → IsGoodBaseBy First base → IsGoodBase base }
+    ensures again { (base : Base) → IsGoodBase base → base_in Third (base_bytes base) ≡ Some base }
+    // So it is in each layout that is read, and what that spelled may be written.
+    ensures again_old { (layout : Layout) (base : Base) → IsGoodBaseBy layout base
+        → base_in layout (base_bytes_by layout base) ≡ Some base }
+    ensures writable { (layout : Layout) (base : Base) → IsGoodBaseBy layout base → IsGoodBase base }
 {}
 
 /// The laws of a bot's journal that only this library writes. It does nothing: what it ensures holds of any disks.

@@ -13,8 +13,10 @@ use userfile::Change;
 pub(crate) enum Layout {
     /// The layout 1, which had no info texts and no sticky bans. Nothing is written in it any more.
     First,
-    /// The layout that is written.
+    /// The layout 2, which had one request out and one reply to a leaf. Nothing is written in it any more.
     Second,
+    /// The layout that is written.
+    Third,
 }
 
 /// The layout of this number, where it is one that is read.
@@ -23,7 +25,8 @@ pub(crate) fn layout_of(number: u8) -> Option<Layout>
 {
     match number {
         1 => Some(Layout::First),
-        LAYOUT => Some(Layout::Second),
+        2 => Some(Layout::Second),
+        LAYOUT => Some(Layout::Third),
         _ => None,
     }
 }
@@ -38,6 +41,7 @@ pub(crate) fn change(
     match layout {
         Layout::First => reader.change_old(alloc),
         Layout::Second => reader.change(alloc),
+        Layout::Third => reader.change(alloc),
     }
 }
 
@@ -52,5 +56,6 @@ pub(crate) fn so_many_records(
     match layout {
         Layout::First => reader.records_old(alloc, count),
         Layout::Second => reader.records(alloc, count),
+        Layout::Third => reader.records(alloc, count),
     }
 }

@@ -13,8 +13,9 @@
 //! if opened.whole { /* opened.base, opened.entries, and opened.journal to go on with */ }
 //! ```
 //!
-//! Each disk says in which layout its texts are spelled. [`LAYOUT`] is written; the layout before it is read too, and its
-//! journal takes no entry until another base is put in place, which is written in the new layout.
+//! Each disk says in which layout its texts are spelled. [`LAYOUT`] is written; the two layouts before it are read too, and
+//! their journals take no entry until another base is put in place, which is written in the new layout. Whatever an older
+//! layout spelled may be written in the new one.
 //!
 //! `NotAJournal` comes from disks that hold no journal of texts, and where a disk whose gate is open has a layout that
 //! isn't read, or a base or an entry that is the spelling of none, on the disk that counts or on the other one. It never comes from disks that `create` made and only
@@ -45,6 +46,8 @@ mod ledger;
 mod lists;
 mod opening;
 mod reply;
+mod request;
+mod requests;
 mod store;
 
 pub use crate::base::Base;
@@ -57,7 +60,12 @@ pub use crate::laws::{laws_of_bases, laws_of_entries, laws_of_journals};
 pub use crate::ledger::Ledger;
 pub use crate::opening::Opened;
 pub use crate::reply::{Answer, Reply};
+pub use crate::request::Request;
 
-/// The layout in which a journal is written: the byte after the letters on its disks. Layout 1, whose users have no info
-/// texts and whose bans aren't sticky, is read too; nothing is appended to a journal that has it.
-pub const LAYOUT: u8 = 2;
+/// The layout in which a journal is written: the byte after the letters on its disks. Layout 2, whose bases have at most one
+/// request out and one reply to each leaf, is read too, and so is layout 1, which has no info texts and no sticky bans
+/// either. Nothing is appended to a journal that has one of these.
+pub const LAYOUT: u8 = 3;
+
+/// How many requests of a leaf are out at most, and how many replies to a leaf are kept.
+pub const WINDOW: usize = 8;

@@ -1,13 +1,15 @@
 // Lists of records and replies, each after its count.
 ghost use Rattle.std.specs.Prelude.{◌≡◌, ◌++◌, ◌<◌, ◌^◌, OnOk, [], length, true};
-ghost use Rattle.std.specs.List.{AllByRecursion, flat_map};
-ghost use Rattle.std.specs.Int.{w16, w32};
+ghost use Rattle.std.specs.List.{AllByRecursion};
 ghost use Rattle.usercodec.specs.Answers.{Gives, Finds};
 ghost use Rattle.usercodec.specs.Fields.{number};
 ghost use Rattle.usercodec.specs.Records.{record_bytes, HasShape, items_at};
-ghost use Rattle.botjournal.specs.Bases.{listed, answer_bytes, reply_bytes, are_rising, rises_from};
+ghost use Rattle.botjournal.specs.Bases.{listed, answer_bytes, reply_bytes};
+ghost use Rattle.botjournal.specs.Bases.{are_rising, is_next_reply, may_follow, are_kept, are_kept_by};
+ghost use Rattle.botjournal.specs.declared.TheConstants.{WINDOW};
 ghost use Rattle.botjournal.specs.Bases.{answer_at, answer_from, reply_at, records_at, replies_at, replies_listed_at};
 
+use crate::WINDOW;
 use crate::layouts::{Layout, so_many_records};
 use crate::reply::{Answer, Reply};
 use bytetext::{Failure, NoMemory, Seq};
@@ -77,11 +79,15 @@ pub(crate) fn records(
 }
 
 #[tactic(auto, unfolding(crate::specs::Bases::replies_at))]
-pub(crate) fn replies(alloc: Global, reader: &mut Reader<'_>) -> Result<Seq<Reply>, CodecError>
-    ensures { Finds (λ replies. (replies, reader.new)) result (replies_at reader.old) }
+pub(crate) fn replies(
+    alloc: Global,
+    layout: Layout,
+    reader: &mut Reader<'_>,
+) -> Result<Seq<Reply>, CodecError>
+    ensures { Finds (λ replies. (replies, reader.new)) result (replies_at layout reader.old) }
 {
     let replies = listed_replies(alloc, reader)?;
-    if !rise(&replies) {
+    if !are_kept_by(layout, &replies) {
         return Err(Failure::Refused(CodecFault::NotCanonical));
     }
     Ok(Seq::new(replies))
@@ -148,6 +154,18 @@ fn answer_of(byte: u8, reader: &mut Reader<'_>) -> Result<Answer, CodecError>
     }
 }
 
+// ---- which replies a hub keeps
+
+fn are_kept_by(layout: Layout, replies: &[Reply]) -> bool
+    ensures { result ≡ are_kept_by layout replies.now }
+{
+    match layout {
+        Layout::First => rise(replies),
+        Layout::Second => rise(replies),
+        Layout::Third => are_kept(replies),
+    }
+}
+
 // Whether each reply is to a leaf above that of the reply before it.
 fn rise(replies: &[Reply]) -> bool
     ensures { result ≡ are_rising replies.now }
@@ -160,4 +178,40 @@ fn rise(replies: &[Reply]) -> bool
         least = reply.leaf as u32 + 1;
     }
     true
+}
+
+// Whether these are the last replies to each leaf, leaf by leaf.
+fn are_kept(replies: &[Reply]) -> bool
+    ensures { result ≡ are_kept replies.now }
+{
+    match replies {
+        [] => true,
+        [reply, rest @ ..] => may_follow(*reply, rest),
+    }
+}
+
+// Whether these replies may follow the first one to its leaf.
+fn may_follow(first: Reply, replies: &[Reply]) -> bool
+    ensures { result ≡ may_follow first 1 replies.now }
+{
+    let mut before = first;
+    let mut count = 1;
+    for reply in replies {
+        if before.leaf < reply.leaf {
+            count = 1;
+        } else if is_next_reply(before, *reply) && count < WINDOW {
+            count += 1;
+        } else {
+            return false;
+        }
+        before = *reply;
+    }
+    true
+}
+
+// Whether the second reply is to the first one's leaf, and to its next request.
+fn is_next_reply(first: Reply, second: Reply) -> bool
+    ensures { result ≡ is_next_reply first second }
+{
+    second.leaf == first.leaf && second.request as u64 == first.request as u64 + 1
 }

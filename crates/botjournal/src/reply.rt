@@ -1,4 +1,4 @@
-// The hub's kept reply to a leaf.
+// A reply to a leaf that the hub keeps.
 use bytetext::{NoMemory, TryCopy};
 use std::alloc::Global;
 use userfile::ChangeFault;
@@ -12,7 +12,7 @@ pub enum Answer {
     Refused(ChangeFault),
 }
 
-/// The hub's last reply to a leaf.
+/// One of the hub's last replies to a leaf.
 #[derive(Clone, Copy, Debug)]
 pub struct Reply {
     /// The leaf's number, from 1.
@@ -21,6 +21,17 @@ pub struct Reply {
     pub request: u32,
     /// What became of it.
     pub answer: Answer,
+}
+
+// What stands in the places that are not in use of a list with a fixed room.
+impl Default for Reply {
+    fn default() -> Reply {
+        Reply {
+            leaf: 0,
+            request: 0,
+            answer: Answer::Taken(0),
+        }
+    }
 }
 
 impl TryCopy for Reply {

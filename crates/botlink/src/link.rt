@@ -192,8 +192,8 @@ impl<D: Disk> BotLink<D> {
     }
 
     /// Does the next piece of work. The hub takes its oldest ask: `Accepted`, once that is journaled, with the change for
-    /// each leaf, or `Refused`, or `Idle`. A leaf says hello, and sends its request: `Sent`, once that is journaled, or
-    /// `Idle`.
+    /// each leaf, or `Refused`, or `Idle`. A leaf says hello, and sends the requests that are out, and a new one once that is
+    /// journaled: `Sent`, or `Idle`.
     ///
     /// # Errors
     /// `Down`; then `NumbersSpent`; then `NoMemory`; each leaves the bot as it was. `JournalFault` where a disk failed in

@@ -1,5 +1,5 @@
 -- When a leaf is to say hello.
-use Rattle.std.specs.Prelude.{ℕ, ◌+◌, ◌-◌, ◌^◌, min, nat_le, if◌then◌else◌}
+use Rattle.std.specs.Prelude.{ℕ, Bool, ◌+◌, ◌-◌, ◌^◌, ◌&&◌, min, nat_le, nat_lt, if◌then◌else◌}
 use Rattle.linkcalls.specs.declared.TheConstants.{HELLO_CHANGES}
 use Rattle.linkcalls.specs.declared.note.Note.{Note}
 use Rattle.linkcalls.specs.declared.note.Note.TheVariants.{Queued, Idle, Sent, Accepted, Refused, Served, Old, Repeat, Gap, Early, Applied, Kept, Installed, Compacted, Relayed, Text, Stray, Restarted}
@@ -12,15 +12,18 @@ later seconds now = min (now + seconds) (2 ^ 64 - 1)
 
 -- none was said
 abbrev pub begun : Pumps
-begun = record { due = 0; last = 0; version = 0 }
+begun = record { due = 0; last = 0; version = 0; request = 0 }
 
 -- one was said that told this version, and nothing is asked
-abbrev pub said : ℕ → ℕ → Pumps
-said version now = record { due = later REST now; last = now; version = version }
+abbrev pub said : ℕ → ℕ → Pumps → Pumps
+said version now pumps = record pumps { due = later REST now; last = now; version = version }
 
--- a request went with it
-abbrev pub sent : Pumps → Pumps
-sent pumps = record pumps { due = min pumps.due (later AGAIN pumps.last) }
+-- requests went with it, the newest of this number: at once where that one is new and more changes wait than are out
+abbrev pub sent : ℕ → Bool → Pumps → Pumps
+sent request more pumps = record pumps {
+  due = if more && nat_lt pumps.request request then 0 else min pumps.due (later AGAIN pumps.last);
+  request = request;
+}
 
 -- something is asked: not within the same second
 abbrev pub asked : Pumps → Pumps
@@ -34,23 +37,23 @@ answered pumps = record pumps { due = 0 }
 abbrev pub applied : ℕ → Pumps → Pumps
 applied version pumps = if nat_le HELLO_CHANGES (version - pumps.version) then answered pumps else pumps
 
--- a leaf's step notes this
-abbrev pub noted : Note → Pumps → Pumps
-noted Queued pumps = asked pumps
-noted Idle pumps = pumps
-noted (Sent request) pumps = sent pumps
-noted (Accepted number) pumps = answered pumps
-noted (Refused fault) pumps = answered pumps
-noted (Served count) pumps = pumps
-noted Old pumps = pumps
-noted Repeat pumps = pumps
-noted Gap pumps = pumps
-noted Early pumps = asked pumps
-noted (Applied version) pumps = applied version pumps
-noted (Kept part) pumps = pumps
-noted (Installed version) pumps = answered pumps
-noted Compacted pumps = pumps
-noted Relayed pumps = pumps
-noted (Text from text) pumps = pumps
-noted Stray pumps = pumps
-noted (Restarted version) pumps = pumps
+-- a leaf's step notes this, and more changes wait than are out or not
+abbrev pub noted : Note → Bool → Pumps → Pumps
+noted Queued more pumps = asked pumps
+noted Idle more pumps = pumps
+noted (Sent request) more pumps = sent request more pumps
+noted (Accepted number) more pumps = answered pumps
+noted (Refused fault) more pumps = answered pumps
+noted (Served count) more pumps = pumps
+noted Old more pumps = pumps
+noted Repeat more pumps = pumps
+noted Gap more pumps = pumps
+noted Early more pumps = asked pumps
+noted (Applied version) more pumps = applied version pumps
+noted (Kept part) more pumps = pumps
+noted (Installed version) more pumps = answered pumps
+noted Compacted more pumps = pumps
+noted Relayed more pumps = pumps
+noted (Text from text) more pumps = pumps
+noted Stray more pumps = pumps
+noted (Restarted version) more pumps = pumps

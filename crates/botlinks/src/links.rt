@@ -149,10 +149,10 @@ impl Links {
         }
     }
 
-    /// What a step of the link notes, for when a leaf is to say hello.
-    pub fn note(&mut self, note: &Note) {
+    /// What a step of the link notes, for when a leaf is to say hello, and whether more changes wait than are out.
+    pub fn note(&mut self, note: &Note, more: bool) {
         if let Links::Leaf(leaf) = self {
-            leaf.pumps.note(note);
+            leaf.pumps.note(note, more);
         }
     }
 

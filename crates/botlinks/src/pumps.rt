@@ -10,10 +10,10 @@ pub const REST: u64 = 30;
 /// How long it waits for what its hub answers to a request, in seconds.
 pub const AGAIN: u64 = 5;
 
-/// When a leaf is to say hello to its hub: when it is linked, or something is asked; when its request was answered; 5
-/// seconds after one went out; when it has applied 16 changes since the last hello, which are all that a hub answers to
-/// one; when a change came too early; and else each 30 seconds. But where its last hello came to something it says one
-/// a second at most.
+/// When a leaf is to say hello to its hub: when it is linked, or something is asked; when a request was answered; at once
+/// where a new one went out and more changes wait, and 5 seconds after any other that went out; when it has applied 16
+/// changes since the last hello, which are all that a hub answers to one; when a change came too early; and else each 30
+/// seconds. But where its last hello came to something it says one a second at most.
 #[derive(Clone, Copy)]
 pub struct Pumps {
     /// The second at which the next is due.
@@ -22,6 +22,8 @@ pub struct Pumps {
     pub last: u64,
     /// The version that the last one told.
     pub version: u32,
+    /// The number of the newest request that went out, 0 before any.
+    pub request: u32,
 }
 
 impl Pumps {
@@ -33,6 +35,7 @@ impl Pumps {
             due: 0,
             last: 0,
             version: 0,
+            request: 0,
         }
     }
 
@@ -45,20 +48,26 @@ impl Pumps {
 
     /// One was said at this second, which told this version.
     pub fn say(&mut self, version: u32, now: u64)
-        ensures { self.new ≡ said version now }
+        ensures { self.new ≡ said version now self.old }
     {
         *self = Pumps {
             due: now.saturating_add(REST),
             last: now,
             version,
+            request: self.request,
         };
     }
 
-    /// With it a request went out.
-    pub fn send(&mut self)
-        ensures { self.new ≡ sent self.old }
+    /// With it requests went out, the newest of this number, and more changes wait or none does.
+    pub fn send(&mut self, request: u32, more: bool)
+        ensures { self.new ≡ sent request more self.old }
     {
-        self.due = self.due.min(self.last.saturating_add(AGAIN));
+        if more && self.request < request {
+            self.due = 0;
+        } else {
+            self.due = self.due.min(self.last.saturating_add(AGAIN));
+        }
+        self.request = request;
     }
 
     /// Something is asked, or a change came too early: the next is due a second after the last.
@@ -84,12 +93,12 @@ impl Pumps {
         }
     }
 
-    /// What a leaf's step notes means for its hellos.
-    pub fn note(&mut self, note: &Note)
-        ensures { self.new ≡ noted note.now self.old }
+    /// What a leaf's step notes means for its hellos, and whether more changes wait than are out.
+    pub fn note(&mut self, note: &Note, more: bool)
+        ensures { self.new ≡ noted note.now more self.old }
     {
         match note {
-            Note::Sent(_) => self.send(),
+            Note::Sent(request) => self.send(*request, more),
             Note::Queued | Note::Early => self.ask(),
             Note::Accepted(_) | Note::Refused(_) | Note::Installed(_) => self.go_on(),
             Note::Applied(version) => self.apply(*version),

@@ -8,6 +8,7 @@ use crate::answers::of_change;
 use crate::asks::{Asker, Asks};
 use crate::entry::Entry;
 use crate::log::log;
+use crate::netting::requests_in;
 use crate::noticing::notice;
 use crate::operators::Operators;
 use crate::others::Others;
@@ -77,7 +78,8 @@ impl Others {
         if self.asks.len() > count {
             self.links.ask();
         }
-        note_all(&mut self.links, &mut self.asks, &report.note)?;
+        let more = self.asks.len() > requests_in(report.packets.as_slice());
+        note_all(&mut self.links, &mut self.asks, &report.note, more)?;
         log_layout(rt, report.end, now);
         if !settles {
             return Ok(());
@@ -138,15 +140,21 @@ fn log_layout<R: Print>(rt: &R, end: End, now: u64) {
     }
 }
 
-// What a leaf's link notes, for when it is to say hello, and for who has asked for what waits.
-fn note_all(links: &mut Links, asks: &mut Asks, note: &Option<Note>) -> Result<(), NoMemory>
+// What a leaf's link notes, for when it is to say hello, and for who has asked for what waits. Whether more changes wait
+// than are out is said too.
+fn note_all(
+    links: &mut Links,
+    asks: &mut Asks,
+    note: &Option<Note>,
+    more: bool,
+) -> Result<(), NoMemory>
     ensures asks { OnOk result (asks.new.askers.items ≡ noted asks.old.asker note.now asks.old.askers.items) }
     ensures asker { OnOk result (asks.new.asker ≡ asks.old.asker) }
 {
     let Some(Note::Link(note)) = note else {
         return Ok(());
     };
-    links.note(note);
+    links.note(note, more);
     if let linkcalls::Note::Queued = note {
         let asker = operator_if(asks.asker);
         asks.put(asker)?;

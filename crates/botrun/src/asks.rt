@@ -25,7 +25,8 @@ pub(crate) enum Asker {
     Person(Text),
 }
 
-// Who has asked for the changes that wait or are out, the oldest first. They are answered in this order.
+// Who has asked for the changes that wait or are out, the oldest first. They are answered in this order: a leaf has all that
+// is out go by rising number, and a connection keeps the order of requests and of their answers.
 #[derive(Drop)]
 pub(crate) struct Asks {
     askers: VecDeque<Asker>,
@@ -80,7 +81,7 @@ impl Asks {
     }
 
     // So many changes are asked for, and nobody waits for an answer.
-    fn put_many(&mut self, count: usize) -> Result<(), NoMemory>
+    pub(crate) fn put_many(&mut self, count: usize) -> Result<(), NoMemory>
         ensures last { OnOk result (self.new.askers.items ≡ self.old.askers.items ++ replicate count Nobody) }
         ensures same { self.new.asker ≡ self.old.asker }
     {

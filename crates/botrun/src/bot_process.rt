@@ -3,13 +3,12 @@ ghost use Rattle.std.specs.Prelude.{◌<◌, IfOk, length};
 ghost use Rattle.bytetext.specs.declared.moment.TheConstants.{MOMENTS_END};
 ghost use Rattle.botrun.specs.Stations.{IsKnownWhereWanted, IsLinkedAs};
 
-use crate::asks::Asker;
 use crate::bases::Bases;
 use crate::checking::check;
 use crate::ending::{RunError, of_folder};
 use crate::entry::Entry;
 use crate::log::log;
-use crate::netting::{is_out, keep_net, links_of, secret_of};
+use crate::netting::{count_out, keep_net, links_of, secret_of};
 use crate::operators::Operators;
 use crate::others::Others;
 use crate::process::{Process, Turned};
@@ -116,14 +115,15 @@ where
     }
 }
 
-// A change of an earlier run that is out is answered before all that are asked for in this one.
+// The changes of an earlier run that are out are answered before all that are asked for in this one.
 fn look_back<P: Promise, B: Run>(
     alloc: Global,
     process: &mut Process,
     store: &ProcStore<P, B>,
 ) -> Result<(), RunError> {
-    if process.others.links.is_leaf() && is_out(alloc, &mut process.bot, store)? {
-        process.others.asks.put(Asker::Nobody)?;
+    if process.others.links.is_leaf() {
+        let count = count_out(alloc, &mut process.bot, store)?;
+        process.others.asks.put_many(count)?;
     }
     Ok(())
 }

@@ -3,14 +3,16 @@ ghost use Rattle.std.specs.Prelude.{◌≡◌, ◌<◌, IfOk};
 ghost use Rattle.botrun.specs.Stations.{IsKnownWhereWanted, IsLinkedAs};
 
 use crate::ending::{RunError, of_folder};
-use botcore::{Bot, End, Event, Note};
+use botcore::{Bot, End, Event};
 use botfolder::BotFolder;
 use botlinks::{HubLinks, LeafLink, Links, ListenFault, SecretFault, key_of};
 use dialling::literal;
 use disks::FileDisk;
 use handshake::{Key, NetNumber};
+use linkcalls::Outgoing;
 use procstore::{ProcStore, Promise, Run};
 use settings::Settings;
+use sharewire::Packet;
 use sockets::{DoorFault, Registry};
 use std::alloc::Global;
 use std::fs::File;
@@ -143,23 +145,28 @@ fn listen_address(settings: &Settings) -> Option<SocketAddr> {
     }
 }
 
-// Whether a change of an earlier run of the bot is out, whose answer is still to come.
-pub(crate) fn is_out<P: Promise, B: Run>(
+// How many changes of an earlier run of a leaf are out, whose answers are still to come: a pump has each go out again, and
+// nothing waits yet.
+pub(crate) fn count_out<P: Promise, B: Run>(
     alloc: Global,
     bot: &mut Bot<FileDisk>,
     store: &ProcStore<P, B>,
-) -> Result<bool, RunError> {
+) -> Result<usize, RunError> {
     let report = bot.step(alloc, store, Event::Pump);
     match report.end {
         End::NoMemory => Err(RunError::NoMemory),
-        End::Done | End::Refused(_) => Ok(is_sent(&report.note)),
+        End::Done | End::Refused(_) => Ok(requests_in(report.packets.as_slice())),
     }
 }
 
-// Whether a pump had a request go out.
-fn is_sent(note: &Option<Note>) -> bool {
-    match note {
-        Some(Note::Link(linkcalls::Note::Sent(_))) => true,
-        Some(Note::Link(_) | Note::Bound(_) | Note::Unbound(_) | Note::Bad(_)) | None => false,
-    }
+// How many requests are among these packets: of a leaf's pump, all that are out.
+pub(crate) fn requests_in(packets: &[Outgoing]) -> usize {
+    packets
+        .iter()
+        .filter(|outgoing| is_request(&outgoing.packet))
+        .count()
+}
+
+fn is_request(packet: &Packet) -> bool {
+    matches!(packet, Packet::Request { .. })
 }

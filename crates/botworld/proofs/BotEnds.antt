@@ -17,11 +17,9 @@ use Rattle.protocol.specs.Claims.{IsFine as IsFineTold}
 use Rattle.protocol.proofs.Growing.{Grows-refl}
 use Rattle.linkcalls.specs.declared.answer.Answer.{Answer}
 use Rattle.linkcalls.specs.declared.answer.Outgoing.{Outgoing}
-use Rattle.linkcalls.specs.declared.note.Note.{Note as LinkNote}
-use Rattle.linkcalls.specs.declared.note.Note.TheVariants.{Gap}
 use Rattle.linkcalls.specs.declared.error.LinkFault.{LinkFault}
 use Rattle.linkcalls.specs.declared.error.LinkFault.TheVariants.{Down, BadChange, AsksFull, OtherLayout, Diverged, NumbersSpent, JournalFault, BadBotText, TextsFull, DiskFault}
-use Rattle.linkcalls.specs.Calls.{note_of, outgoing_of, outgoings_of, IsFault}
+use Rattle.linkcalls.specs.Calls.{outgoing_of, outgoings_of, IsFault}
 use Rattle.linkcalls.specs.Meets.{how_of, Answers, Refuses}
 use Rattle.linknet.specs.Ends.{End as LinkEnd, AtHub, AtLeaf, end_did}
 use Rattle.linknet.specs.Nets.{IsMoment, MovesAsTold, RowFollows}
@@ -34,7 +32,7 @@ use Rattle.botcore.specs.declared.report.Note.{Note}
 use Rattle.botcore.specs.declared.report.Note.TheVariants.{Link as link_note}
 use Rattle.botcore.specs.declared.report.Report.{Report}
 use Rattle.botcore.specs.Reports.{answer_report}
-use Rattle.botworld.specs.Network.{IsFineReport, GrowsByNote}
+use Rattle.botworld.specs.Network.{IsFineEnd, GrowsByNote}
 
 -- ---- lists
 
@@ -94,14 +92,14 @@ pub record LinkGoes (h : History) (all : List LinkEnd) (sent : List Sent) (place
   pub grows : Grows h after
   pub count : after.count ≡ h.count
   pub answers : AllOutgoing (IsKeptAnswer after.hub.kept) (outgoings_of packets)
-  pub fine : IsFineReport end note
+  pub fine : IsFineEnd end
   pub accepted : GrowsByNote place note h.hub.kept.accepted after.hub.kept.accepted
   pub number : new.number ≡ old.number
   pub leaves : new.leaves ≡ old.leaves
 
 module _ (h : History) (all : List LinkEnd) (sent : List Sent) (place : ℕ) (old : BotEnd) (among : IsAmong h all sent place old) where
   -- nothing is sent, and the end stays
-  pub stays : (end : End) (note : Option Note) (new : BotEnd) → IsFineReport end note
+  pub stays : (end : End) (note : Option Note) (new : BotEnd) → IsFineEnd end
       → GrowsByNote place note h.hub.kept.accepted h.hub.kept.accepted → new.end ≡ old.end → new.number ≡ old.number → new.leaves ≡ old.leaves
       → LinkGoes h all sent place old end note [] new
   stays end came new fine grows same number leaves =
@@ -121,12 +119,8 @@ module _ (h : History) (all : List LinkEnd) (sent : List Sent) (place : ℕ) (ol
 
   -- ---- a call of the link
 
-  fine_note : (note : LinkNote) → IsFineTold (Ok (note_of note)) → IsFineReport Done (Some (link_note note))
-  fine_note note fine = record {
-    same_layout = λ e. cc;
-    undiverged = λ e. cc;
-    no_gap = λ e. let same : note ≡ Gap = cc in subst (λ (n : LinkNote). IsFineTold (Ok (note_of n))) same fine;
-  }
+  fine_done : IsFineEnd Done
+  fine_done = record { same_layout = λ e. cc; undiverged = λ e. cc }
 
   -- a fault is told as it is meant
   record IsMeant (fault : LinkFault) (said : Result Meaning Meant) : Type 0 where
@@ -147,11 +141,10 @@ module _ (h : History) (all : List LinkEnd) (sent : List Sent) (place : ℕ) (ol
   meant TextsFull said e = absurd e
   meant DiskFault said e = record { meant = _; is = e; same_layout = λ fine f. cc; undiverged = λ fine f. cc }
 
-  fine_fault : (fault : LinkFault) → fault ≢ OtherLayout → fault ≢ Diverged → IsFineReport (refused_end (link_refusal fault)) None
+  fine_fault : (fault : LinkFault) → fault ≢ OtherLayout → fault ≢ Diverged → IsFineEnd (refused_end (link_refusal fault))
   fine_fault fault layout other = record {
     same_layout = λ e. layout (let same : fault ≡ OtherLayout = cc in same);
     undiverged = λ e. other (let same : fault ≡ Diverged = cc in same);
-    no_gap = λ e. cc;
   }
 
   -- what is answered
@@ -165,7 +158,7 @@ module _ (h : History) (all : List LinkEnd) (sent : List Sent) (place : ℕ) (ol
     grows = goes.grows;
     count = goes.count;
     answers = subst (AllOutgoing (IsKeptAnswer goes.after.hub.kept)) a.sends goes.answers;
-    fine = fine_note answer.note (subst IsFineTold a.told goes.fine);
+    fine = fine_done;
     accepted = subst (λ (t : Result Meaning Meant). MovesAsTold h.hub.kept.accepted goes.after.hub.kept.accepted place t) a.told goes.moves;
     number = number;
     leaves = leaves;
@@ -197,7 +190,7 @@ module _ (h : History) (all : List LinkEnd) (sent : List Sent) (place : ℕ) (ol
   no_memory_goes : (new : BotEnd) → new.end ≡ old.end → new.number ≡ old.number → new.leaves ≡ old.leaves
       → LinkGoes h all sent place old NoMemory None [] new
   no_memory_goes new same number leaves =
-      stays NoMemory None new (record { same_layout = λ e. cc; undiverged = λ e. cc; no_gap = λ e. cc }) refl same number leaves
+      stays NoMemory None new (record { same_layout = λ e. cc; undiverged = λ e. cc }) refl same number leaves
 
   -- a call, whose rows go on whatever the device does
   pub calls_go : (row : How → Row LinkEnd) (result : Result Answer (Failure LinkFault)) (new : BotEnd)
@@ -246,7 +239,7 @@ module _ (h : History) (all : List LinkEnd) (sent : List Sent) (place : ℕ) (ol
         grows = failed.grows;
         count = failed.count;
         answers = tt;
-        fine = record { same_layout = λ e. cc; undiverged = λ e. cc; no_gap = λ e. cc };
+        fine = record { same_layout = λ e. cc; undiverged = λ e. cc };
         accepted = refused_is_quiet why.0 place h.hub.kept.accepted failed.after.hub.kept.accepted
             (subst (λ (t : Result Meaning Meant). MovesAsTold h.hub.kept.accepted failed.after.hub.kept.accepted place t) why.1 failed.moves);
         number = c.number;

@@ -37,7 +37,7 @@ use Rattle.botcore.specs.Lines.{acting_of, acting_after, Finish, finish_text, fi
 use Rattle.botcore.specs.Reports.{plain, out_of_memory}
 use Rattle.botcore.specs.Steps.{Due, connect_due, bind_due, unbind_due, bind_to_go, asked_of, Gives, GivesCall, TakesCalls, text_note, TakesPacket}
 use Rattle.botcore.specs.Steps.{is_stale, run_to, TakesMoment, TakesReading, TakesStep}
-use Rattle.botworld.specs.Network.{IsFineReport, GrowsByNote}
+use Rattle.botworld.specs.Network.{IsFineEnd, GrowsByNote}
 use Rattle.botworld.proofs.BotEnds.{IsAmong, LinkGoes, Goes, stays, calls_go, ask_goes, restart_goes, did_row}
 use Rattle.botworld.proofs.Acts.{none_go, acts_go}
 
@@ -55,7 +55,7 @@ module _ (promised : Promised) (names : List (List ℕ))
   BotGoes report new = Goes h all sent place old.link among report new.link
 
   -- nothing is sent, and the end of the link stays
-  put_goes : (end : End) (note : Option Note) (new : Bot) → IsFineReport end note
+  put_goes : (end : End) (note : Option Note) (new : Bot) → IsFineEnd end
       → GrowsByNote place note h.hub.kept.accepted h.hub.kept.accepted → new.link ≡ old.link → BotGoes (plain end note) new
   put_goes end note new fine grows same =
       stays h all sent place old.link among end note new.link fine grows (ap (λ (b : BotEnd). b.end) same) (ap (λ (b : BotEnd). b.number) same)
@@ -66,7 +66,7 @@ module _ (promised : Promised) (names : List (List ℕ))
       subst (λ (z : Report). BotGoes z new) (sym e) (subst (λ (z : Bot). BotGoes r z) (sym f) goes)
 
   short_goes : BotGoes out_of_memory old
-  short_goes = put_goes NoMemory None old (record { same_layout = λ e. cc; undiverged = λ e. cc; no_gap = λ e. cc }) refl refl
+  short_goes = put_goes NoMemory None old (record { same_layout = λ e. cc; undiverged = λ e. cc }) refl refl
 
   -- what is due goes so, or memory ran out
   gives_goes : (Grows : Type 0) (due : Due) (report : Report) (new : Bot) → BotGoes due.report due.after
@@ -84,13 +84,13 @@ module _ (promised : Promised) (names : List (List ℕ))
   -- a call of the table of binds
   bind_goes : (asked : Asked) (r : Option BindFault) → BotGoes (bind_due old asked r).report (bind_due old asked r).after
   bind_goes asked None =
-      put_goes Done _ (bind_due old asked None).after (record { same_layout = λ e. cc; undiverged = λ e. cc; no_gap = λ e. cc }) refl refl
-  bind_goes asked (Some fault) = put_goes (Refused _) None old (record { same_layout = λ e. cc; undiverged = λ e. cc; no_gap = λ e. cc }) refl refl
+      put_goes Done _ (bind_due old asked None).after (record { same_layout = λ e. cc; undiverged = λ e. cc }) refl refl
+  bind_goes asked (Some fault) = put_goes (Refused _) None old (record { same_layout = λ e. cc; undiverged = λ e. cc }) refl refl
 
   unbind_goes : (gone : OldBind) (r : Option HeldBind) → BotGoes (unbind_due old gone r).report (unbind_due old gone r).after
-  unbind_goes gone None = put_goes (Refused _) None old (record { same_layout = λ e. cc; undiverged = λ e. cc; no_gap = λ e. cc }) refl refl
+  unbind_goes gone None = put_goes (Refused _) None old (record { same_layout = λ e. cc; undiverged = λ e. cc }) refl refl
   unbind_goes gone (Some bind) =
-      put_goes Done _ (unbind_due old gone (Some bind)).after (record { same_layout = λ e. cc; undiverged = λ e. cc; no_gap = λ e. cc }) refl refl
+      put_goes Done _ (unbind_due old gone (Some bind)).after (record { same_layout = λ e. cc; undiverged = λ e. cc }) refl refl
 
   -- a note of a step that accepts nothing
   abbrev IsQuietNote : Option Note → Type 0
@@ -101,7 +101,7 @@ module _ (promised : Promised) (names : List (List ℕ))
       → start.link.end ≡ old.link.end → start.link.number ≡ old.link.number → start.link.leaves ≡ old.link.leaves
       → before.link.end ≡ old.link.end → before.link.number ≡ old.link.number → before.link.leaves ≡ old.link.leaves
       → ((calls : List MadeCall) → (finish calls).after.link ≡ (acting_after start calls).link)
-      → IsQuietNote note → IsFineReport Done note
+      → IsQuietNote note → IsFineEnd Done
       → (end : End) → report.end ≡ end → TakesCalls end promised told before start note finish report new → BotGoes report new
   calls_goes told start before came finish report new ends numbers leaves before_ends before_numbers before_leaves finishes quiet fine Done e c =
       let first = none_go h all sent place old.link among (acting_of start) ends numbers leaves refl in
@@ -117,7 +117,7 @@ module _ (promised : Promised) (names : List (List ℕ))
         grows = goes.grows;
         count = goes.count;
         answers = subst (λ (os : List Outgoing). AllOutgoing (IsKeptAnswer goes.after.hub.kept) (outgoings_of os)) (sym c.packets) (goes.answers goes.after.hub.kept);
-        fine = subst (λ (x : End). IsFineReport x report.note) (sym e) (subst (IsFineReport Done) (sym c.note) fine);
+        fine = subst IsFineEnd (sym e) fine;
         accepted = subst (λ (n : Option Note). GrowsByNote place n h.hub.kept.accepted goes.after.hub.kept.accepted) (sym c.note)
             (quiet h.hub.kept.accepted goes.after.hub.kept.accepted goes.accepted);
         number = ap (λ (b : BotEnd). b.number) same ∙ goes.number;
@@ -126,7 +126,7 @@ module _ (promised : Promised) (names : List (List ℕ))
   calls_goes told start before came finish report new ends numbers leaves before_ends before_numbers before_leaves finishes quiet fine (Refused why) e c =
       absurd c
   calls_goes told start before came finish report new ends numbers leaves before_ends before_numbers before_leaves finishes quiet fine NoMemory e c =
-      let short = stays h all sent place old.link among NoMemory None new.link (record { same_layout = λ e. cc; undiverged = λ e. cc; no_gap = λ e. cc }) refl
+      let short = stays h all sent place old.link among NoMemory None new.link (record { same_layout = λ e. cc; undiverged = λ e. cc }) refl
       (ap (λ (b : Bot). b.link.end) c.after ∙ before_ends) (ap (λ (b : Bot). b.link.number) c.after ∙ before_numbers)
       (ap (λ (b : Bot). b.link.leaves) c.after ∙ before_leaves) in
       subst (λ (x : End). LinkGoes h all sent place old.link x report.note report.packets new.link) (sym e)
@@ -145,21 +145,21 @@ module _ (promised : Promised) (names : List (List ℕ))
   packet_goes packet report new goes None t = call_goes (took old.link packet) goes report new t
   packet_goes packet report new goes (Some saying) t =
       calls_goes _ (with_device old t.0) (with_device old t.0) (Some (text_note saying)) (finish_text (with_device old t.0)) report new
-      refl refl refl refl refl refl (λ calls. refl) (text_is_quiet saying) (record { same_layout = λ e. cc; undiverged = λ e. cc; no_gap = λ e. cc }) report.end refl t.2
+      refl refl refl refl refl refl (λ calls. refl) (text_is_quiet saying) (record { same_layout = λ e. cc; undiverged = λ e. cc }) report.end refl t.2
 
   -- a reading of the clock
   moment_goes : (now : ℕ) (report : Report) (new : Bot) → (stale : Bool) → TakesMoment stale promised names old now report new
       → BotGoes report new
   moment_goes now report new true t =
-      same_goes _ _ report new t.0 t.1 (put_goes Done None old (record { same_layout = λ e. cc; undiverged = λ e. cc; no_gap = λ e. cc }) refl refl)
+      same_goes _ _ report new t.0 t.1 (put_goes Done None old (record { same_layout = λ e. cc; undiverged = λ e. cc }) refl refl)
   moment_goes now report new false t =
       calls_goes _ (run_to old now) old None (finish_reading (run_to old now) now) report new refl refl refl refl refl refl (λ calls. refl)
-      no_note_is_quiet (record { same_layout = λ e. cc; undiverged = λ e. cc; no_gap = λ e. cc }) report.end refl t.2
+      no_note_is_quiet (record { same_layout = λ e. cc; undiverged = λ e. cc }) report.end refl t.2
 
   reading_goes : (now : ℕ) (report : Report) (new : Bot) → (fault : Option ClockFault) → TakesReading fault promised names old now report new
       → BotGoes report new
   reading_goes now report new (Some fault) t =
-      same_goes _ _ report new t.0 t.1 (put_goes (Refused _) None old (record { same_layout = λ e. cc; undiverged = λ e. cc; no_gap = λ e. cc }) refl refl)
+      same_goes _ _ report new t.0 t.1 (put_goes (Refused _) None old (record { same_layout = λ e. cc; undiverged = λ e. cc }) refl refl)
   reading_goes now report new None t = moment_goes now report new (is_stale old.clock now) t
 
   -- the packet of a delivery
@@ -173,12 +173,12 @@ module _ (promised : Promised) (names : List (List ℕ))
       → BotGoes report new
   bot_goes Connect report new was t =
       gives_goes _ _ report new
-      (put_goes Done None (connect_due old).after (record { same_layout = λ e. cc; undiverged = λ e. cc; no_gap = λ e. cc }) refl refl) report.end t
+      (put_goes Done None (connect_due old).after (record { same_layout = λ e. cc; undiverged = λ e. cc }) refl refl) report.end t
   bot_goes (Line (a_message message)) report new was t =
       calls_goes _ old old None (finish_line old message) report new refl refl refl refl refl refl (λ calls. refl) no_note_is_quiet
-      (record { same_layout = λ e. cc; undiverged = λ e. cc; no_gap = λ e. cc }) report.end refl t
+      (record { same_layout = λ e. cc; undiverged = λ e. cc }) report.end refl t
   bot_goes (Line (a_bad_line fault)) report new was t =
-      same_goes _ _ report new t.0 t.1 (put_goes Done _ old (record { same_layout = λ e. cc; undiverged = λ e. cc; no_gap = λ e. cc }) refl refl)
+      same_goes _ _ report new t.0 t.1 (put_goes Done _ old (record { same_layout = λ e. cc; undiverged = λ e. cc }) refl refl)
   bot_goes (Ask change) report new was t =
       subst (λ (r : Report). BotGoes r new) (sym t.report)
       (ask_goes h all sent place old.link among change t.answer new.link (did_row h all sent place old.link among (asks change) Works) t.met)

@@ -9,7 +9,7 @@ use Rattle.protocol.specs.Truth.{IsTrue, IsKeptAnswer, AllSent}
 use Rattle.protocol.specs.Claims.{Holds}
 use Rattle.protocol.specs.Network.{Net as LinkNet}
 use Rattle.linkcalls.specs.Calls.{note_of}
-use Rattle.linkcalls.specs.declared.note.Note.TheVariants.{Accepted, Gap}
+use Rattle.linkcalls.specs.declared.note.Note.TheVariants.{Accepted}
 use Rattle.linkcalls.specs.declared.error.LinkFault.TheVariants.{OtherLayout, Diverged}
 use Rattle.linknet.specs.Ends.{End as LinkEnd, end_asks}
 use Rattle.linknet.specs.Nets.{IsMoment, MovesAsTold, ends_of as ends_in}
@@ -163,14 +163,13 @@ AcceptsNext old step outcome new = (change : Change) (rest : List Change) → st
     → refusal (records_of (accepted_by old) (length (accepted_by old))) change ≡ None → IsDone outcome
     → HasNote outcome (link_note (Accepted (length (accepted_by old) + 1))) × (accepted_by new ≡ accepted_by old ++ own change ∷ [])
 
--- no bot meets another layout, no leaf finds that its records differ, and no request comes early
-pub record IsFineReport (end : End) (note : Option Note) : Type 0 where
+-- no bot meets another layout, and no leaf finds that its records differ
+pub record IsFineEnd (end : End) : Type 0 where
   pub same_layout : end ≢ Refused (link_refusal OtherLayout)
   pub undiverged : end ≢ Refused (link_refusal Diverged)
-  pub no_gap : note ≢ Some (link_note Gap)
 
 abbrev pub IsFine : Outcome → Type 0
-IsFine (reported report) = IsFineReport report.end report.note
+IsFine (reported report) = IsFineEnd report.end
 IsFine NoSuchBot = Unit {0}
 IsFine NoSuchPacket = Unit {0}
 
@@ -188,7 +187,7 @@ GrowsAsToldBy old (reported report) new = GrowsByNote report.bot report.note (ac
 GrowsAsToldBy old NoSuchBot new = accepted_by new ≡ accepted_by old
 GrowsAsToldBy old NoSuchPacket new = accepted_by new ≡ accepted_by old
 
--- each answer to a request that the step sends is the one that the hub keeps, the last one to its leaf
+-- each answer to a request that the step sends is one that the hub keeps, one of the last eight to its leaf
 abbrev pub AnswersAsKept : State → State → Type 0
 AnswersAsKept old new =
     (more : List Sent) × (new.net.packets ≡ old.net.packets ++ more) × AllSent (IsKeptAnswer new.links.hub.kept) (all_sent more)

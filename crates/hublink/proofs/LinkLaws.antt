@@ -1,6 +1,6 @@
 -- How a call stands to its row.
-use Rattle.std.proofs.Common.{◌≡◌, ◌+◌, ◌<◌, ◌^◌, ◌==◌, ℕ, true, false, nat_lt, List, Option, None, Some, is_some, Ok, refl, sym, ap, ◌∙◌, arith, eq-eqb}
-use Rattle.std.proofs.lemmas.Bool.{ne_eqb, eqb-true}
+use Rattle.std.proofs.Common.{◌≡◌, ◌⊎◌, ◌+◌, ◌<◌, ◌≤◌, ◌^◌, ◌==◌, ℕ, true, false, nat_lt, List, Option, None, Some, is_some, Ok, refl, sym, ap, inl, inr, ◌∙◌, arith, eq-eqb, lt-ltb}
+use Rattle.std.proofs.lemmas.Bool.{ne_eqb, eqb-true, cases_order}
 use Rattle.botjournal.specs.declared.reply.Reply.{Reply}
 use Rattle.std.proofs.lemmas.Bool.Decides.{nat_tests}
 use Rattle.protocol.specs.Notes.{Note}
@@ -8,7 +8,7 @@ use Rattle.protocol.specs.Packets.{Outgoing as Sent}
 use Rattle.protocol.specs.Bots.{How, Works, Fails, Row}
 use Rattle.protocol.specs.HubRules.{Hub, last_request, next_number}
 use Rattle.protocol.specs.Journals.{is_next_of}
-use Rattle.protocol.specs.Numbers.{Next, place_of}
+use Rattle.protocol.specs.Numbers.{Below, Same, Next, Above, place_of}
 use Rattle.linkcalls.specs.declared.answer.Answer.{Answer}
 use Rattle.linkcalls.specs.Calls.{note_of, outgoings_of}
 use Rattle.linkstate.specs.Ends.{LeavesIfCalled}
@@ -33,13 +33,30 @@ meets-answer old new row meaning sends answer is notes sent numbered same moment
 -- ---- where a number stands
 
 -- a leaf's next request has the number after the last
-pub next-settled : (last : Option (Option Reply)) (request : ℕ) → request < 2 ^ 32 → is_next_of last request ≡ true
-    → (is_some last ≡ true) × (next_number last < 2 ^ 32)
+pub next-settled : (place : Option (List Reply)) (request : ℕ) → request < 2 ^ 32 → is_next_of place request ≡ true
+    → (is_some place ≡ true) × (next_number place < 2 ^ 32)
 next-settled None request small next = absurd (cc)
-next-settled (Some last) request small next = (refl, omega (arith, eqb-true request (last_request last + 1) next, small))
+next-settled (Some kept) request small next = (refl, omega (arith, eqb-true request (last_request kept + 1) next, small))
+
+pub place-old : (number last : ℕ) → number ≤ last → (place_of number last ≡ Below) ⊎ (place_of number last ≡ Same)
+place-old number last le = by (cases_order number last)
+  where
+    by : (number ≡ last) ⊎ ((number < last) ⊎ (last < number)) → (place_of number last ≡ Below) ⊎ (place_of number last ≡ Same)
+    by (inl same) =
+        let test : nat_lt number last ≡ false = grind (arith, nat_tests, same) in
+        inr (rw (test, eq-eqb number last same) refl)
+    by (inr (inl below)) = inl (rw (lt-ltb number last below) refl)
+    by (inr (inr above)) = absurd (omega (arith, above, le))
 
 pub place-next : (number last : ℕ) → number ≡ last + 1 → place_of number last ≡ Next
 place-next number last next =
     let test : nat_lt number last ≡ false = grind (arith, nat_tests, next) in
     let other : (number == last) ≡ false = ne_eqb number last (λ same. absurd (omega (arith, same, next))) in
     rw (test, other, eq-eqb number (last + 1) next) refl
+
+pub place-above : (number last : ℕ) → last + 1 < number → place_of number last ≡ Above
+place-above number last far =
+    let test : nat_lt number last ≡ false = grind (arith, nat_tests, far) in
+    let other : (number == last) ≡ false = ne_eqb number last (λ same. absurd (omega (arith, same, far))) in
+    let apart : (number == (last + 1)) ≡ false = ne_eqb number (last + 1) (λ same. absurd (omega (arith, same, far))) in
+    rw (test, other, apart) refl

@@ -9,8 +9,6 @@ use Rattle.sharewire.specs.declared.packet.Packet.{Packet as WirePacket}
 use Rattle.sharewire.specs.declared.packet.Packet.TheVariants as wire
 use Rattle.protocol.specs.Packets.{Packet, Outgoing as Sent, AcceptedChange, from_wire, answer_packet, change_packet, to_each, numbered_from}
 use Rattle.protocol.specs.Packets.Packet.{Hello, Change, Request, Accepted, Refused, BotText, Part}
-use Rattle.botjournal.specs.declared.reply.Reply.{Reply}
-use Rattle.botjournal.specs.declared.reply.Answer.{Answer}
 use Rattle.botjournal.specs.declared.reply.Answer.TheVariants.{Taken, Refused as refused_request}
 use Rattle.protocol.specs.HubRules.{HubState, version_of, changes_from, parts_from}
 use Rattle.protocol.specs.Snapshots.{items_of, part_count, part_of}
@@ -18,7 +16,7 @@ use Rattle.linkcalls.specs.declared.answer.Outgoing.{Outgoing}
 use Rattle.linkcalls.specs.Calls.{outgoing_of, outgoings_of}
 use Rattle.linkcalls.specs.Shapes.{HasGoodRecords, AreGood}
 use Rattle.linkcalls.proofs.OutgoingLemmas.{outgoings-append}
-use Rattle.hublink.specs.Link.{told_before, told_accepted, repeated}
+use Rattle.hublink.specs.Link.{told_before, told_accepted}
 
 -- ---- one after another
 
@@ -218,19 +216,6 @@ pub goes-accepted : (leaves number : ℕ) (entry : AcceptedChange) (packets : Li
     → outgoings_of packets ≡ told_accepted leaves number entry → (length packets ≤ 1001) × AreGood packets
 goes-accepted leaves number entry packets few is =
     goes-plain packets (told_accepted leaves number entry) 1001 is (plain-accepted leaves number entry) (omega (arith, few-accepted leaves number entry, few))
-
-plain-answer : (leaf request : ℕ) (answer : Answer) → IsPlain (answer_packet leaf request answer)
-plain-answer leaf request (Taken number) = tt
-plain-answer leaf request (refused_request fault) = tt
-
-plain-repeated : (leaf request : ℕ) (last : Option Reply) → ArePlain (repeated leaf request last) × (length (repeated leaf request last) ≤ 1001)
-plain-repeated leaf request None = (tt, omega arith)
-plain-repeated leaf request (Some reply) = ((plain-answer leaf request reply.answer, tt), omega arith)
-
-pub goes-repeated : (leaf request : ℕ) (last : Option Reply) (packets : List Outgoing) → outgoings_of packets ≡ repeated leaf request last
-    → (length packets ≤ 1001) × AreGood packets
-goes-repeated leaf request last packets is =
-    goes-plain packets (repeated leaf request last) 1001 is (plain-repeated leaf request last).0 (plain-repeated leaf request last).1
 
 numbered-length : (leaf version : ℕ) (entries : List AcceptedChange) → length (numbered_from leaf version entries) ≡ length entries
 numbered-length leaf version [] = refl

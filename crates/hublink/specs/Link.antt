@@ -2,7 +2,6 @@
 use Rattle.std.specs.Prelude.{◌+◌, ℕ, zero, suc, Bool, true, false, List, [], ◌∷◌, ◌++◌, take, Option, None, Some, Result, Ok, Err}
 use Rattle.bytetext.specs.declared.failure.Failure.{Failure}
 use Rattle.userfile.specs.declared.change.Change.{Change}
-use Rattle.botjournal.specs.declared.reply.Reply.{Reply}
 use Rattle.botjournal.specs.declared.reply.Answer.TheVariants.{Taken}
 use Rattle.protocol.specs.Packets.{Outgoing, AcceptedChange, answer_packet, change_packet, to_each}
 use Rattle.protocol.specs.HubRules.{Hub, HubState, HubRecord, Rebase, version_of, accepts, hub_folded, changes_from, all_parts}
@@ -56,11 +55,6 @@ told_before (suc place) request number =
 abbrev pub told_accepted : ℕ → ℕ → AcceptedChange → List Outgoing
 told_accepted leaves number entry =
     told_before entry.origin entry.request number ++ to_each 1 leaves (change_packet number entry)
-
--- the reply that is kept, once more
-abbrev pub repeated : ℕ → ℕ → Option Reply → List Outgoing
-repeated leaf request None = []
-repeated leaf request (Some reply) = record { to = leaf; packet = answer_packet leaf request reply.answer } ∷ []
 
 -- what a hello is answered with, of a version below the floor or not
 abbrev pub hello_sends : HubState → ℕ → ℕ → Bool → List Outgoing

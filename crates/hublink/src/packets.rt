@@ -6,10 +6,10 @@ ghost use Rattle.protocol.specs.Packets.{from_wire, answer_packet, change_packet
 ghost use Rattle.protocol.specs.HubRules.{version_of, changes_from, all_parts};
 ghost use Rattle.protocol.specs.Snapshots.{items_of, part_count};
 ghost use Rattle.linkcalls.specs.Calls.{outgoing_of, outgoings_of};
-ghost use Rattle.linkcalls.specs.Shapes.{AreGood};
-ghost use Rattle.hublink.specs.Link.{told_before, told_accepted, repeated, hello_sends};
+ghost use Rattle.linkcalls.specs.Shapes.{HasGoodRecords, AreGood};
+ghost use Rattle.hublink.specs.Link.{told_before, told_accepted, hello_sends};
 
-use botjournal::{Answer, Reply};
+use botjournal::Answer;
 use bytetext::{NoMemory, Seq, TryCopy, copies_of};
 use linkcalls::{HELLO_CHANGES, Outgoing, Packet};
 use linkstate::{AcceptedChange, HubState};
@@ -18,7 +18,8 @@ use usercodec::Record;
 
 /// What a leaf is told of what became of its request. Takes no memory.
 pub(crate) fn reply_packet(leaf: u16, request: u32, answer: Answer) -> Outgoing
-    ensures { outgoing_of result ≡ record { to = leaf; packet = answer_packet leaf request answer } }
+    ensures packet { outgoing_of result ≡ record { to = leaf; packet = answer_packet leaf request answer } }
+    ensures good { HasGoodRecords result.packet }
 {
     let packet = match answer {
         Answer::Taken(number) => Packet::Accepted {
@@ -33,22 +34,6 @@ pub(crate) fn reply_packet(leaf: u16, request: u32, answer: Answer) -> Outgoing
         },
     };
     Outgoing { to: leaf, packet }
-}
-
-/// The reply that is kept, once more.
-pub(crate) fn repeat_packets(
-    alloc: Global,
-    leaf: u16,
-    request: u32,
-    last: Option<Reply>,
-) -> Result<Vec<Outgoing>, NoMemory>
-    ensures packets { IfOk result (λ packets. outgoings_of packets.items ≡ repeated leaf request last) }
-    ensures some { OnErr result (0 < length (repeated leaf request last)) }
-{
-    match last {
-        Some(reply) => Ok(vec![in alloc; reply_packet(leaf, request, reply.answer)]?),
-        None => Ok(Vec::new(alloc)),
-    }
 }
 
 /// What goes out where a change is accepted under this number: the reply to the leaf that asked for it, and the change to

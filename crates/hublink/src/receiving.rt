@@ -1,7 +1,7 @@
 // What a hub makes of a packet.
 use crate::accepting::accept;
 use crate::link::HubLink;
-use crate::packets::{hello_packets, repeat_packets, reply_packet};
+use crate::packets::{hello_packets, reply_packet};
 use botjournal::{Answer as Outcome, LAYOUT, Reply};
 use bytetext::{Failure, Seq, Text, TryCopy};
 use linkcalls::{Answer, LinkError, LinkFault, Note, Packet, text_by};
@@ -14,8 +14,9 @@ impl<D: Disk> HubLink<D> {
     ghost use Rattle.std.specs.Prelude.{◌≡◌, ◌+◌, ◌||◌, true, false, nat_lt};
     ghost use Rattle.protocol.specs.Packets.{from_wire};
     ghost use Rattle.protocol.specs.Packets.Packet.{Hello as hello_packet, Request as request_packet, BotText as text_packet};
-    ghost use Rattle.protocol.specs.Numbers.{item_at, place_of};
-    ghost use Rattle.protocol.specs.HubRules.{version_of, is_no_leaf, hello_met, hub_received, hub_received_up, request_placed, next_request, last_request};
+    ghost use Rattle.userfile.specs.Apply.{refusal};
+    ghost use Rattle.protocol.specs.Numbers.{item_at};
+    ghost use Rattle.protocol.specs.HubRules.{version_of, is_no_leaf, hello_met, hub_received, hub_received_up, repeats, next_request};
     ghost use Rattle.protocol.specs.Journals.{is_next_of};
     ghost use Rattle.linkcalls.specs.declared.TheConstants.{MAX_LEAVES};
     ghost use Rattle.linkcalls.specs.Shapes.{GoOut};
@@ -26,9 +27,9 @@ impl<D: Disk> HubLink<D> {
     ///
     /// - A hello of a leaf, at a version that the hub has, is `Served`: with the changes that follow, at most 16, or with
     ///   all records in parts where those changes are no longer kept one by one.
-    /// - A leaf's request is `Old` below the last one, `Repeat` where it is the last one, whose reply goes out again, and
-    ///   `Gap` where one before it is missing. Else it is `Refused`, which is journaled and told to the leaf, or
-    ///   `Accepted`, which is journaled, told to the leaf, and goes to each leaf as a change.
+    /// - A leaf's request that was replied to is `Repeat` where that reply is one of the last eight, and it goes out again;
+    ///   else it is `Old`. It is `Gap` where one before it is missing. A next request is `Refused`, which is journaled and
+    ///   told to the leaf, or `Accepted`, which is journaled, told to the leaf, and goes to each leaf as a change.
     /// - A text of a bot of the net is `Text` where it is for the hub, and `Relayed` to the leaf that it is for.
     /// - Any other packet is `Stray`.
     ///
@@ -157,42 +158,54 @@ impl<D: Disk> HubLink<D> {
         if request == 0 {
             return Ok(Answer::only(alloc, Note::Stray));
         }
-        match self.kept.state().reply_of(leaf) {
-            Some(last) => self.place_request(alloc, leaf, request, change, last),
-            None => Ok(Answer::only(alloc, Note::Stray)),
+        let Some(kept) = self.kept.state().replies_to(leaf) else {
+            return Ok(Answer::only(alloc, Note::Stray));
+        };
+        let last = kept.last_request();
+        if request <= last {
+            return self.answer_again(alloc, leaf, request, kept.reply_to(request));
         }
+        if request - last > 1 {
+            return Ok(Answer::only(alloc, Note::Gap));
+        }
+        self.receive_next(alloc, leaf, request, change)
     }
 
-    // Takes a request by where its number stands to that of the last reply.
-    fn place_request(
+    // Answers a request that was replied to: with that reply, where it is still kept.
+    fn answer_again(
+        &self,
+        alloc: Global,
+        leaf: u16,
+        request: u32,
+        reply: Option<Reply>,
+    ) -> Result<Answer, LinkError>
+        ensures row { Calls self.now (λ how. repeats self.now.leaves how self.now.bot leaf request reply) result self.now }
+        ensures packets { GoOut (MAX_LEAVES + 1) result }
+    {
+        let Some(reply) = reply else {
+            return Ok(Answer::only(alloc, Note::Old));
+        };
+        let reply = reply_packet(leaf, request, reply.answer);
+        Ok(Answer {
+            note: Note::Repeat,
+            packets: Seq::new(vec![in alloc; reply]?),
+        })
+    }
+
+    // Takes a leaf's next request.
+    fn receive_next(
         &mut self,
         alloc: Global,
         leaf: u16,
         request: u32,
         change: &Change,
-        last: Option<Reply>,
     ) -> Result<Answer, LinkError>
         requires up { self.old.bot.down ≡ false }
-        requires last { item_at self.old.bot.kept.replies leaf ≡ Some last }
-        requires one { nat_lt 0 request ≡ true }
-        ensures row { Calls self.old (λ how. request_placed self.old.leaves how self.old.bot leaf request change.now last
-            (place_of request (last_request last))) result self.new }
+        requires next { is_next_of (item_at self.old.bot.kept.replies leaf) request ≡ true }
+        ensures row { Calls self.old (λ how. next_request self.old.leaves how self.old.bot leaf request change.now
+            (refusal self.old.bot.kept.records change.now)) result self.new }
         ensures packets { GoOut (MAX_LEAVES + 1) result }
     {
-        let number = last_request(last);
-        if request < number {
-            return Ok(Answer::only(alloc, Note::Old));
-        }
-        if request == number {
-            let packets = repeat_packets(alloc, leaf, request, last)?;
-            return Ok(Answer {
-                note: Note::Repeat,
-                packets: Seq::new(packets),
-            });
-        }
-        if request - 1 > number {
-            return Ok(Answer::only(alloc, Note::Gap));
-        }
         match self.kept.state().userfile().refusal_of(change) {
             Some(fault) => self.refuse_request(alloc, leaf, request, fault),
             None => accept(alloc, &mut self.kept, leaf, request, change),
@@ -221,18 +234,5 @@ impl<D: Disk> HubLink<D> {
             }),
             Err(error) => Err(error),
         }
-    }
-}
-
-ghost use Rattle.std.specs.Prelude.{◌≡◌};
-ghost use Rattle.protocol.specs.HubRules.{last_request};
-
-// The number of the last request that was replied to.
-fn last_request(reply: Option<Reply>) -> u32
-    ensures { result ≡ last_request reply }
-{
-    match reply {
-        Some(reply) => reply.request,
-        None => 0,
     }
 }

@@ -1,4 +1,5 @@
 mod LinkLaws
+mod PumpLaws
 mod InstallLaws
 mod PartLaws
 mod TogetherLaws

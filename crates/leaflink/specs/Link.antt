@@ -1,26 +1,30 @@
 -- A leaf's end of the link as contracts see it, and how its calls stand to the protocol's.
-use Rattle.std.specs.Prelude.{◌≤◌, ℕ, List, take, Result}
+use Rattle.std.specs.Prelude.{◌≤◌, ℕ, List, [], ◌∷◌, take, Result}
 use Rattle.std.specs.List.{AllByRecursion}
 use Rattle.userfile.specs.declared.change.Change.{Change}
 use Rattle.usercodec.specs.Changes.{IsGoodChange}
 use Rattle.usercodec.specs.declared.records.Record.{Record}
 use Rattle.sharewire.specs.declared.packet.Packet.{Packet}
+use Rattle.sharewire.specs.declared.packet.Packet.TheVariants as wire
+use Rattle.botjournal.specs.declared.TheConstants.{LAYOUT}
+use Rattle.botjournal.specs.declared.request.Request.{Request}
 use Rattle.botjournal.specs.declared.reply.Answer.{Answer as Outcome}
 use Rattle.botjournal.specs.declared.reply.Answer.TheVariants.{Taken, Refused as refused_request}
 use Rattle.protocol.specs.Numbers.{place_of}
 use Rattle.protocol.specs.Packets.{from_wire}
 use Rattle.protocol.specs.Packets.Packet.{BotText, Part}
 use Rattle.protocol.specs.Notes.{Note}
-use Rattle.protocol.specs.Notes.Note.{Accepted, Refused as RefusedFor}
+use Rattle.protocol.specs.Notes.Note.{Idle, Sent, Accepted, Refused as RefusedFor}
 use Rattle.protocol.specs.Bots.{How, Row, unless_down}
 use Rattle.protocol.specs.HubRules.{text_told}
-use Rattle.protocol.specs.LeafRules.{Leaf, LeafState, LeafRecord, Compact, LeafLoose, leaf_asked, leaf_pumped, leaf_pumped_up, leaf_received, leaf_received_up, change_placed, reply_received, part_taken, leaf_compacted, leaf_restarted, leaf_folded}
+use Rattle.protocol.specs.LeafRules.{Leaf, LeafState, LeafRecord, Compact, LeafLoose, highest, leaf_asked, sent_again, leaf_pumped, leaf_pumped_up, leaf_received, leaf_received_up, change_placed, reply_received, part_taken, leaf_compacted, leaf_restarted, leaf_folded}
 use Rattle.protocol.specs.Journals.{leaf_meaning}
 use Rattle.protocol.specs.Snapshots.{set_for, with_part}
 use Rattle.linkcalls.specs.declared.TheConstants.{MAX_LEAVES}
 use Rattle.linkstate.specs.Records.{LeafMayWrite}
 use Rattle.linkstate.specs.Kept.{Kept, AreOf, Renews}
 use Rattle.linkcalls.specs.declared.answer.Answer.{Answer as Reply}
+use Rattle.linkcalls.specs.declared.answer.Outgoing.{Outgoing}
 use Rattle.linkcalls.specs.declared.error.LinkFault.{LinkFault}
 use Rattle.bytetext.specs.declared.failure.Failure.{Failure}
 use Rattle.linkstate.specs.Ends.{End, end_of, Calls as EndCalls, CallsRestart as EndRestarts}
@@ -69,6 +73,10 @@ module _ (leaf : LeafEnd) where
   abbrev pub pumped_up : How → Row Leaf
   pumped_up how = leaf_pumped_up leaf.leaves leaf.number how leaf.bot leaf.bot.kept.out leaf.bot.loose.waiting
 
+  -- of what is out
+  abbrev pub sent_again_at : How → Row Leaf
+  sent_again_at how = sent_again leaf.leaves leaf.number how leaf.bot leaf.bot.kept.out
+
   abbrev pub received : Packet → How → Row Leaf
   received packet how = leaf_received leaf.leaves leaf.number how leaf.bot (from_wire packet)
 
@@ -113,6 +121,24 @@ pub record IsLink (leaves number : ℕ) (waiting : List Change) : Type 0 where
   pub numbered : number ≤ leaves
   pub few : leaves ≤ MAX_LEAVES
   pub good : AllByRecursion IsGoodChange waiting
+
+-- ---- what is sent
+
+-- a hello, and a request, to the hub
+abbrev pub hello_packet : ℕ → ℕ → Outgoing
+hello_packet leaf version = record { to = 0; packet = wire.Hello LAYOUT leaf version }
+
+abbrev pub request_packet : ℕ → ℕ → Change → Outgoing
+request_packet leaf request change = record { to = 0; packet = wire.Request leaf request change }
+
+abbrev pub request_packets : ℕ → List Request → List Outgoing
+request_packets leaf [] = []
+request_packets leaf (request ∷ requests) = request_packet leaf request.number request.change ∷ request_packets leaf requests
+
+-- the note of requests that go out again
+abbrev pub again_note : List Request → Note
+again_note [] = Idle
+again_note (request ∷ requests) = Sent (highest (request ∷ requests))
 
 -- the note of a reply
 abbrev pub reply_note : Outcome → Note

@@ -1,8 +1,8 @@
 //! A leaf's end of the sharing link, over a journal.
 //!
 //! A [`LeafLink`] follows the hub: it applies the change numbered one above its version and no other, or puts a whole
-//! set of records in place where it was too far behind. It asks the hub for changes too, one at a time, and asks again
-//! until it is answered. What it promised outlives a restart: each change that it applies, and each request that it
+//! set of records in place where it was too far behind. It asks the hub for changes too, up to eight at a time, and asks
+//! again until it is answered. What it promised outlives a restart: each change that it applies, and each request that it
 //! sends, is in its journal first.
 //!
 //! The journal stands on two disks that may fail. After such a fault the link is down: it shows what it showed, and
@@ -19,6 +19,7 @@
 #![tactic(auto)]
 
 mod link;
+mod packets;
 mod parts;
 mod receiving;
 mod walk;

@@ -1,15 +1,9 @@
 // A leaf's end of the link.
-ghost use Rattle.std.specs.Prelude.{◌≡◌, ◌∷◌, [], IfOk, IfErr};
-ghost use Rattle.bytetext.specs.declared.failure.Failure.TheVariants.{NoMemory as no_memory};
-ghost use Rattle.botjournal.specs.declared.TheConstants.{LAYOUT};
-
+use crate::packets::{again_note, hello_and_requests, request_packet};
 use crate::parts::KeptParts;
-use botjournal::LAYOUT;
 use bytejournal::{Disks, Returned};
-use bytetext::{Failure, NoMemory, Seq, Text, TryCopy, refuse};
-use linkcalls::{
-    Answer, LinkError, LinkFault, MAX_ASKS, Note, Outgoing, Outgoings, Packet, text_by, text_fault,
-};
+use bytetext::{Failure, Seq, TryCopy, refuse};
+use linkcalls::{Answer, LinkError, LinkFault, MAX_ASKS, Note, Outgoing, text_by, text_fault};
 use linkstate::{Kept, LeafRecord, LeafState, know_change};
 use std::alloc::Global;
 use std::collections::VecDeque;
@@ -17,7 +11,7 @@ use std::marker::Model;
 use storage::Disk;
 use userfile::{Change, Userfile, shape};
 
-/// A leaf's end: its userfile at a version, the asks that wait, with room for all of them, the request that is out, and
+/// A leaf's end: its userfile at a version, the asks that wait, with room for all of them, the requests that are out, and
 /// the journal.
 pub struct LeafLink<D: Disk> {
     pub(crate) leaves: u16,
@@ -56,18 +50,20 @@ impl<D: Disk> Model for LeafLink<D> {
 }
 
 impl<D: Disk> LeafLink<D> {
-    ghost use Rattle.std.specs.Prelude.{◌≡◌, ◌≢◌, ◌<◌, ◌≤◌, [], length, Err, IfOk, OnErr, None, false};
+    ghost use Rattle.std.specs.Prelude.{◌≡◌, ◌≢◌, ◌<◌, ◌≤◌, ◌+◌, [], length, Err, IfOk, OnErr, true, false};
+    ghost use Rattle.bytetext.specs.declared.failure.Failure.TheVariants.{NoMemory as no_memory};
     ghost use Rattle.storage.specs.State.{IsSettled};
+    ghost use Rattle.botjournal.specs.declared.TheConstants.{WINDOW};
     ghost use Rattle.linkcalls.specs.declared.TheConstants.{MAX_LEAVES};
     ghost use Rattle.protocol.specs.Journals.{leaf_meaning};
-    ghost use Rattle.protocol.specs.LeafRules.{no_loose, leaf_folded};
+    ghost use Rattle.protocol.specs.LeafRules.{no_loose, may_go_out, leaf_folded};
     ghost use Rattle.protocol.specs.Network.{new_leaf};
     ghost use Rattle.botjournal.specs.Ledger.{AreStill};
     ghost use Rattle.linkstate.specs.Kept.{MayLeave};
     ghost use Rattle.linkstate.specs.Opening.{AreCurrent};
     ghost use Rattle.linkstate.specs.Ends.{Creates, Opens, OpensAtEachMoment};
     ghost use Rattle.linkcalls.specs.Shapes.{GoOut};
-    ghost use Rattle.leaflink.specs.Link.{Calls, CallsRestart, RenewsLeaf, asked, keeps_asks, pumped, pumped_up, compacted, restarted, told};
+    ghost use Rattle.leaflink.specs.Link.{Calls, CallsRestart, RenewsLeaf, asked, keeps_asks, pumped, pumped_up, sent_again_at, compacted, restarted, told};
     ghost use Rattle.linkcalls.specs.Texts.{Sends};
 
     /// The leaf of this number, from 1 to the number of leaves, before the first change. What the disks held is lost.
@@ -214,57 +210,71 @@ impl<D: Disk> LeafLink<D> {
     }
 
     /// Says hello to the hub, with the layout of the journal and the version that the leaf is at, and asks it for what is
-    /// asked here. Where a request is out it goes again, and else the oldest ask goes under the next number, once that is
-    /// journaled: `Sent` with the number. Where nothing is asked: `Idle`, and the hello alone.
+    /// asked here. All requests that are out go again, by rising number. Then the oldest ask goes under the next number,
+    /// once that is journaled, where this number is less than eight above the lowest that is out. `Sent` with the highest
+    /// number that is sent, or `Idle` where it is the hello alone.
     ///
     /// # Errors
-    /// `Down`; then `NumbersSpent` after request 4,294,967,295, where the ask still waits; then `NoMemory`; each leaves
-    /// the leaf as it was. `JournalFault` where a disk failed in this call: the leaf is down, and the request is in
-    /// doubt.
+    /// `Down`; then `NumbersSpent` after request 4,294,967,295 where an ask waits and nothing is out; then `NoMemory`; each
+    /// leaves the leaf as it was. `JournalFault` where a disk failed in this call: the leaf is down, the request is in
+    /// doubt, and nothing is sent.
     pub fn pump(&mut self, alloc: Global) -> Result<Answer, LinkError>
         ensures row { Calls self.old (pumped self.old) result self.new }
-        ensures few { GoOut 2 result }
+        ensures few { GoOut (WINDOW + 1) result }
     {
         if self.kept.is_down() {
             return Err(Failure::Refused(LinkFault::Down));
         }
-        match self.kept.state().out() {
-            Some(change) => again(alloc, self.kept.who(), self.kept.state(), change),
-            None => self.pump_ask(alloc),
+        if self.kept.state().may_go_out() {
+            return self.pump_ask(alloc);
         }
-    }
-
-    // Lets the oldest ask go out.
-    fn pump_ask(&mut self, alloc: Global) -> Result<Answer, LinkError>
-        requires up { self.old.bot.down ≡ false }
-        requires free { self.old.bot.kept.out ≡ None }
-        ensures row { Calls self.old (pumped_up self.old) result self.new }
-        ensures few { GoOut 2 result }
-    {
-        let number = self.kept.who();
-        let version = self.kept.state().version();
-        let Some(change) = self.waiting.front() else {
-            return Ok(Answer {
-                note: Note::Idle,
-                packets: Seq::new(vec![in alloc; hello(number, version)]?),
-            });
-        };
-        let last = self.kept.state().last_request();
-        if last == u32::MAX {
+        if !self.waiting.is_empty() && self.kept.state().out().is_empty() {
             return Err(Failure::Refused(LinkFault::NumbersSpent));
         }
-        let packets = hello_and_request(alloc, number, version, last + 1, change)?;
+        self.send_again(alloc)
+    }
+
+    // Lets the oldest ask go out, after what is out.
+    fn pump_ask(&mut self, alloc: Global) -> Result<Answer, LinkError>
+        requires up { self.old.bot.down ≡ false }
+        requires may { may_go_out self.old.bot.kept.last self.old.bot.kept.out ≡ true }
+        ensures row { Calls self.old (pumped_up self.old) result self.new }
+        ensures few { GoOut (WINDOW + 1) result }
+    {
+        let Some(change) = self.waiting.front() else {
+            return self.send_again(alloc);
+        };
+        self.kept.know_state();
+        let leaf = self.kept.who();
+        let state = self.kept.state();
+        let request = state.last_request() + 1;
+        let mut packets = hello_and_requests(alloc, leaf, state.version(), state.out())?;
+        packets.push(request_packet(alloc, leaf, request, change)?)?;
         let out = LeafRecord::out(change.copy(alloc)?);
         match self.kept.journal(alloc, out) {
             Ok(()) => {
                 let _ = self.waiting.pop_front();
                 Ok(Answer {
-                    note: Note::Sent(last + 1),
-                    packets,
+                    note: Note::Sent(request),
+                    packets: Seq::new(packets),
                 })
             }
             Err(error) => Err(error),
         }
+    }
+
+    // Sends a hello, and what is out once more.
+    fn send_again(&self, alloc: Global) -> Result<Answer, LinkError>
+        ensures row { Calls self.now (sent_again_at self.now) result self.now }
+        ensures few { GoOut (WINDOW + 1) result }
+    {
+        self.kept.know_state();
+        let state = self.kept.state();
+        let packets = hello_and_requests(alloc, self.kept.who(), state.version(), state.out())?;
+        Ok(Answer {
+            note: again_note(state.out()),
+            packets: Seq::new(packets),
+        })
     }
 
     /// A text to another bot, which the caller is to send to the hub, where its step has sent so many so far. The leaf
@@ -351,57 +361,4 @@ impl<D: Disk> LeafLink<D> {
         } = self;
         kept.into_disks()
     }
-}
-
-// A hello and the request that is out.
-fn again(alloc: Global, leaf: u16, state: &LeafState, change: &Change) -> Result<Answer, LinkError>
-    ensures told { IfOk result (λ answer. answer ≡ record {
-      note = Note.Sent state.now.last;
-      packets = record { to = 0; packet = Packet.Hello LAYOUT leaf state.now.version }
-          ∷ record { to = 0; packet = Packet.Request leaf state.now.last change.now } ∷ [];
-    }) }
-    ensures memory { IfErr result (λ error. error ≡ no_memory) }
-{
-    let request = state.last_request();
-    let packets = hello_and_request(alloc, leaf, state.version(), request, change)?;
-    Ok(Answer {
-        note: Note::Sent(request),
-        packets,
-    })
-}
-
-// A hello, to the hub.
-fn hello(leaf: u16, version: u32) -> Outgoing
-    ensures { result ≡ record { to = 0; packet = Packet.Hello LAYOUT leaf version } }
-{
-    Outgoing {
-        to: 0,
-        packet: Packet::Hello {
-            layout: LAYOUT,
-            leaf,
-            version,
-        },
-    }
-}
-
-// A hello and a request, to the hub.
-fn hello_and_request(
-    alloc: Global,
-    leaf: u16,
-    version: u32,
-    request: u32,
-    change: &Change,
-) -> Result<Outgoings, NoMemory>
-    ensures { IfOk result (λ packets. packets ≡ record { to = 0; packet = Packet.Hello LAYOUT leaf version }
-        ∷ record { to = 0; packet = Packet.Request leaf request change.now } ∷ []) }
-{
-    let asking = Outgoing {
-        to: 0,
-        packet: Packet::Request {
-            leaf,
-            request,
-            change: change.copy(alloc)?,
-        },
-    };
-    Ok(Seq::new(vec![in alloc; hello(leaf, version), asking]?))
 }

@@ -26,8 +26,8 @@ impl<D: Disk> LeafLink<D> {
     /// Takes a packet of the hub's.
     ///
     /// The change numbered one above the version is `Applied`; one at most the version is `Old`, and one further above
-    /// is `Early`. A reply to the request that is out ends it: `Accepted` with the change's number, or `Refused`; any
-    /// other reply is `Old`. A part of the records at a later version is `Kept` until the others of that version are
+    /// is `Early`. A reply to a request that is out ends it: `Accepted` with the change's number, or `Refused`; any other
+    /// reply is `Old`. A part of the records at a later version is `Kept` until the others of that version are
     /// there; then all are put in place, `Installed` with the version. A part of a version that is not above the leaf's,
     /// or is below that of the kept parts, is `Old`; one of another version, or of another count, takes the place of all
     /// kept parts. A text for this leaf from a bot of the net is `Text`. What is not for this leaf is `Stray`.
@@ -106,7 +106,7 @@ impl<D: Disk> LeafLink<D> {
         }
     }
 
-    // Ends the request that is out, where the reply is to it.
+    // Ends the request that the reply is to, where it is out.
     fn receive_reply(
         &mut self,
         alloc: Global,
@@ -121,13 +121,10 @@ impl<D: Disk> LeafLink<D> {
         if is_no_reply(leaf, request, self.kept.who()) {
             return Ok(Answer::only(alloc, Note::Stray));
         }
-        if self.kept.state().out().is_none() {
+        if !self.kept.state().is_out(request) {
             return Ok(Answer::only(alloc, Note::Old));
         }
-        if request != self.kept.state().last_request() {
-            return Ok(Answer::only(alloc, Note::Old));
-        }
-        match self.kept.journal(alloc, LeafRecord::done()) {
+        match self.kept.journal(alloc, LeafRecord::done(request)) {
             Ok(()) => Ok(Answer::only(alloc, note_of(reply))),
             Err(error) => Err(error),
         }

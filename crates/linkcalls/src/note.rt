@@ -10,7 +10,7 @@ pub enum Note {
     Queued,
     /// Nothing waits.
     Idle,
-    /// The leaf's request of this number went out.
+    /// The leaf's requests went out, this number the highest of them.
     Sent(u32),
     /// A change was accepted under this number.
     Accepted(u32),
@@ -20,7 +20,7 @@ pub enum Note {
     Served(usize),
     /// The packet tells nothing new.
     Old,
-    /// The last request came again, and its reply goes out again.
+    /// A request came again, and its reply, which is kept, goes out again.
     Repeat,
     /// A request before this one is missing.
     Gap,

@@ -1,5 +1,5 @@
 -- What the hub tells of its version is so.
-use Rattle.std.proofs.Common.{◌≡◌, ℕ, zero, suc, ◌+◌, ◌==◌, nat_lt, Bool, true, false, ◌||◌, if◌then◌else◌, List, [], ◌∷◌, ◌++◌, length, length-append, Option, None, Some, Result, Ok, Err, refl, arith}
+use Rattle.std.proofs.Common.{◌≡◌, ℕ, zero, suc, ◌+◌, ◌==◌, nat_lt, Bool, true, false, ◌||◌, if◌then◌else◌, List, [], ◌∷◌, ◌++◌, length, Option, None, Some, Result, Ok, Err, refl}
 use Rattle.userfile.specs.Apply.{bad_shape, refusal}
 use Rattle.userfile.specs.declared.change.Change.{Change as UserChange}
 use Rattle.userfile.specs.declared.error.ChangeFault.{ChangeFault}
@@ -13,7 +13,7 @@ use Rattle.protocol.specs.Notes.{Note, LinkFault}
 use Rattle.protocol.specs.Notes.Note.{Queued, Idle, Sent, Accepted, Refused, Served, Old, Repeat, Gap, Early, Applied, Kept, Installed, Compacted, Relayed, Text, Stray, Restarted}
 use Rattle.protocol.specs.Notes.LinkFault.{AsksFull, Down, NumbersSpent, BadBotText, OtherLayout}
 use Rattle.protocol.specs.Bots.{How, Works, Fails, Counts, Row, noted, refused, unless_down, journals}
-use Rattle.protocol.specs.HubRules.{Accept, Settle, Rebase, Hub, version_of, last_request, hub_folded, is_no_leaf, ask_taken, hub_asked, is_bad_text, text_told, accepts, ask_served, hub_pumped_up, hub_pumped, replied, next_request, repeats, request_placed, request_of, hello_served, hello_met, text_passed, hub_received_up, hub_received, hub_compacted, hub_restarted}
+use Rattle.protocol.specs.HubRules.{Accept, Settle, Rebase, Hub, version_of, last_request, reply_to, hub_folded, is_no_leaf, ask_taken, hub_asked, is_bad_text, text_told, accepts, ask_served, hub_pumped_up, hub_pumped, replied, next_request, repeats, request_placed, request_of, hello_served, hello_met, text_passed, hub_received_up, hub_received, hub_compacted, hub_restarted}
 use Rattle.protocol.specs.Network.{Event, Ask, Pump, Tell, Compact, Restart, hub_event}
 use Rattle.protocol.proofs.Moves.{one_more}
 
@@ -122,9 +122,9 @@ module _ (leaves : ℕ) (how : How) (w : Hub) where
       by Fails = tt
       by Counts = refl
 
-  tells-request : (leaf r : ℕ) (c : UserChange) (o : Option (Option Reply)) → Tells w (request_of leaves how w leaf r c o)
+  tells-request : (leaf r : ℕ) (c : UserChange) (o : Option (List Reply)) → Tells w (request_of leaves how w leaf r c o)
   tells-request leaf r c None = tt
-  tells-request leaf r c (Some last) = placed (place_of r (last_request last))
+  tells-request leaf r c (Some kept) = placed (place_of r (last_request kept))
     where
       settled : (how : How) (fault : ChangeFault) (sends : List Outgoing)
           → Tells w (journals hub_folded how w (Settle leaf fault) (Refused fault) sends w.loose)
@@ -138,13 +138,13 @@ module _ (leaves : ℕ) (how : How) (w : Hub) where
           tells-accepts (record { origin = leaf; request = r; change = c }) (replied leaves how w leaf r (Taken (version_of w.kept + 1)))
           w.loose
 
-      again : (last : Option Reply) → Tells w (repeats leaves how w leaf r last)
+      again : (o : Option Reply) → Tells w (repeats leaves how w leaf r o)
       again None = tt
       again (Some reply) = tt
 
-      placed : (p : Place) → Tells w (request_placed leaves how w leaf r c last p)
-      placed Below = tt
-      placed Same = again last
+      placed : (p : Place) → Tells w (request_placed leaves how w leaf r c kept p)
+      placed Below = again (reply_to r kept)
+      placed Same = again (reply_to r kept)
       placed Next = next (refusal w.kept.records c)
       placed Above = tt
 

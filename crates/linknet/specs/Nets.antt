@@ -87,9 +87,9 @@ pub record Follows (h : History) (bot : ℕ) (row : Row End) (ends : List End) (
   pub moment : IsMoment ends packets after
   pub count : after.count ≡ h.count
   pub grows : Grows h after
-  -- each answer that is sent is the hub's kept one, the last to its leaf
+  -- each answer that is sent is one that the hub keeps, one of the last eight to its leaf
   pub answers : AllOutgoing (IsKeptAnswer after.hub.kept) row.sends
-  -- no request comes early, and no leaf's records diverge
+  -- no leaf's records diverge, and no hello has another layout
   pub fine : IsFine row.told
   pub moves : MovesAsTold h.hub.kept.accepted after.hub.kept.accepted bot row.told
 

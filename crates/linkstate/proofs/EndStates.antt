@@ -1,15 +1,17 @@
 -- What the journal of an end says of its state.
-use Rattle.std.proofs.Common.{◌≡◌, ◌≢◌, ◌<◌, ◌-◌, ◌^◌, ℕ, Bool, true, false, nat_lt, Some, refl, arith, ltb, ltb-true, ltb-false, lt-ltb}
+use Rattle.std.proofs.Common.{◌≡◌, ◌≢◌, ◌==◌, ◌<◌, ◌+◌, ◌-◌, ◌^◌, ℕ, Bool, true, false, nat_lt, Some, refl, arith, ltb, ltb-true, ltb-false, lt-ltb}
+use Rattle.std.proofs.lemmas.Bool.{and_parts}
 use Rattle.std.specs.List.{AllByRecursion}
-use Rattle.botjournal.specs.Bases.{IsGoodBase, IsGoodOut}
+use Rattle.botjournal.specs.Bases.{IsGoodBase, AreOut}
 use Rattle.botjournal.specs.Entries.{IsGoodEntry}
 use Rattle.botjournal.specs.declared.entry.Entry.{Entry}
 use Rattle.botjournal.specs.declared.entry.Entry.TheVariants.{Accepted, Settled, Applied, ReqOut, ReqDone}
 use Rattle.botjournal.specs.Contents.{Contents}
 use Rattle.protocol.specs.Numbers.{last_number}
-use Rattle.protocol.specs.LeafRules.{LeafState, LeafRecord, leaf_folded}
+use Rattle.protocol.specs.LeafRules.{LeafState, LeafRecord, may_go_out, leaf_folded}
 use Rattle.protocol.specs.Journals.{leaf_of, is_leaf_base, leaf_record, leaf_meaning}
 use Rattle.linkstate.specs.Reading.{if-some, read-well}
+use Rattle.linkstate.specs.EndLaws.{AreOut-next, AreOut-without}
 
 -- the journal has generations left where the state has
 pub never-spent : (kept generation : ℕ) → kept ≡ generation → nat_lt kept last_number ≡ true → generation ≢ 2 ^ 32 - 1
@@ -24,17 +26,24 @@ has-next kept generation seen same is fits left = lt-ltb kept last_number (by (l
     by true below = ltb-true kept last_number below
     by false above = absurd (left (omega (arith, ltb-false kept last_number above, same, is, fits)))
 
--- the change that is out has a spelling where the journal's base and entries have one
+-- a base may have the requests that are out where the journal's base and entries have spellings
+abbrev MayBeOut : LeafState → Type 0
+MayBeOut leaf = AreOut leaf.last leaf.out
+
 leaf-out : (leaf : LeafState) (entry : Entry) (found : LeafRecord) → IsGoodEntry entry → leaf_record leaf entry ≡ Some found
-    → IsGoodOut leaf.out → IsGoodOut (leaf_folded leaf found).out
+    → MayBeOut leaf → MayBeOut (leaf_folded leaf found)
 leaf-out leaf (Applied number change) found good is out = rw (← (if-some _ _ found is).1) out
-leaf-out leaf (ReqOut request change) found good is out = rw (← (if-some _ _ found is).1) (good.1)
-leaf-out leaf (ReqDone request) found good is out = rw (← (if-some _ _ found is).1) tt
+leaf-out leaf (ReqOut request change) found good is out =
+    let parts = if-some _ _ found is in
+    let may = (and_parts (may_go_out leaf.last leaf.out) (request == (leaf.last + 1)) parts.0).0 in
+    rw (← parts.1) (AreOut-next leaf.last leaf.out change good.1 may out)
+leaf-out leaf (ReqDone request) found good is out =
+    rw (← (if-some _ _ found is).1) (AreOut-without leaf.last request leaf.out out)
 leaf-out leaf (Accepted origin request change) found good is out = absurd (cc)
 leaf-out leaf (Settled of request fault) found good is out = absurd (cc)
 
 pub leaf_out-good : (number : ℕ) (contents : Contents) (leaf : LeafState) → IsGoodBase contents.base → AllByRecursion IsGoodEntry contents.entries
-    → leaf_meaning number contents ≡ Some leaf → IsGoodOut leaf.out
+    → leaf_meaning number contents ≡ Some leaf → AreOut leaf.last leaf.out
 leaf_out-good number contents leaf good each means =
-    read-well leaf_record leaf_folded IsGoodEntry (λ (l : LeafState). IsGoodOut l.out) leaf-out (is_leaf_base number contents.base)
+    read-well leaf_record leaf_folded IsGoodEntry MayBeOut leaf-out (is_leaf_base number contents.base)
     (leaf_of contents.generation contents.base) leaf contents.entries each (λ may. good.out) means

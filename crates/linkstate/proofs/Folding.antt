@@ -17,7 +17,7 @@ use Rattle.protocol.specs.Packets.{AcceptedChange}
 use Rattle.protocol.specs.HubRules.{HubState, Accept, Settle, version_of, with_reply, hub_folded}
 use Rattle.protocol.specs.Journals.{read_next, reads, stand_together, record_if, replies_of, hub_of, is_to_leaf, is_hub_base, hub_record, hub_meaning, leaf_of, is_leaf_base, leaf_record, leaf_meaning}
 use Rattle.protocol.specs.LeafRules.{LeafState, leaf_folded}
-use Rattle.userfile.specs.declared.change.Change.{Change}
+use Rattle.botjournal.specs.declared.request.Request.{Request}
 use Rattle.userfile.proofs.RepeatLemmas.{and_true}
 use Rattle.protocol.specs.Network.{new_hub}
 use Rattle.linkstate.specs.States.{Takes, TakesAll, Reads, sound_records, hub_on, is_hubs, leaf_on}
@@ -40,7 +40,7 @@ sound-is items held e = by (stand_together (records_from items)) refl e
     by false is e = absurd (cc)
 
 -- a hub on a base
-pub hub_on-is : (leaves generation : ℕ) (base : Base) (tail : List AcceptedChange) (held : Records) (replies : List (Option Reply))
+pub hub_on-is : (leaves generation : ℕ) (base : Base) (tail : List AcceptedChange) (held : Records) (replies : List (List Reply))
     → is_hubs leaves base ≡ true → tail ≡ [] → sound_records base.records ≡ Some held
     → replies ≡ replies_of 1 leaves base.replies
     → hub_on leaves generation base ≡ Some (record { floor = base.version; tail = tail; records = held; replies = replies; generation = generation })
@@ -53,7 +53,7 @@ hub_on-is leaves generation base tail held replies hubs empty sound placed =
 
 -- an accepted change more
 pub accepted-is : (hub : HubState) (floor generation : ℕ) (tail tail_now : List AcceptedChange) (held held_now : Records)
-    (replies replies_now : List (Option Reply)) (given entry : AcceptedChange) (number : ℕ)
+    (replies replies_now : List (List Reply)) (given entry : AcceptedChange) (number : ℕ)
     → record { floor = floor; tail = tail; records = held; replies = replies; generation = generation } ≡ hub
     → given ≡ entry → tail_now ≡ tail ++ given ∷ [] → held_now ≡ changed held given.change
     → replies_now ≡ with_reply replies entry.origin (Taken (number + 1)) → number ≡ version_of hub
@@ -71,7 +71,7 @@ accepted-is hub floor generation tail tail_now held held_now replies replies_now
 
 -- a leaf's next request refused
 pub settled-is : (hub : HubState) (floor generation : ℕ) (tail : List AcceptedChange) (held : Records)
-    (replies replies_now : List (Option Reply)) (leaf : ℕ) (fault : ChangeFault)
+    (replies replies_now : List (List Reply)) (leaf : ℕ) (fault : ChangeFault)
     → record { floor = floor; tail = tail; records = held; replies = replies; generation = generation } ≡ hub
     → replies_now ≡ with_reply replies leaf (refused_request fault)
     → record { floor = floor; tail = tail; records = held; replies = replies_now; generation = generation } ≡ hub_folded hub (Settle leaf fault)
@@ -133,14 +133,14 @@ hub-read leaves layout generation base entries hub last on took =
     started (is_hub_base leaves base) (hub_of leaves generation base) hub (λ start. reads hub_record hub_folded start entries) on ∙ took
 
 -- a new hub
-pub new_hub-is : (leaves : ℕ) (tail : List AcceptedChange) (held : Records) (replies : List (Option Reply)) → tail ≡ [] → held ≡ no_records
+pub new_hub-is : (leaves : ℕ) (tail : List AcceptedChange) (held : Records) (replies : List (List Reply)) → tail ≡ [] → held ≡ no_records
     → replies ≡ replies_of 1 leaves []
     → record { floor = 0; tail = tail; records = held; replies = replies; generation = 1 } ≡ (new_hub leaves).kept
 new_hub-is leaves tail held replies empty none placed = rw (empty, none, placed, replies_of-none 1 leaves) refl
 
 -- ---- a leaf
 
-pub leaf_on-is : (number generation : ℕ) (base : Base) (held : Records) (out : Option Change) → base.bot ≡ number
+pub leaf_on-is : (number generation : ℕ) (base : Base) (held : Records) (out : List Request) → base.bot ≡ number
     → sound_records base.records ≡ Some held → out ≡ base.out
     → leaf_on number generation base
     ≡ Some (record { version = base.version; records = held; last = base.last_request; out = out; generation = generation })

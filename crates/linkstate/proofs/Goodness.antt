@@ -12,9 +12,9 @@ use Rattle.userfile.specs.Together.{AreSound, is_user, is_good_ban, repeats_mask
 use Rattle.userfile.proofs.SoundLemmas.{first_none, if_none}
 use Rattle.usercodec.specs.declared.records.Record.{Record}
 use Rattle.usercodec.specs.Records.{HasShape, HasFields, IsGoodRecord}
-use Rattle.userfile.specs.declared.change.Change.{Change}
 use Rattle.botjournal.specs.declared.reply.Reply.{Reply}
-use Rattle.botjournal.specs.Bases.{AreListed, IsGoodOut, IsGoodBase}
+use Rattle.botjournal.specs.declared.request.Request.{Request}
+use Rattle.botjournal.specs.Bases.{AreListed, AreOut, IsGoodBase}
 use Rattle.protocol.specs.Snapshots.{user_items, ban_items, items_of}
 
 shaped : (users : List User) (bans : List Ban) → list_all is_user users ≡ true → list_any (λ user. repeats_mask user.masks) users ≡ false
@@ -63,8 +63,8 @@ good_items held items sound same fields =
     )
 
 -- the base of a leaf
-pub leaf_base-good : (number version last : ℕ) (items : List Record) (replies : List Reply) (out : Option Change) → number < 2 ^ 16
-    → version < 2 ^ 32 → last < 2 ^ 32 → AreListed IsGoodRecord items → replies ≡ [] → 0 < number → IsGoodOut out
+pub leaf_base-good : (number version last : ℕ) (items : List Record) (replies : List Reply) (out : List Request) → number < 2 ^ 16
+    → version < 2 ^ 32 → last < 2 ^ 32 → AreListed IsGoodRecord items → replies ≡ [] → 0 < number → AreOut last out
     → IsGoodBase (record { bot = number; version = version; records = items; replies = replies; last_request = last; out = out })
 leaf_base-good number version last items replies out bot small low listed none above good =
     subst (λ (l : List Reply). IsGoodBase (record { bot = number; version = version; records = items; replies = l; last_request = last; out = out }))
@@ -73,7 +73,7 @@ leaf_base-good number version last items replies out bot small low listed none a
       version = small;
       records = listed;
       replies = (omega arith, tt);
-      rising = refl;
+      kept = refl;
       last_request = low;
       out = good;
       of_its_bot = rw (ne_eqb number 0 (λ same. absurd (omega (arith, same, above)))) refl;

@@ -1,8 +1,8 @@
 -- One item more of what is made of a list item by item: what is made of the rest is what is made of the item and of those
 -- after it.
-use Rattle.std.proofs.Common.{◌≡◌, ◌<◌, ℕ, zero, suc, ◌+◌, true, List, [], ◌∷◌, ◌++◌, length, drop, get_or, slice_get, None, Some, refl, ap, sym, ◌∙◌, append_assoc, arith, add-one}
+use Rattle.std.proofs.Common.{◌≡◌, ◌<◌, ◌==◌, ◌||◌, ℕ, zero, suc, ◌+◌, true, List, [], ◌∷◌, ◌++◌, length, drop, get_or, slice_get, Some, cond, refl, ap, sym, ◌∙◌, append_assoc, arith, add-one}
 use Rattle.std.proofs.Math.Seq.{drop-cons}
-use Rattle.std.specs.List.{AllByRecursion, list_all}
+use Rattle.std.specs.List.{AllByRecursion, list_all, list_any, find}
 use Rattle.userfile.specs.declared.user.User.{User}
 use Rattle.userfile.specs.declared.ban.Ban.{Ban}
 use Rattle.userfile.specs.Together.{is_user, is_good_ban}
@@ -11,8 +11,11 @@ use Rattle.usercodec.specs.declared.records.Record.TheVariants as records
 use Rattle.usercodec.specs.Records.{IsGoodRecord}
 use Rattle.botjournal.specs.declared.reply.Reply.{Reply}
 use Rattle.protocol.specs.Snapshots.{users_in, bans_in, user_items, ban_items}
+use Rattle.botjournal.specs.declared.request.Request.{Request}
 use Rattle.protocol.specs.Network.{no_replies}
-use Rattle.protocol.specs.Journals.{replies_of, reply_among}
+use Rattle.protocol.specs.HubRules.{reply_to}
+use Rattle.protocol.specs.LeafRules.{is_out}
+use Rattle.protocol.specs.Journals.{replies_of, replies_among}
 
 -- ---- the rest of a list
 
@@ -29,19 +32,30 @@ drop-found (y ∷ ys) (suc i) x found = rw (add-one) (drop-found ys i x found �
 
 -- one place more
 replies_of-next : (first count leaf : ℕ) (replies : List Reply) → leaf ≡ first + count
-    → replies_of first (suc count) replies ≡ replies_of first count replies ++ reply_among leaf replies ∷ []
-replies_of-next first zero leaf replies at = ap (λ n. reply_among n replies ∷ []) (let same : first ≡ leaf = omega arith in same)
+    → replies_of first (suc count) replies ≡ replies_of first count replies ++ replies_among leaf replies ∷ []
+replies_of-next first zero leaf replies at = ap (λ n. replies_among n replies ∷ []) (let same : first ≡ leaf = omega arith in same)
 replies_of-next first (suc count) leaf replies at =
-    ap (λ l. reply_among first replies ∷ l) (replies_of-next (first + 1) count leaf replies (omega arith))
+    ap (λ l. replies_among first replies ∷ l) (replies_of-next (first + 1) count leaf replies (omega arith))
 
 pub replies_of-last : (first count leaf : ℕ) (replies : List Reply) → leaf ≡ first + count
-    → replies_of first (count + 1) replies ≡ replies_of first count replies ++ reply_among leaf replies ∷ []
+    → replies_of first (count + 1) replies ≡ replies_of first count replies ++ replies_among leaf replies ∷ []
 replies_of-last first count leaf replies at = rw add-one (replies_of-next first count leaf replies at)
 
 -- where a base has none
 pub replies_of-none : (first count : ℕ) → replies_of first count [] ≡ no_replies count
 replies_of-none first zero = refl
-replies_of-none first (suc count) = ap (λ l. None ∷ l) (replies_of-none (first + 1) count)
+replies_of-none first (suc count) = ap (λ l. [] ∷ l) (replies_of-none (first + 1) count)
+
+-- the reply to a request is the first one of that number
+pub find-reply : (request : ℕ) (kept : List Reply) → find (λ (r : Reply). r.request == request) kept ≡ reply_to request kept
+find-reply request [] = refl
+find-reply request (reply ∷ kept) = ap (λ o. cond (reply.request == request) (Some reply) o) (find-reply request kept)
+
+-- ---- requests that are out
+
+pub any-out : (number : ℕ) (out : List Request) → list_any (λ (r : Request). r.number == number) out ≡ is_out number out
+any-out number [] = refl
+any-out number (request ∷ out) = ap (λ b. (request.number == number) || b) (any-out number out)
 
 -- ---- the items of a userfile
 

@@ -1,12 +1,21 @@
 -- The laws of an end's state hold of both ends: what is journaled means the state with the record folded in, which stays one.
-use Rattle.std.proofs.Common.{◌≡◌, ◌≤◌, ◌<◌, ℕ, Some, refl}
+use Rattle.std.proofs.Common.{◌≡◌, ◌==◌, ◌+◌, ◌≤◌, ◌<◌, ℕ, Bool, true, false, nat_lt, if◌then◌else◌, List, [], ◌∷◌, Some, refl, arith, ltb-true}
+use Rattle.std.proofs.lemmas.Bool.{and_parts}
+use Rattle.std.specs.List.{AllByRecursion}
+use Rattle.userfile.specs.declared.change.Change.{Change}
+use Rattle.usercodec.specs.Changes.{IsGoodChange}
+use Rattle.botjournal.specs.declared.request.Request.{Request}
+use Rattle.botjournal.specs.Bases.{IsGoodRequest, AreOut}
 use Rattle.botjournal.specs.declared.entry.Entry.{Entry}
 use Rattle.botjournal.specs.declared.entry.Entry.TheVariants.{Accepted, Settled, Applied, ReqOut, ReqDone}
 use Rattle.botjournal.specs.Contents.{Contents}
 use Rattle.botjournal.specs.Ledger.{written}
 use Rattle.protocol.specs.HubRules.{HubState, HubRecord, Accept, Settle, Rebase, hub_folded}
-use Rattle.protocol.specs.LeafRules.{LeafState, LeafRecord, Apply, Out, Done, Install, Compact, leaf_folded}
-use Rattle.protocol.specs.Journals.{hub_of, is_hub_base, hub_record, hub_meaning, IsHubState, leaf_of, is_leaf_base, leaf_record, leaf_meaning}
+use Rattle.protocol.specs.Numbers.{last_number}
+use Rattle.protocol.specs.LeafRules.{LeafState, LeafRecord, Apply, Out, Done, Install, Compact, without, has_room, may_go_out, with_request, leaf_folded}
+use Rattle.protocol.specs.Journals.{hub_of, is_hub_base, hub_record, hub_meaning, IsHubState, leaf_of, is_leaf_base, leaf_record, leaf_meaning, IsLeafState as IsLeaf}
+use Rattle.protocol.proofs.Lists.{all-append}
+use Rattle.protocol.proofs.Requests.{out-next, out-without}
 use Rattle.protocol.proofs.Journals.{hub_reads_back, hub_state_kept, leaf_reads_back, leaf_state_kept}
 use Rattle.linkcalls.specs.declared.TheConstants.{MAX_LEAVES}
 use Rattle.linkstate.specs.Records.{hub_pending, HubMayWrite, IsLeafState, leaf_pending, LeafMayWrite}
@@ -71,18 +80,42 @@ leaf_writes number contents leaf (Apply change) above is may means =
     leaf_reads_back number contents leaf (Apply change) means (leaf-generation number contents leaf means) is.records may.0
 leaf_writes number contents leaf (Out change) above is may means =
     leaf_reads_back number contents leaf (Out change) means (leaf-generation number contents leaf means) is.records may.0
-leaf_writes number contents leaf Done above is may means =
-    leaf_reads_back number contents leaf Done means (leaf-generation number contents leaf means) is.records may
+leaf_writes number contents leaf (Done request) above is may means =
+    leaf_reads_back number contents leaf (Done request) means (leaf-generation number contents leaf means) is.records may
 leaf_writes number contents leaf (Install version records) above is may means =
     leaf_reads_back number contents leaf (Install version records) means (leaf-generation number contents leaf means) is.records may.0
 leaf_writes number contents leaf Compact above is may means =
     leaf_reads_back number contents leaf Compact means (leaf-generation number contents leaf means) is.records tt
 
+-- the requests that are out, with the next one, and without one
+good-without : (number : ℕ) (out : List Request) → AllByRecursion IsGoodRequest out → AllByRecursion IsGoodRequest (without number out)
+good-without number [] good = tt
+good-without number (request ∷ out) good = by (request.number == number) (good-without number out good.1)
+  where
+    by : (b : Bool) → AllByRecursion IsGoodRequest (without number out)
+        → AllByRecursion IsGoodRequest (if b then out else request ∷ without number out)
+    by true rest = good.1
+    by false rest = (good.0, rest)
+
+pub AreOut-next : (last : ℕ) (out : List Request) (change : Change) → IsGoodChange change → may_go_out last out ≡ true → AreOut last out
+    → AreOut (last + 1) (with_request (last + 1) change out)
+AreOut-next last out change good may is =
+    let below : last < last_number = ltb-true last last_number (and_parts (nat_lt last last_number) (has_room last out) may).0 in (
+      all-append IsGoodRequest out (record { number = last + 1; change = change } ∷ []) is.0 ((omega (arith, below), good), tt),
+      out-next last out change may is.1,
+    )
+
+pub AreOut-without : (last number : ℕ) (out : List Request) → AreOut last out → AreOut last (without number out)
+AreOut-without last number out is = (good-without number out is.0, out-without last number out is.1)
+
 pub leaf_stays : (number : ℕ) (leaf : LeafState) (entry : LeafRecord) → IsLeafState leaf → LeafMayWrite leaf entry
     → IsLeafState (leaf_folded leaf entry)
 leaf_stays number leaf (Apply change) is may =
-    record { records = leaf_state_kept leaf (Apply change) is.records may.0; out = is.out }
-leaf_stays number leaf (Out change) is may = record { records = is.records; out = may.1 }
-leaf_stays number leaf Done is may = record { records = is.records; out = tt }
+    let was : IsLeaf leaf = record { records = is.records; out = is.out.1 } in
+    record { records = (leaf_state_kept leaf (Apply change) was may.0).records; out = is.out }
+leaf_stays number leaf (Out change) is may =
+    record { records = is.records; out = AreOut-next leaf.last leaf.out change may.1 may.0 is.out }
+leaf_stays number leaf (Done request) is may =
+    record { records = is.records; out = AreOut-without leaf.last request leaf.out is.out }
 leaf_stays number leaf (Install version records) is may = record { records = may.0; out = is.out }
 leaf_stays number leaf Compact is may = record { records = is.records; out = is.out }

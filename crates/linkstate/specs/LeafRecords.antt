@@ -6,6 +6,6 @@ use Rattle.linkstate.specs.declared.leaf_record.What.TheVariants as seen
 abbrev pub shown : What → LeafRecord
 shown (seen.Apply change) = Apply change
 shown (seen.Out change) = Out change
-shown seen.Done = Done
+shown (seen.Done request) = Done request
 shown (seen.Install version userfile) = Install version userfile
 shown seen.Compact = Compact

@@ -2,7 +2,7 @@
 use Rattle.std.specs.Prelude.{◌≡◌, ◌+◌, ◌<◌, ◌^◌, ℕ, true, nat_lt}
 use Rattle.userfile.specs.Together.{AreSound}
 use Rattle.usercodec.specs.Changes.{IsGoodChange}
-use Rattle.botjournal.specs.Bases.{IsGoodOut}
+use Rattle.botjournal.specs.Bases.{AreOut}
 use Rattle.botjournal.specs.declared.entry.Entry.TheVariants.{Accepted, Settled, Applied, ReqOut, ReqDone}
 use Rattle.botjournal.specs.Ledger.{Pending, Adding, Rebasing}
 use Rattle.protocol.specs.Numbers.{last_number, item_at}
@@ -33,16 +33,16 @@ hub_pending hub Rebase = Rebasing (hub_base hub)
 abbrev pub start_leaf : LeafState
 start_leaf = new_leaf.kept
 
--- the state of a leaf: the records of a userfile, and a change with a spelling where one is out
+-- the state of a leaf: the records of a userfile, and requests with spellings that may be out
 pub record IsLeafState (leaf : LeafState) : Type 0 where
   pub records : AreSound leaf.records
-  pub out : IsGoodOut leaf.out
+  pub out : AreOut leaf.last leaf.out
 
 -- a record that the leaf's journal may take now, whose numbers there are
 abbrev pub LeafMayWrite : LeafState → LeafRecord → Type 0
 LeafMayWrite leaf (Apply change) = LeafMay leaf (Apply change) × (nat_lt leaf.version last_number ≡ true)
 LeafMayWrite leaf (Out change) = LeafMay leaf (Out change) × IsGoodChange change
-LeafMayWrite leaf Done = LeafMay leaf Done
+LeafMayWrite leaf (Done request) = LeafMay leaf (Done request)
 LeafMayWrite leaf (Install version records) = AreSound records × (nat_lt leaf.generation last_number ≡ true)
 LeafMayWrite leaf Compact = nat_lt leaf.generation last_number ≡ true
 
@@ -50,7 +50,7 @@ LeafMayWrite leaf Compact = nat_lt leaf.generation last_number ≡ true
 abbrev pub leaf_pending : ℕ → LeafState → LeafRecord → Pending
 leaf_pending number leaf (Apply change) = Adding (Applied (leaf.version + 1) change)
 leaf_pending number leaf (Out change) = Adding (ReqOut (leaf.last + 1) change)
-leaf_pending number leaf Done = Adding (ReqDone leaf.last)
+leaf_pending number leaf (Done request) = Adding (ReqDone request)
 leaf_pending number leaf (Install version records) =
     Rebasing (leaf_base number (record leaf { version = version; records = records }))
 leaf_pending number leaf Compact = Rebasing (leaf_base number leaf)

@@ -13,9 +13,9 @@ use Rattle.botjournal.specs.declared.found.Found.{Found}
 use Rattle.botjournal.specs.Contents.{Contents}
 use Rattle.botjournal.specs.declared.entry.Entry.TheVariants.{Accepted, Settled, Applied, ReqOut, ReqDone}
 use Rattle.protocol.specs.Snapshots.{records_from}
-use Rattle.protocol.specs.HubRules.{HubState}
+use Rattle.protocol.specs.HubRules.{HubState, AreInTurn}
 use Rattle.protocol.specs.LeafRules.{LeafState}
-use Rattle.protocol.specs.Journals.{read_next, reads, stand_together, record_if, hub_of, is_hub_base, is_to_leaf, leaf_of, is_leaf_base}
+use Rattle.protocol.specs.Journals.{read_next, reads, stand_together, record_if, hub_of, is_hub_base, is_to_leaf, AreTo, leaf_of, is_leaf_base}
 use Rattle.linkstate.specs.declared.fault.StateFault.{StateFault}
 
 -- what is meant is read, and a refusal says that nothing is meant
@@ -40,7 +40,7 @@ TakesAll record_of folded old entries (Err NoMemory) new = Unit {0}
 
 -- the base of a bot before the first change
 abbrev pub empty_base : ℕ → Base
-empty_base bot = record { bot = bot; version = 0; records = []; replies = []; last_request = 0; out = None }
+empty_base bot = record { bot = bot; version = 0; records = []; replies = []; last_request = 0; out = [] }
 
 -- the records of a base, where they stand together in one userfile
 abbrev pub sound_records : List UserfileRecord → Option Records
@@ -63,9 +63,13 @@ is_hubs leaves base = (base.bot == 0) && list_all (is_to_leaf leaves) base.repli
 abbrev pub leaf_on : ℕ → ℕ → Base → Option LeafState
 leaf_on number generation base = record_if (is_leaf_base number base) (leaf_of generation base)
 
--- each reply is at its leaf's place
-abbrev pub ArePlaced : List (Option Reply) → Type 0
-ArePlaced replies = (place : ℕ) (reply : Reply) → slice_get replies place ≡ Some (Some reply) → reply.leaf ≡ suc place
+-- what a hub keeps of a leaf: replies to it, at most eight, whose requests have numbers one after the other
+abbrev pub IsKept : ℕ → List Reply → Type 0
+IsKept leaf kept = AreTo leaf kept × AreInTurn kept
+
+-- each leaf's replies are at its place
+abbrev pub ArePlaced : List (List Reply) → Type 0
+ArePlaced replies = (place : ℕ) (kept : List Reply) → slice_get replies place ≡ Some kept → IsKept (suc place) kept
 
 -- the entry has a change that a hub accepted
 abbrev pub is_accepted : Entry → Bool

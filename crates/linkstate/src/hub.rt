@@ -8,9 +8,10 @@ use crate::accepted::AcceptedChange;
 use crate::accepting::{accepted_entry, apply_next, keep_next};
 use crate::fault::{StateError, StateFault};
 use crate::journaled::{base_journaled, entry_journaled};
+use crate::leaf_replies::LeafReplies;
 use crate::records::{items_of, userfile_of};
 use crate::replies::{
-    is_next, is_next_of, know_replies, put_reply, replies_in, replies_of, reply_at,
+    is_next, is_next_of, know_replies, put_reply, replies_at, replies_in, replies_of,
 };
 use botjournal::{Answer, Base, Entry, Ledger, LedgerError, Reply};
 use bytetext::{Failure, NoMemory, Seq, TryCopy};
@@ -20,12 +21,12 @@ use storage::Disk;
 use usercodec::Record;
 use userfile::{Change, ChangeFault, Userfile};
 
-/// What outlives a restart of a hub: its userfile, the changes accepted since the base, and the last reply to each leaf.
+/// What outlives a restart of a hub: its userfile, the changes accepted since the base, and the last replies to each leaf.
 pub struct HubState {
     floor: u32,
     tail: Vec<AcceptedChange>,
     userfile: Userfile,
-    replies: Vec<Option<Reply>>,
+    replies: Vec<LeafReplies>,
     generation: u32,
 }
 
@@ -61,7 +62,8 @@ impl Model for HubState {
 }
 
 impl HubState {
-    ghost use Rattle.std.specs.Prelude.{◌≡◌, ◌≢◌, ◌&&◌, ◌<◌, ◌≤◌, ◌-◌, ◌^◌, true, false, nat_lt, is_none, None, Err, IfOk, IfErr, OnOk, OnErr, length};
+    ghost use Rattle.std.specs.Prelude.{◌≡◌, ◌≢◌, ◌&&◌, ◌<◌, ◌≤◌, ◌-◌, ◌*◌, ◌^◌, true, false, nat_lt, is_none, None, Err, IfOk, IfErr, OnOk, OnErr, length};
+    ghost use Rattle.std.specs.Option.{option_copied};
     ghost use Rattle.bytetext.specs.declared.failure.Failure.TheVariants.{NoMemory as no_memory, Refused};
     ghost use Rattle.linkstate.specs.declared.fault.StateFault.TheVariants.{NotAJournal};
     ghost use Rattle.userfile.specs.Apply.{refusal};
@@ -116,7 +118,7 @@ impl HubState {
         // In whichever layout they stood.
         ensures reads { (layout : _) → Reads (hub_meaning leaves (record { layout = layout; generation = generation; base = base.now; entries = entries.now })) result }
         ensures foreign { is_hubs leaves base.now ≡ false → result ≡ Err (Refused NotAJournal) }
-        // Each leaf has a place for its reply, and each reply is at its leaf's.
+        // Each leaf has a place for its replies, and each reply is at its leaf's.
         ensures state { IfOk result (λ hub. IsHubState leaves hub) }
         ensures generation { IfOk result (λ hub. hub.generation ≡ generation) }
     {
@@ -180,11 +182,11 @@ impl HubState {
         &self.userfile
     }
 
-    /// The last reply to a leaf, where there is one: none for a bot that is no leaf of the hub.
-    pub fn reply_of(&self, leaf: u16) -> Option<Option<Reply>>
-        ensures { result ≡ item_at self.now.replies leaf }
+    /// The last replies to a leaf: none for a bot that is no leaf of the hub.
+    pub fn replies_to(&self, leaf: u16) -> Option<&LeafReplies>
+        ensures { option_copied result ≡ item_at self.now.replies leaf }
     {
-        reply_at(self.replies.as_slice(), leaf)
+        replies_at(self.replies.as_slice(), leaf)
     }
 
     /// The journal's generation.
@@ -264,7 +266,7 @@ impl HubState {
         ensures takes { Takes hub_record hub_folded self.old (Settled leaf request fault) result self.new }
         ensures memory { result ≢ Err no_memory }
     {
-        if !is_next_of(self.reply_of(leaf), request) {
+        if !is_next_of(self.replies_to(leaf), request) {
             return Err(Failure::Refused(StateFault::NotAJournal));
         }
         put_reply(&mut self.replies, leaf, request, Answer::Refused(fault));
@@ -350,7 +352,7 @@ impl HubState {
         requires left { ledger.old.account.contents.generation ≢ 2 ^ 32 - 1 }
         requires numbered { nat_lt self.old.generation last_number ≡ true }
         requires placed { ArePlaced self.old.replies }
-        requires few { length self.old.replies < 2 ^ 16 }
+        requires few { 8 * length self.old.replies < 2 ^ 16 }
         ensures row { WritesAny ledger.old (Rebasing (hub_base self.old)) result ledger.new }
         ensures any_moment { LeavesWritten (Rebasing (hub_base self.old)) ledger.old ledger.new }
         ensures rebases { OnOk result (self.new ≡ hub_folded self.old Rebase) }
@@ -382,18 +384,18 @@ impl HubState {
     }
 
     /// The base of this state: what a journal that is written anew starts from. It has a spelling where each reply is at
-    /// its leaf's place, as in each state that was read.
+    /// its leaf's place, as in each state that was read, and there are not too many leaves for the count of replies.
     ///
     /// # Errors
     /// `NoMemory` where room for copies is refused.
     pub fn base(&self, alloc: Global) -> Result<Base, NoMemory>
         ensures base { IfOk result (λ base. base ≡ hub_base self.now) }
-        ensures good { IfOk result (λ base. ArePlaced self.now.replies → length self.now.replies < 2 ^ 16 → IsGoodBase base) }
+        ensures good { IfOk result (λ base. ArePlaced self.now.replies → 8 * length self.now.replies < 2 ^ 16 → IsGoodBase base) }
     {
         let records = items_of(alloc, &self.userfile)?;
         let replies = replies_in(alloc, self.replies.as_slice())?;
         know_replies(replies.as_slice());
-        Ok(base_of(self.version(), records, replies))
+        Ok(base_of(alloc, self.version(), records, replies))
     }
 }
 
@@ -420,10 +422,10 @@ fn are_within(replies: &[Reply], leaves: u16) -> bool
 ghost use Rattle.std.specs.Prelude.{true, ◌<◌, ◌^◌};
 ghost use Rattle.std.specs.List.{AllByRecursion};
 ghost use Rattle.usercodec.specs.Records.{IsGoodRecord};
-ghost use Rattle.botjournal.specs.Bases.{AreListed, IsGoodReply, IsGoodBase, are_rising};
+ghost use Rattle.botjournal.specs.Bases.{AreListed, IsGoodReply, IsGoodBase, are_kept};
 
 // The base of these parts. Its version has room, as its type says.
-fn base_of(version: u32, records: Vec<Record>, replies: Vec<Reply>) -> Base
+fn base_of(alloc: Global, version: u32, records: Vec<Record>, replies: Vec<Reply>) -> Base
     requires records { AreListed IsGoodRecord records.items }
     requires replies { AllByRecursion IsGoodReply replies.items }
     ensures base { result ≡ record {
@@ -432,9 +434,9 @@ fn base_of(version: u32, records: Vec<Record>, replies: Vec<Reply>) -> Base
       records = records.items;
       replies = replies.items;
       last_request = 0;
-      out = None;
+      out = [];
     } }
-    ensures good { length replies.items < 2 ^ 16 → are_rising replies.items ≡ true → IsGoodBase result }
+    ensures good { length replies.items < 2 ^ 16 → are_kept replies.items ≡ true → IsGoodBase result }
 {
     Base {
         bot: 0,
@@ -442,6 +444,6 @@ fn base_of(version: u32, records: Vec<Record>, replies: Vec<Reply>) -> Base
         records: Seq::new(records),
         replies: Seq::new(replies),
         last_request: 0,
-        out: None,
+        out: Seq::empty(alloc),
     }
 }

@@ -1,12 +1,14 @@
 // What a hub keeps and journals.
 ghost use Rattle.std.specs.Prelude.{◌≡◌, ◌<◌, ◌^◌};
+ghost use Rattle.std.specs.Option.{option_copied};
 ghost use Rattle.protocol.specs.HubRules.{next_number};
 
 use crate::accepted::AcceptedChange;
 use crate::end_state::EndState;
 use crate::fault::StateError;
 use crate::hub::HubState;
-use botjournal::{Base, Entry, Ledger, LedgerError, Reply};
+use crate::leaf_replies::LeafReplies;
+use botjournal::{Base, Entry, Ledger, LedgerError};
 use bytetext::NoMemory;
 use std::alloc::Global;
 use std::marker::Model;
@@ -123,7 +125,7 @@ impl EndState for HubState {
         match entry.what {
             What::Accept(accepted) => self.accept_next(alloc, ledger, accepted),
             What::Settle(leaf, fault) => {
-                let request = next_number(self.reply_of(leaf));
+                let request = next_number(self.replies_to(leaf));
                 self.refuse_next(alloc, ledger, leaf, request, fault)
             }
             What::Rebase => self.rebase(alloc, ledger),
@@ -149,12 +151,12 @@ impl EndState for HubState {
 }
 
 // The number of a leaf's next request.
-fn next_number(last: Option<Option<Reply>>) -> u32
-    requires { next_number last < 2 ^ 32 }
-    ensures { result ≡ next_number last }
+fn next_number(kept: Option<&LeafReplies>) -> u32
+    requires { next_number (option_copied kept) < 2 ^ 32 }
+    ensures { result ≡ next_number (option_copied kept.entry) }
 {
-    match last {
-        Some(Some(reply)) => reply.request + 1,
-        Some(None) | None => 1,
+    match kept {
+        Some(kept) => kept.last_request() + 1,
+        None => 1,
     }
 }

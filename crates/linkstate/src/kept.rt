@@ -199,6 +199,13 @@ impl<S: EndState, D: Disk> Kept<S, D> {
         &self.state
     }
 
+    /// Says what always holds of the state. It does nothing.
+    pub fn know_state(&self)
+        ensures { S.is_state self.now.who self.now.state }
+    {
+        let _who = &self.who;
+    }
+
     /// Whether nothing is taken but a restart.
     pub fn is_down(&self) -> bool
         ensures { result ≡ self.now.down }
@@ -306,7 +313,7 @@ fn empty_base(alloc: Global, bot: u16) -> Base
         records: Seq::empty(alloc),
         replies: Seq::empty(alloc),
         last_request: 0,
-        out: None,
+        out: Seq::empty(alloc),
     }
 }
 

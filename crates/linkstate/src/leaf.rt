@@ -1,25 +1,24 @@
 // What a leaf keeps.
-ghost use Rattle.std.specs.Prelude.{◌≡◌, IfOk};
-
 use crate::fault::{StateError, StateFault};
 use crate::fields::know_change;
 use crate::journaled::{base_journaled, change_journaled, entry_journaled};
 use crate::records::{items_of, userfile_of};
-use botjournal::{Base, Entry, Ledger, LedgerError};
-use bytetext::{Failure, NoMemory, Seq, TryCopy};
+use crate::requests::{has_room, is_out, remove_request};
+use botjournal::{Base, Entry, Ledger, LedgerError, Request};
+use bytetext::{Failure, NoMemory, Seq, TryCopy, copies_of};
 use std::alloc::Global;
 use std::marker::Model;
 use storage::Disk;
 use usercodec::Record;
 use userfile::{Change, Userfile};
 
-/// What outlives a restart of a leaf: its version and userfile, the number of its last request, and the change that is
-/// out under that number.
+/// What outlives a restart of a leaf: its version and userfile, the number of its last request, and the requests that are
+/// out.
 pub struct LeafState {
     version: u32,
     userfile: Userfile,
     last: u32,
-    out: Option<Change>,
+    out: Vec<Request>,
     generation: u32,
 }
 
@@ -45,25 +44,24 @@ impl Model for LeafState {
       version = l.version;
       records = l.userfile;
       last = l.last;
-      out = l.out;
+      out = l.out.items;
       generation = l.generation;
     } };
 }
 
 impl LeafState {
-    ghost use Rattle.std.specs.Prelude.{◌≡◌, ◌≢◌, ◌<◌, ℕ, ◌+◌, ◌-◌, ◌^◌, ◌==◌, ◌&&◌, true, false, nat_lt, is_none, is_some, None, Err, IfOk, OnOk, OnErr};
-    ghost use Rattle.std.specs.Option.{option_copied};
+    ghost use Rattle.std.specs.Prelude.{◌≡◌, ◌≢◌, ◌<◌, ℕ, ◌+◌, ◌-◌, ◌^◌, ◌==◌, ◌&&◌, true, false, nat_lt, is_none, None, Err, IfOk, OnOk, OnErr};
     ghost use Rattle.bytetext.specs.declared.failure.Failure.TheVariants.{NoMemory as no_memory, Refused};
     ghost use Rattle.linkstate.specs.declared.fault.StateFault.TheVariants.{NotAJournal};
     ghost use Rattle.userfile.specs.Apply.{refusal, grows};
     ghost use Rattle.std.specs.List.{AllByRecursion};
-    ghost use Rattle.botjournal.specs.Bases.{IsGoodBase, IsGoodOut};
+    ghost use Rattle.botjournal.specs.Bases.{IsGoodBase, AreOut};
     ghost use Rattle.botjournal.specs.Entries.{IsGoodEntry};
     ghost use Rattle.botjournal.specs.declared.TheConstants.{LAYOUT};
     ghost use Rattle.botjournal.specs.Ledger.{Adding, Rebasing};
     ghost use Rattle.botjournal.specs.declared.entry.Entry.TheVariants.{Applied, ReqOut, ReqDone};
     ghost use Rattle.protocol.specs.Numbers.{last_number};
-    ghost use Rattle.protocol.specs.LeafRules.{Apply, Out, Done, Install, Compact, leaf_folded};
+    ghost use Rattle.protocol.specs.LeafRules.{Apply, Out, Done, Install, Compact, is_out, may_go_out, leaf_folded};
     ghost use Rattle.protocol.specs.Network.{new_leaf};
     ghost use Rattle.protocol.specs.Journals.{leaf_of, leaf_base, leaf_record, leaf_meaning};
     ghost use Rattle.linkstate.specs.States.{Reads, Takes, TakesAll, leaf_on, empty_base, wants_room};
@@ -79,7 +77,7 @@ impl LeafState {
             version: 0,
             userfile: Userfile::new(alloc),
             last: 0,
-            out: None,
+            out: Vec::new(alloc),
             generation: 1,
         }
     }
@@ -101,7 +99,8 @@ impl LeafState {
         // In whichever layout they stood.
         ensures reads { (layout : _) → Reads (leaf_meaning number (record { layout = layout; generation = generation; base = base.now; entries = entries.now })) result }
         ensures foreign { base.now.bot ≢ number → result ≡ Err (Refused NotAJournal) }
-        ensures good { IfOk result (λ leaf. AllByRecursion IsGoodEntry entries.now → IsGoodOut leaf.out) }
+        // Where the entries have spellings, so have the requests that are out, and a base may have them.
+        ensures good { IfOk result (λ leaf. AllByRecursion IsGoodEntry entries.now → AreOut leaf.last leaf.out) }
     {
         let mut leaf = LeafState::on_base(alloc, number, generation, base)?;
         match leaf.take_all(alloc, entries) {
@@ -125,7 +124,7 @@ impl LeafState {
             return Err(Failure::Refused(StateFault::NotAJournal));
         }
         let userfile = userfile_of(alloc, base.records.as_slice())?;
-        let out = copy_of(alloc, &base.out)?;
+        let out = copies_of(alloc, base.out.as_slice())?;
         Ok(LeafState {
             version: base.version,
             userfile,
@@ -156,11 +155,25 @@ impl LeafState {
         self.last
     }
 
-    /// The change that is out under that number, where its reply hasn't come.
-    pub fn out(&self) -> Option<&Change>
-        ensures { option_copied result ≡ self.now.out }
+    /// The requests whose replies haven't come, by rising number.
+    pub fn out(&self) -> &[Request]
+        ensures { result.now ≡ self.now.out }
     {
-        self.out.as_ref()
+        self.out.as_slice()
+    }
+
+    /// Whether the request of this number is out.
+    pub fn is_out(&self, request: u32) -> bool
+        ensures { result ≡ is_out request self.now.out }
+    {
+        is_out(request, self.out.as_slice())
+    }
+
+    /// Whether a next request may go out: it has a number, which is less than eight above the lowest that is out.
+    pub fn may_go_out(&self) -> bool
+        ensures { result ≡ may_go_out self.now.last self.now.out }
+    {
+        self.last < u32::MAX && has_room(self.last, self.out.as_slice())
     }
 
     /// The journal's generation.
@@ -230,15 +243,18 @@ impl LeafState {
             return Err(Failure::Refused(StateFault::NotAJournal));
         }
         let change = change.copy(alloc)?;
+        self.out.push(Request {
+            number: request,
+            change,
+        })?;
         self.last = request;
-        self.out = Some(change);
         Ok(())
     }
 
     fn may_send(&self, request: u32) -> bool
-        ensures { result ≡ (is_none self.now.out && (nat_lt self.now.last last_number && (request == (self.now.last + 1)))) }
+        ensures { result ≡ (may_go_out self.now.last self.now.out && (request == (self.now.last + 1))) }
     {
-        self.out.is_none() && self.last < u32::MAX && is_one_above(request, self.last)
+        self.may_go_out() && is_one_above(request, self.last)
     }
 
     // A request that got its reply.
@@ -246,17 +262,11 @@ impl LeafState {
         ensures takes { Takes leaf_record leaf_folded self.old (ReqDone request) result self.new }
         ensures memory { result ≢ Err no_memory }
     {
-        if !self.may_end(request) {
+        if !self.is_out(request) {
             return Err(Failure::Refused(StateFault::NotAJournal));
         }
-        self.out = None;
+        remove_request(&mut self.out, request);
         Ok(())
-    }
-
-    fn may_end(&self, request: u32) -> bool
-        ensures { result ≡ (is_some self.now.out && (request == self.now.last)) }
-    {
-        self.out.is_some() && request == self.last
     }
 
     // Applies the hub's next change, which goes into the journal first. All memory is taken before that.
@@ -290,7 +300,7 @@ impl LeafState {
         }
     }
 
-    // Lets a change be out under the next request number.
+    // Lets a change be out under the next request number. All memory is taken before the journal's first device call.
     pub(crate) fn put_out<D: Disk>(
         &mut self,
         alloc: Global,
@@ -306,39 +316,40 @@ impl LeafState {
         ensures out { OnOk result (self.new ≡ leaf_folded self.old (Out change)) }
         ensures stays { OnErr result (self.new ≡ self.old) }
     {
+        self.out.reserve(1)?;
+        let number = self.last + 1;
         let entry = Entry::ReqOut {
-            request: self.last + 1,
+            request: number,
             change: change.copy(alloc)?,
         };
         match entry_journaled(alloc, ledger, &entry) {
             Ok(()) => {
-                self.last += 1;
-                self.out = Some(change);
+                self.last = number;
+                self.out.push_reserved(Request { number, change });
                 Ok(())
             }
             Err(error) => Err(error),
         }
     }
 
-    // Ends the request that is out.
+    // Ends the request of this number, which is out.
     pub(crate) fn end_request<D: Disk>(
         &mut self,
         alloc: Global,
         ledger: &mut Ledger<D>,
+        request: u32,
     ) -> Result<(), LedgerError>
         requires up { ledger.old.account.down ≡ false }
         requires current { ledger.old.account.contents.layout ≡ LAYOUT }
-        ensures row { WritesAny ledger.old (Adding (ReqDone self.old.last)) result ledger.new }
-        ensures any_moment { LeavesWritten (Adding (ReqDone self.old.last)) ledger.old ledger.new }
-        ensures done { OnOk result (self.new ≡ leaf_folded self.old Done) }
+        ensures row { WritesAny ledger.old (Adding (ReqDone request)) result ledger.new }
+        ensures any_moment { LeavesWritten (Adding (ReqDone request)) ledger.old ledger.new }
+        ensures done { OnOk result (self.new ≡ leaf_folded self.old (Done request)) }
         ensures stays { OnErr result (self.new ≡ self.old) }
     {
-        let entry = Entry::ReqDone {
-            request: self.last_request(),
-        };
+        let entry = Entry::ReqDone { request };
         match entry_journaled(alloc, ledger, &entry) {
             Ok(()) => {
-                self.out = None;
+                remove_request(&mut self.out, request);
                 Ok(())
             }
             Err(error) => Err(error),
@@ -358,7 +369,7 @@ impl LeafState {
         requires left { ledger.old.account.contents.generation ≢ 2 ^ 32 - 1 }
         requires counted { nat_lt self.old.generation last_number ≡ true }
         requires numbered { 0 < number }
-        requires good { IsGoodOut self.old.out }
+        requires good { AreOut self.old.last self.old.out }
         ensures row { WritesAny ledger.old (Rebasing (leaf_base number (record self.old { version = version; records = userfile }))) result ledger.new }
         ensures any_moment { LeavesWritten (Rebasing (leaf_base number (record self.old { version = version; records = userfile }))) ledger.old ledger.new }
         ensures installs { OnOk result (self.new ≡ leaf_folded self.old (Install version userfile)) }
@@ -387,7 +398,7 @@ impl LeafState {
         requires left { ledger.old.account.contents.generation ≢ 2 ^ 32 - 1 }
         requires counted { nat_lt self.old.generation last_number ≡ true }
         requires numbered { 0 < number }
-        requires good { IsGoodOut self.old.out }
+        requires good { AreOut self.old.last self.old.out }
         ensures row { WritesAny ledger.old (Rebasing (leaf_base number self.old)) result ledger.new }
         ensures any_moment { LeavesWritten (Rebasing (leaf_base number self.old)) ledger.old ledger.new }
         ensures compacts { OnOk result (self.new ≡ leaf_folded self.old Compact) }
@@ -404,13 +415,13 @@ impl LeafState {
     }
 
     /// The base of this state of the leaf of this number: what a journal that is written anew starts from. It has a
-    /// spelling where the change that is out has one.
+    /// spelling where a base may have the requests that are out.
     ///
     /// # Errors
     /// `NoMemory` where room for copies is refused.
     pub fn base(&self, alloc: Global, number: u16) -> Result<Base, NoMemory>
         ensures base { IfOk result (λ base. base ≡ leaf_base number self.now) }
-        ensures good { IfOk result (λ base. 0 < number → IsGoodOut self.now.out → IsGoodBase base) }
+        ensures good { IfOk result (λ base. 0 < number → AreOut self.now.last self.now.out → IsGoodBase base) }
     {
         self.base_with(alloc, number, self.version, &self.userfile)
     }
@@ -427,17 +438,17 @@ impl LeafState {
         userfile: &Userfile,
     ) -> Result<Base, NoMemory>
         ensures base { IfOk result (λ base. base ≡ leaf_base number (record self.now { version = version; records = userfile.now })) }
-        ensures good { IfOk result (λ base. 0 < number → IsGoodOut self.now.out → IsGoodBase base) }
+        ensures good { IfOk result (λ base. 0 < number → AreOut self.now.last self.now.out → IsGoodBase base) }
     {
         let records = items_of(alloc, userfile)?;
-        let out = copy_of(alloc, &self.out)?;
+        let out = copies_of(alloc, self.out.as_slice())?;
         Ok(base_of(alloc, number, version, records, self.last, out))
     }
 }
 
-ghost use Rattle.std.specs.Prelude.{◌+◌, ◌==◌, ◌<◌, []};
+ghost use Rattle.std.specs.Prelude.{◌≡◌, ◌+◌, ◌==◌, ◌<◌, []};
 ghost use Rattle.usercodec.specs.Records.{IsGoodRecord};
-ghost use Rattle.botjournal.specs.Bases.{AreListed, IsGoodBase, IsGoodOut};
+ghost use Rattle.botjournal.specs.Bases.{AreListed, IsGoodBase, AreOut};
 
 // The base of these parts. Its numbers have room, as their types say.
 fn base_of(
@@ -446,7 +457,7 @@ fn base_of(
     version: u32,
     records: Vec<Record>,
     last: u32,
-    out: Option<Change>,
+    out: Vec<Request>,
 ) -> Base
     requires good { AreListed IsGoodRecord records.items }
     ensures base { result ≡ record {
@@ -455,9 +466,9 @@ fn base_of(
       records = records.items;
       replies = [];
       last_request = last;
-      out = out;
+      out = out.items;
     } }
-    ensures good { 0 < number → IsGoodOut out → IsGoodBase result }
+    ensures good { 0 < number → AreOut last out.items → IsGoodBase result }
 {
     Base {
         bot: number,
@@ -465,7 +476,7 @@ fn base_of(
         records: Seq::new(records),
         replies: Seq::empty(alloc),
         last_request: last,
-        out,
+        out: Seq::new(out),
     }
 }
 
@@ -474,13 +485,4 @@ fn is_one_above(number: u32, other: u32) -> bool
     ensures { result ≡ (number == (other + 1)) }
 {
     number != 0 && number - 1 == other
-}
-
-fn copy_of(alloc: Global, out: &Option<Change>) -> Result<Option<Change>, NoMemory>
-    ensures { IfOk result (λ twin. twin ≡ out.now) }
-{
-    match out {
-        Some(change) => Ok(Some(change.copy(alloc)?)),
-        None => Ok(None),
-    }
 }

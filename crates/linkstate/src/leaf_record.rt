@@ -13,7 +13,7 @@ use userfile::{Change, Userfile};
 enum What {
     Apply(Change),
     Out(Change),
-    Done,
+    Done(u32),
     Install(u32, Userfile),
     Compact,
 }
@@ -57,11 +57,13 @@ impl LeafRecord {
         }
     }
 
-    /// The request that is out is done.
-    pub fn done() -> LeafRecord
-        ensures { result ≡ Done }
+    /// The request of this number, which is out, is done.
+    pub fn done(request: u32) -> LeafRecord
+        ensures { result ≡ Done request }
     {
-        LeafRecord { what: What::Done }
+        LeafRecord {
+            what: What::Done(request),
+        }
     }
 
     /// The records of a version take the place of what there was.
@@ -147,7 +149,7 @@ impl EndState for LeafState {
         match entry.what {
             What::Apply(change) => self.apply_next(alloc, ledger, &change),
             What::Out(change) => self.put_out(alloc, ledger, change),
-            What::Done => self.end_request(alloc, ledger),
+            What::Done(request) => self.end_request(alloc, ledger, request),
             What::Install(version, userfile) => {
                 self.install(alloc, number, ledger, version, userfile)
             }

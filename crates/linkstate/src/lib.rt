@@ -1,10 +1,11 @@
 //! What the two ends of the sharing link keep over a restart, and how it is read from their journals.
 //!
 //! A [`HubState`] is what a hub keeps: the userfile, the changes accepted since the journal's base ([`AcceptedChange`]),
-//! and the last reply to each leaf. A [`LeafState`] is what a leaf keeps: the userfile at its version, the number of its
-//! last request, and the change that is out. Both are plain values in memory. A [`Kept`] is either of them in the journal
-//! that it is kept in: what it keeps next is journaled first. A journal of an older layout is put anew where a [`Kept`] is
-//! opened on it, before that answers: the state alone, in the next generation. No packet is here.
+//! and the last eight replies to each leaf ([`LeafReplies`]). A [`LeafState`] is what a leaf keeps: the userfile at its
+//! version, the number of its last request, and the requests that are out, at most eight. Both are plain values in
+//! memory. A [`Kept`] is either of them in the journal that it is kept in: what it keeps next is journaled first. A
+//! journal of an older layout is put anew where a [`Kept`] is opened on it, before that answers: the state alone, in the
+//! next generation. No packet is here.
 //!
 //! Each is read from a journal's base and entries, one entry after another by `take`, which folds in what a link writes
 //! in that state and refuses all else. The contracts say so in the words of `protocol`: what `read` answers is what the
@@ -30,8 +31,10 @@ mod journaled;
 mod kept;
 mod leaf;
 mod leaf_record;
+mod leaf_replies;
 mod records;
 mod replies;
+mod requests;
 
 pub use crate::accepted::AcceptedChange;
 pub use crate::end_state::EndState;
@@ -42,4 +45,5 @@ pub use crate::hub_record::HubRecord;
 pub use crate::kept::Kept;
 pub use crate::leaf::LeafState;
 pub use crate::leaf_record::LeafRecord;
+pub use crate::leaf_replies::LeafReplies;
 pub use crate::records::userfile_of;

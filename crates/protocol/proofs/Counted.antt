@@ -1,6 +1,6 @@
 -- A record that is kept leaves what holds of a bot.
-use Rattle.std.proofs.Common.{◌≡◌, ◌⊎◌, inl, inr, ℕ, zero, suc, ◌+◌, ◌≤◌, List, [], ◌∷◌, ◌++◌, length, Option, None, Some, refl, ap, sym, subst, ◌∙◌, arith}
-use Rattle.std.proofs.lemmas.Bool.{cases_lt}
+use Rattle.std.proofs.Common.{◌≡◌, ◌⊎◌, inl, inr, ℕ, zero, suc, ◌+◌, ◌≤◌, ◌==◌, Bool, true, false, List, [], ◌∷◌, ◌++◌, length, None, Some, refl, ap, sym, subst, ◌∙◌, arith}
+use Rattle.std.proofs.lemmas.Bool.{cases_lt, eqb-true, eqb-false}
 use Rattle.userfile.specs.Records.{Records}
 use Rattle.userfile.specs.Apply.{refusal, changed}
 use Rattle.userfile.specs.Together.{AreSound}
@@ -11,10 +11,11 @@ use Rattle.botjournal.specs.declared.reply.Answer.TheVariants.{Taken}
 use Rattle.protocol.specs.Numbers.{item_at, set_at}
 use Rattle.protocol.specs.Packets.{AcceptedChange}
 use Rattle.protocol.specs.HubRules.{HubRecord, Accept, Settle, Rebase}
-use Rattle.protocol.specs.LeafRules.{LeafRecord, Apply, Out, Done, Install, Compact}
-use Rattle.protocol.specs.History.{PastHub, PastLeaf, records_of, with_answer, hub_grown, leaf_grown, Extends, AllExtend, HubGrows, LeafGrows}
-use Rattle.protocol.specs.Soundness.{IsOwned, HubHolds, HubFits, IsAnswered, LeafHolds, LeafFits}
+use Rattle.protocol.specs.LeafRules.{LeafRecord, Apply, Out, Done, Install, Compact, is_out, without}
+use Rattle.protocol.specs.History.{PastHub, PastLeaf, records_of, with_answer, hub_grown, leaf_grown, AllExtend, HubGrows, LeafGrows}
+use Rattle.protocol.specs.Soundness.{IsOwned, HubHolds, HubFits, LeafHolds, LeafFits}
 use Rattle.protocol.proofs.Lists.{item_at-more, item_at-end, item_at-last, item_at-within, Extends-refl, Extends-one, Extends-length, length-one, set_at-same, AllExtend-refl, AllExtend-set_at, records_of-more, records_of-one}
+use Rattle.protocol.proofs.Requests.{is_out-more, is_out-new, is_out-without, AreAsked-more, AreAsked-last, AreAsked-without}
 
 -- ---- the hub
 
@@ -115,32 +116,54 @@ leaf_grows h i l (Apply c) fits = record { version = omega arith; asked = Extend
 leaf_grows h i l (Out c) fits = record { version = omega arith; asked = Extends-one l.asked c }
 leaf_grows h i l (Install s records) fits = record { version = fits.0; asked = Extends-refl l.asked }
 leaf_grows h i l Compact fits = record { version = omega arith; asked = Extends-refl l.asked }
-leaf_grows h i l Done fits = record { version = omega arith; asked = Extends-refl l.asked }
+leaf_grows h i l (Done r) fits = record { version = omega arith; asked = Extends-refl l.asked }
 
 pub leaf_holds_grown : (h : PastHub) (i : ℕ) (l : PastLeaf) (rec : LeafRecord) → LeafHolds h i l → LeafFits h i l rec
     → LeafHolds h i (leaf_grown l rec)
 leaf_holds_grown h i l (Apply c) holds fits =
-    record { version = omega (arith, item_at-within h.accepted (suc l.version) fits.0 fits.1); answered = holds.answered }
+    record {
+      version = omega (arith, item_at-within h.accepted (suc l.version) fits.0 fits.1);
+      asked = holds.asked;
+      answered = holds.answered;
+    }
 leaf_holds_grown h i l (Out c) holds fits = record {
   version = holds.version;
-  answered =
-      let was : length l.asked ≤ length (h.answers i) = subst (λ o. IsAnswered o l.asked (h.answers i)) fits holds.answered in
-      (omega (arith, was, length-one l.asked c), rw (length-one l.asked c) (item_at-end l.asked c));
+  asked =
+      AreAsked-last (l.asked ++ c ∷ []) l.out (length l.asked + 1) c
+      (AreAsked-more l.asked (l.asked ++ c ∷ []) l.out (Extends-one l.asked c) holds.asked) (item_at-end l.asked c);
+  answered = λ r within. elim (cases_lt (length l.asked) r) [
+    | inl above ↦ inl (is_out-new r l.out (length l.asked + 1) c (omega (arith, above, within, length-one l.asked c)))
+    | inr below ↦ elim (holds.answered r below) [
+      | inl out ↦ inl (is_out-more r l.out (length l.asked + 1) c out)
+      | inr answered ↦ inr answered
+    ]
+  ];
 }
-leaf_holds_grown h i l Done holds fits = record { version = holds.version; answered = fits }
-leaf_holds_grown h i l (Install s records) holds fits = record { version = fits.1; answered = holds.answered }
+leaf_holds_grown h i l (Done s) holds fits = record {
+  version = holds.version;
+  asked = AreAsked-without l.asked s l.out holds.asked;
+  answered = λ r within. by r within (r == s) refl;
+}
+  where
+    by : (r : ℕ) → r ≤ length l.asked → (b : Bool) → (r == s) ≡ b
+        → (is_out r (without s l.out) ≡ true) ⊎ (r ≤ length (h.answers i))
+    by r within true e = inr (omega (arith, eqb-true r s e, fits))
+    by r within false e = elim (holds.answered r within) [
+      | inl out ↦ inl (is_out-without r s l.out (eqb-false r s e) out)
+      | inr answered ↦ inr answered
+    ]
+leaf_holds_grown h i l (Install s records) holds fits = record { version = fits.1; asked = holds.asked; answered = holds.answered }
 leaf_holds_grown h i l Compact holds fits = holds
-
-IsAnswered-more : (o : Option UserChange) (asked : List UserChange) (answers answers' : List Answer) → Extends answers answers'
-    → IsAnswered o asked answers → IsAnswered o asked answers'
-IsAnswered-more None asked answers answers' more t = omega (arith, t, Extends-length _ _ more)
-IsAnswered-more (Some c) asked answers answers' more t = (omega (arith, t.0, Extends-length _ _ more), t.1)
 
 -- a hub that grows leaves it
 pub LeafHolds-more : (h h' : PastHub) (i : ℕ) (l : PastLeaf) → HubGrows h h' → LeafHolds h i l → LeafHolds h' i l
 LeafHolds-more h h' i l grows holds = record {
   version = omega (arith, holds.version, Extends-length _ _ grows.accepted);
-  answered = IsAnswered-more l.out l.asked _ _ (grows.answers i) holds.answered;
+  asked = holds.asked;
+  answered = λ r within. elim (holds.answered r within) [
+    | inl out ↦ inl out
+    | inr answered ↦ inr (omega (arith, answered, Extends-length _ _ (grows.answers i)))
+  ];
 }
 
 pub LeafFits-more : (h h' : PastHub) (i : ℕ) (l : PastLeaf) (rec : LeafRecord) → HubGrows h h' → LeafFits h i l rec
@@ -150,4 +173,4 @@ LeafFits-more h h' i l (Out c) grows fits = fits
 LeafFits-more h h' i l (Install s records) grows fits =
     (fits.0, omega (arith, fits.1, Extends-length _ _ grows.accepted), fits.2 ∙ sym (records_of-more h.accepted h'.accepted s grows.accepted fits.1))
 LeafFits-more h h' i l Compact grows fits = tt
-LeafFits-more h h' i l Done grows fits = omega (arith, fits, Extends-length _ _ (grows.answers i))
+LeafFits-more h h' i l (Done r) grows fits = omega (arith, fits, Extends-length _ _ (grows.answers i))

@@ -7,7 +7,7 @@ use Rattle.protocol.specs.Bots.{How, Works, Fails, Counts, Row, refused, Bot, un
 use Rattle.protocol.specs.Truth.{AllOutgoing}
 use Rattle.protocol.specs.Soundness.{BotSound}
 use Rattle.protocol.specs.Standing.{BotStands}
-use Rattle.protocol.specs.Claims.{IsFine, IsFineNote}
+use Rattle.protocol.specs.Claims.{IsFine}
 
 -- what a row leaves stands for a sound moment into which history grew, and what is sent is true of it
 pub record Goes {C K V R : Type 0} (S : C → K → Type 0) (Sound : Bot K V R → Type 0) (Grow : K → K → Type 0) (Says : K → Packet → Type 0)
@@ -51,26 +51,25 @@ module _ {C K V R : Type 0} (held : C → R → C) (folded : K → R → K) (S :
     fine = fine;
   }
 
-  wrote : (rec : R) (note : Note) (sends : List Outgoing) (loose : V) → b.down ≡ false → Fits b.kept rec → IsFineNote note
-      → Loose loose → AllOutgoing (Says (folded b.kept rec)) sends
+  wrote : (rec : R) (note : Note) (sends : List Outgoing) (loose : V) → b.down ≡ false → Fits b.kept rec → Loose loose
+      → AllOutgoing (Says (folded b.kept rec)) sends
       → To (record { told = Ok note; sends = sends; after = record w { kept = held w.kept rec; loose = loose } })
-  wrote rec note sends loose up fits fine good true_ones = record {
+  wrote rec note sends loose up fits good true_ones = record {
     after = record b { kept = folded b.kept rec; loose = loose };
     stands = record { kept = laws.stands w.kept b.kept rec st.kept sound.kept fits; loose = refl; down = st.down; doubt = st.doubt };
     sound =
         record { kept = laws.holds b.kept rec sound.kept fits; loose = good; doubt = λ rec' e. absurd (true≢false (sym (sound.doubt rec' e).0 ∙ up)) };
     grows = laws.grows b.kept rec sound.kept fits;
     sends = true_ones;
-    fine = fine;
+    fine = tt;
   }
 
   -- a record is journaled, or the device fails and it is in doubt
   pub written : (how : How) (rec : R) (note : Note) (sends : List Outgoing) (loose : V) → b.down ≡ false → Fits b.kept rec
-      → IsFineNote note → Loose loose → AllOutgoing (Says (folded b.kept rec)) sends
-      → To (journals held how w rec note sends loose)
-  written Works rec note sends loose up fits fine good true_ones = wrote rec note sends loose up fits fine good true_ones
-  written Counts rec note sends loose up fits fine good true_ones = wrote rec note sends loose up fits fine good true_ones
-  written Fails rec note sends loose up fits fine good true_ones = record {
+      → Loose loose → AllOutgoing (Says (folded b.kept rec)) sends → To (journals held how w rec note sends loose)
+  written Works rec note sends loose up fits good true_ones = wrote rec note sends loose up fits good true_ones
+  written Counts rec note sends loose up fits good true_ones = wrote rec note sends loose up fits good true_ones
+  written Fails rec note sends loose up fits good true_ones = record {
     after = record b { down = true; doubt = Some rec };
     stands = record { kept = st.kept; loose = st.loose; down = refl; doubt = refl };
     sound =

@@ -1,5 +1,5 @@
 -- Each row of the hub keeps what holds.
-use Rattle.std.proofs.Common.{◌≡◌, inl, inr, ℕ, zero, suc, ◌+◌, ◌-◌, ◌≤◌, ◌==◌, nat_lt, Bool, true, false, ◌||◌, if◌then◌else◌, List, [], ◌∷◌, ◌++◌, length, take, drop, slice_get, Option, None, Some, Result, Ok, Err, refl, ap, sym, subst, ◌∙◌, arith, length-drop, ltb-false, eq-eqb, drop-drop}
+use Rattle.std.proofs.Common.{◌≡◌, inl, inr, ℕ, zero, suc, ◌+◌, ◌-◌, ◌<◌, ◌≤◌, ◌==◌, nat_lt, Bool, true, false, ◌||◌, if◌then◌else◌, List, [], ◌∷◌, ◌++◌, length, take, drop, slice_get, Option, None, Some, Result, Ok, Err, refl, ap, sym, subst, ◌∙◌, arith, length-drop, ltb-false, eq-eqb, drop-drop}
 use Rattle.std.proofs.lemmas.List.{drop-append-le, drop_all}
 use Rattle.userfile.specs.Records.{Records}
 use Rattle.userfile.specs.Apply.{bad_shape, refusal, changed}
@@ -13,20 +13,21 @@ use Rattle.protocol.specs.Numbers.{last_number, item_at, Place, Below, Same, Nex
 use Rattle.protocol.specs.Packets.{Packet, Outgoing, AcceptedChange, own, change_packet, answer_packet, to_each}
 use Rattle.protocol.specs.Packets.Packet.{Hello, Change, Request, Accepted as accepted_packet, Refused as refused_packet, BotText, Part}
 use Rattle.protocol.specs.Notes.{Note, LinkFault}
-use Rattle.protocol.specs.Notes.Note.{Queued, Idle, Accepted, Refused, Old, Repeat, Compacted, Relayed, Text, Stray}
+use Rattle.protocol.specs.Notes.Note.{Queued, Idle, Accepted, Refused, Old, Repeat, Gap, Compacted, Relayed, Text, Stray}
 use Rattle.protocol.specs.Notes.LinkFault.{BadChange, AsksFull, NumbersSpent, BadBotText, OtherLayout}
 use Rattle.protocol.specs.Bots.{How, Row, noted, refused, unless_down, journals}
 use Rattle.protocol.specs.Snapshots.{part_count, part_of}
-use Rattle.protocol.specs.HubRules.{HubState, HubRecord, Accept, Settle, Rebase, Hub, version_of, last_request, next_number, with_reply, hub_folded, changes_from, parts_from, is_no_leaf, ask_taken, hub_asked, is_bad_text, text_told, accepts, ask_served, hub_pumped_up, hub_pumped, next_request, repeats, request_placed, request_of, hello_served, hello_met, text_passed, hub_received_up, hub_received, hub_compacted, hub_restarted}
+use Rattle.protocol.specs.HubRules.{HubState, HubRecord, Accept, Settle, Rebase, Hub, version_of, last_request, kept_in, with_next, with_reply, reply_to, hub_folded, changes_from, parts_from, is_no_leaf, ask_taken, hub_asked, is_bad_text, text_told, accepts, ask_served, hub_pumped_up, hub_pumped, next_request, repeats, request_placed, request_of, hello_served, hello_met, text_passed, hub_received_up, hub_received, hub_compacted, hub_restarted}
 use Rattle.protocol.specs.History.{PastHub, HubPast, records_of, with_answer, hub_grown, HubGrows}
-use Rattle.protocol.specs.Truth.{IsTrue, IsLastAnswer, HubSays, AllOutgoing}
+use Rattle.protocol.specs.Truth.{IsTrue, IsRecentAnswer, HubSays, AllOutgoing}
 use Rattle.protocol.specs.Soundness.{HubHolds, HubFits, HubSound}
-use Rattle.protocol.specs.Standing.{HubStands, BotStands, IsLastReply}
+use Rattle.protocol.specs.Standing.{HubStands, BotStands, KeepsLast}
 use Rattle.protocol.specs.Claims.{IsFine}
-use Rattle.protocol.proofs.Lists.{item_at-end, item_at-within, item_at-take, item_at-drop, Extends-one, length-one, set-elim, set_at-same, records_of-one, place_tells}
+use Rattle.protocol.proofs.Lists.{item_at-end, item_at-take, item_at-drop, Extends-one, length-one, set-elim, set_at-same, records_of-one, place_tells}
 use Rattle.protocol.proofs.Truth.{AllOutgoing-append, AllOutgoing-to_each, AllOutgoing-numbered}
 use Rattle.protocol.proofs.Counted.{hub_grows, hub_holds_grown}
 use Rattle.protocol.proofs.Growing.{HubGrows-refl}
+use Rattle.protocol.proofs.Replies.{keeps_next, kept_is_answer}
 use Rattle.protocol.proofs.Goes.{Goes, Laws, stays, loosens, written, restarts, ups}
 
 -- ---- standing under a record counted
@@ -36,17 +37,16 @@ pub version_stands : (asked : ℕ → List UserChange) (w : HubState) (h : PastH
 version_stands asked w h st holds = omega (arith, st.floor, ap length st.tail, length-drop h.floor h.accepted, holds.floor)
 
 -- one more reply is the last one
-replies_stand : (replies : List (Option Reply)) (answers : ℕ → List Answer) (origin : ℕ) (x y : Answer) → x ≡ y
-    → ((place : ℕ) (z : Option Reply) → slice_get replies place ≡ Some z → IsLastReply z (answers (suc place)))
-    → (place : ℕ) (z : Option Reply) → slice_get (with_reply replies origin x) place ≡ Some z
-    → IsLastReply z (with_answer answers origin y (suc place))
+replies_stand : (replies : List (List Reply)) (answers : ℕ → List Answer) (origin : ℕ) (x y : Answer) → x ≡ y
+    → ((place : ℕ) (kept : List Reply) → slice_get replies place ≡ Some kept → KeepsLast kept (answers (suc place)))
+    → (place : ℕ) (kept : List Reply) → slice_get (with_reply replies origin x) place ≡ Some kept
+    → KeepsLast kept (with_answer answers origin y (suc place))
 replies_stand replies answers zero x y is st = st
 replies_stand replies answers (suc k) x y is st =
-    set-elim (λ j (z : Option Reply) (ys : List Answer). IsLastReply z ys) replies answers k _ _
-    (λ u e. (
-      ap next_number e ∙ ap (λ n. n + 1) (st k u e).0 ∙ sym (length-one (answers (suc k)) y),
-      ap (λ a. Some a) is ∙ sym (rw (length-one (answers (suc k)) y) (item_at-end (answers (suc k)) y)),
-    )) st
+    set-elim (λ j (kept : List Reply) (ys : List Answer). KeepsLast kept ys) replies answers k _ _
+    (λ kept e.
+    subst (λ (o : Option (List Reply)). KeepsLast (with_next (suc k) x (kept_in o)) (answers (suc k) ++ y ∷ [])) (sym e)
+    (keeps_next (suc k) kept (answers (suc k)) x y is (st k kept e))) st
 
 hub_stands_folded : (asked : ℕ → List UserChange) (w : HubState) (h : PastHub) (rec : HubRecord) → HubStands w h
     → HubHolds asked h → HubStands (hub_folded w rec) (hub_grown h rec)
@@ -86,14 +86,14 @@ HubGoes asked h row = Goes HubStands (HubSound asked) HubGrows HubSays h row
 
 -- the answer that a record adds is the last one
 answer_said : (answers : ℕ → List Answer) (k r : ℕ) (x : Answer) → r ≡ length (answers (suc k)) + 1
-    → (r ≡ length (with_answer answers (suc k) x (suc k))) × (item_at (with_answer answers (suc k) x (suc k)) r ≡ Some x)
+    → (length (with_answer answers (suc k) x (suc k)) < r + 8) × (item_at (with_answer answers (suc k) x (suc k)) r ≡ Some x)
 answer_said answers k r x is =
     let there = set_at-same answers (suc k) (answers (suc k) ++ x ∷ []) in
     let last = item_at-end (answers (suc k)) x in
-    (is ∙ sym (length-one (answers (suc k)) x) ∙ ap length (sym there), rw (there, is) last)
+    (omega (arith, is, length-one (answers (suc k)) x, ap length there), rw (there, is) last)
 
--- the packet of the last answer says so
-packet_said : (h : PastHub) (leaf r : ℕ) (x : Answer) → IsLastAnswer h leaf r x → HubSays h (answer_packet leaf r x)
+-- the packet of an answer says so
+packet_said : (h : PastHub) (leaf r : ℕ) (x : Answer) → IsRecentAnswer h leaf r x → HubSays h (answer_packet leaf r x)
 packet_said h leaf r (Taken n) t = t
 packet_said h leaf r (refused_request fault) t = t
 
@@ -110,12 +110,11 @@ module _ (asked : ℕ → List UserChange) (w : Hub) (h : HubPast) (st : BotStan
       fine tt
 
   hub_writes : (entry : HubRecord) (note : Note) (sends : List Outgoing) (waiting : List UserChange) → h.down ≡ false
-      → HubFits asked h.kept entry
-      → IsFine (Ok note) → AllOutgoing (HubSays (hub_grown h.kept entry)) sends
+      → HubFits asked h.kept entry → AllOutgoing (HubSays (hub_grown h.kept entry)) sends
       → HubGoes asked h (journals hub_folded how w entry note sends waiting)
-  hub_writes entry note sends waiting up fits fine said =
+  hub_writes entry note sends waiting up fits said =
       written hub_folded hub_grown HubStands (HubHolds asked) _ (HubFits asked) HubGrows HubSays (hub_laws asked) w h st sound how entry
-      note sends waiting up fits fine tt said
+      note sends waiting up fits tt said
 
   hub_ups : (row : Row Hub) → (h.down ≡ false → HubGoes asked h row) → HubGoes asked h (unless_down w row)
   hub_ups = ups hub_folded hub_grown HubStands (HubHolds asked) _ (HubFits asked) HubGrows HubSays (hub_laws asked) w h st sound
@@ -135,7 +134,7 @@ module _ (asked : ℕ → List UserChange) (w : Hub) (h : HubPast) (st : BotStan
           if b then journals hub_folded how w (Accept e) (Accepted (version_of w.kept + 1))
           (first ++ to_each 1 leaves (change_packet (version_of w.kept + 1) e)) waiting
           else refused NumbersSpent w)
-      by true = hub_writes (Accept e) _ _ waiting up fits tt
+      by true = hub_writes (Accept e) _ _ waiting up fits
           (AllOutgoing-append says first _ said (AllOutgoing-to_each says 1 leaves _ (rw version (item_at-end h.kept.accepted e))))
       by false = hub_stays (Err NumbersSpent) [] tt tt
 
@@ -183,7 +182,7 @@ module _ (asked : ℕ → List UserChange) (w : Hub) (h : HubPast) (st : BotStan
     where
       by : h.down ≡ false → (b : Bool)
           → HubGoes asked h (if b then journals hub_folded how w Rebase Compacted [] w.loose else refused NumbersSpent w)
-      by up true = hub_writes Rebase _ [] w.loose up tt tt tt
+      by up true = hub_writes Rebase _ [] w.loose up tt tt
       by up false = hub_stays (Err NumbersSpent) [] tt tt
 
   pub hub_restarts : HubGoes asked h (hub_restarted leaves how w)
@@ -216,38 +215,35 @@ module _ (asked : ℕ → List UserChange) (w : Hub) (h : HubPast) (st : BotStan
   hellos i v true e = hub_stays _ _ tt (parts_said i 1 (part_count w.kept.records))
   hellos i v false e = hub_stays _ _ tt (changes_said i v (ltb-false v w.kept.floor e))
 
-  -- the last request has the last answer, where there is one
-  last_said : (k r : ℕ) (last : Option Reply) → IsLastReply last (h.kept.answers (suc k)) → r ≡ last_request last
-      → HubGoes asked h (repeats leaves how w (suc k) r last)
-  last_said k r None is_last same = hub_stays (Ok Repeat) [] tt tt
-  last_said k r (Some reply) is_last same =
-      let number : r ≡ length (h.kept.answers (suc k)) = same ∙ is_last.0 in
-      hub_stays (Ok Repeat) _ tt (packet_said h.kept (suc k) r reply.answer (number, rw number (sym is_last.1)), tt)
+  -- a reply that is kept is one of the last eight answers
+  repeated : (k r : ℕ) (kept : List Reply) → KeepsLast kept (h.kept.answers (suc k)) → (o : Option Reply) → reply_to r kept ≡ o
+      → HubGoes asked h (repeats leaves how w (suc k) r o)
+  repeated k r kept keeps None e = hub_stays (Ok Old) [] tt tt
+  repeated k r kept keeps (Some reply) e =
+      hub_stays (Ok Repeat) _ tt
+      (packet_said h.kept (suc k) r reply.answer (kept_is_answer kept (h.kept.answers (suc k)) r reply keeps e), tt)
 
-  requests : (near : (i : ℕ) → length (asked i) ≤ length (h.kept.answers i) + 1) → h.down ≡ false → (k r : ℕ) (c : UserChange)
-      → item_at (asked (suc k)) r ≡ Some c → (last : Option Reply) → IsLastReply last (h.kept.answers (suc k))
-      → (p : Place) → place_of r (last_request last) ≡ p → HubGoes asked h (request_placed leaves how w (suc k) r c last p)
-  requests near up k r c asks last is_last Below e = hub_stays (Ok Old) [] tt tt
-  requests near up k r c asks last is_last Same e = last_said k r last is_last (place_tells r _ Same e)
-  requests near up k r c asks last is_last Next e = by (refusal w.kept.records c) refl
+  requests : h.down ≡ false → (k r : ℕ) (c : UserChange) → item_at (asked (suc k)) r ≡ Some c → (kept : List Reply)
+      → KeepsLast kept (h.kept.answers (suc k)) → (p : Place) → place_of r (last_request kept) ≡ p
+      → HubGoes asked h (request_placed leaves how w (suc k) r c kept p)
+  requests up k r c asks kept keeps Below e = repeated k r kept keeps (reply_to r kept) refl
+  requests up k r c asks kept keeps Same e = repeated k r kept keeps (reply_to r kept) refl
+  requests up k r c asks kept keeps Next e = by (refusal w.kept.records c) refl
     where
       number : r ≡ length (h.kept.answers (suc k)) + 1
-      number = place_tells r _ Next e ∙ ap (λ n. n + 1) is_last.0
+      number = place_tells r _ Next e ∙ ap (λ n. n + 1) keeps.last
 
       by : (f : Option ChangeFault) → refusal w.kept.records c ≡ f → HubGoes asked h (next_request leaves how w (suc k) r c f)
-      by (Some fault) is = hub_writes (Settle (suc k) fault) _ _ w.loose up tt tt (answer_said h.kept.answers k r _ number, tt)
+      by (Some fault) is = hub_writes (Settle (suc k) fault) _ _ w.loose up tt (answer_said h.kept.answers k r _ number, tt)
       by None is =
           let said = answer_said h.kept.answers k r (Taken (length h.kept.accepted + 1)) number in
           hub_accepts (record { origin = suc k; request = r; change = c })
           (record { to = suc k; packet = accepted_packet (suc k) r (version_of w.kept + 1) } ∷ []) w.loose up
           (takes c is, inr (number, asks)) (rw version (said, tt))
-  requests near up k r c asks last is_last Above e =
-      let above = place_tells r _ Above e in
-      absurd (omega (arith, above, is_last.0, item_at-within (asked (suc k)) r c asks, near (suc k)))
+  requests up k r c asks kept keeps Above e = hub_stays (Ok Gap) [] tt tt
 
-  pub hub_receives : (near : (i : ℕ) → length (asked i) ≤ length (h.kept.answers i) + 1) → (p : Packet) → IsTrue h.kept asked p
-      → HubGoes asked h (hub_received leaves how w p)
-  hub_receives near p t = hub_ups _ (λ up. at up p t)
+  pub hub_receives : (p : Packet) → IsTrue h.kept asked p → HubGoes asked h (hub_received leaves how w p)
+  hub_receives p t = hub_ups _ (λ up. at up p t)
     where
       hello : (i v : ℕ) (b : Bool)
           → HubGoes asked h (if b then noted Stray w else hello_served leaves how w i v (nat_lt v w.kept.floor))
@@ -261,11 +257,11 @@ module _ (asked : ℕ → List UserChange) (w : Hub) (h : HubPast) (st : BotStan
           subst (λ (b : Bool). HubGoes asked h (if b then hello_met leaves how w i v else refused OtherLayout w)) (sym (eq-eqb layout LAYOUT same))
           (hello i v (is_no_leaf leaves i || nat_lt (version_of w.kept) v))
 
-      request_to : h.down ≡ false → (k r : ℕ) (c : UserChange) → item_at (asked (suc k)) r ≡ Some c → (o : Option (Option Reply))
+      request_to : h.down ≡ false → (k r : ℕ) (c : UserChange) → item_at (asked (suc k)) r ≡ Some c → (o : Option (List Reply))
           → slice_get w.kept.replies k ≡ o
           → HubGoes asked h (request_of leaves how w (suc k) r c o)
       request_to up k r c asks None e = hub_stays (Ok Stray) [] tt tt
-      request_to up k r c asks (Some last) e = requests near up k r c asks last (st.kept.replies k last e) _ refl
+      request_to up k r c asks (Some kept) e = requests up k r c asks kept (st.kept.replies k kept e) _ refl
 
       request : h.down ≡ false → (i r : ℕ) (c : UserChange) → item_at (asked i) r ≡ Some c → (b : Bool)
           → HubGoes asked h (if b then noted Stray w else request_of leaves how w i r c (item_at w.kept.replies i))

@@ -7,6 +7,7 @@ use Rattle.userfile.specs.Together.{AreSound, records_fault}
 use Rattle.userfile.specs.declared.change.Change.{Change as UserChange}
 use Rattle.userfile.specs.declared.error.ChangeFault.{ChangeFault}
 use Rattle.usercodec.specs.declared.records.Record.{Record}
+use Rattle.botjournal.specs.declared.request.Request.{Request as OutRequest}
 use Rattle.botjournal.specs.declared.reply.Answer.{Answer}
 use Rattle.botjournal.specs.declared.reply.Answer.TheVariants.{Taken, Refused as refused_request}
 use Rattle.protocol.specs.Numbers.{last_number, item_at, Place, Below, Same, Next, Above, place_of}
@@ -18,13 +19,13 @@ use Rattle.protocol.specs.Notes.LinkFault.{BadChange, AsksFull, NumbersSpent, Ba
 use Rattle.protocol.specs.Bots.{How, Row, noted, refused, unless_down, journals}
 use Rattle.protocol.specs.Snapshots.{PartSet, records_from, joined, set_for, with_part, is_behind}
 use Rattle.protocol.specs.HubRules.{ask_taken, is_bad_text, text_told}
-use Rattle.protocol.specs.LeafRules.{LeafState, LeafRecord, Apply, Out, Done, Install, Compact, LeafLoose, no_loose, Leaf, leaf_folded, leaf_asked, hello, asking, leaf_pumped_up, leaf_pumped, next_applied, change_placed, note_of, reply_taken, reply_received, installed, set_taken, part_taken, leaf_received_up, leaf_received, leaf_compacted, leaf_restarted}
+use Rattle.protocol.specs.LeafRules.{LeafState, LeafRecord, Apply, Out, Done, Install, Compact, LeafLoose, no_loose, Leaf, is_out, without, may_go_out, with_request, leaf_folded, leaf_asked, hello, asking, sent_again, held_back, leaf_pumped_up, leaf_pumped, next_applied, change_placed, reply_taken, reply_received, installed, set_taken, part_taken, leaf_received_up, leaf_received, leaf_compacted, leaf_restarted}
 use Rattle.protocol.specs.History.{PastHub, PastLeaf, LeafPast, records_of, leaf_grown, LeafGrows}
 use Rattle.protocol.specs.Truth.{IsPart, IsTrue, LeafSays, AllOutgoing}
-use Rattle.protocol.specs.Soundness.{HubHolds, IsAnswered, LeafHolds, LeafFits, IsTrueSet, KeepsTrueParts, LeafSound}
+use Rattle.protocol.specs.Soundness.{HubHolds, AreAsked, LeafHolds, LeafFits, IsTrueSet, KeepsTrueParts, LeafSound}
 use Rattle.protocol.specs.Standing.{LeafStands, BotStands}
-use Rattle.protocol.specs.Claims.{IsFine, IsFineNote}
-use Rattle.protocol.proofs.Lists.{item_at-end, item_at-within, length-one, records_of-next, place_tells, or_left}
+use Rattle.protocol.specs.Claims.{IsFine}
+use Rattle.protocol.proofs.Lists.{item_at-within, length-one, records_of-next, place_tells, or_left}
 use Rattle.protocol.proofs.Snapshots.{whole_is, with_part_true, set_for-version}
 use Rattle.protocol.proofs.Counted.{leaf_grows, leaf_holds_grown}
 use Rattle.protocol.proofs.Growing.{LeafGrows-refl}
@@ -43,8 +44,8 @@ leaf_stands_folded g i w l (Apply c) st fits = record {
   out = st.out;
 }
 leaf_stands_folded g i w l (Out c) st fits =
-    record { version = st.version; records = st.records; last = ap (λ n. n + 1) st.last ∙ sym (length-one l.asked c); out = refl }
-leaf_stands_folded g i w l Done st fits = record { version = st.version; records = st.records; last = st.last; out = refl }
+    record { version = st.version; records = st.records; last = ap (λ n. n + 1) st.last ∙ sym (length-one l.asked c); out = rw (st.out, st.last) refl }
+leaf_stands_folded g i w l (Done r) st fits = record { version = st.version; records = st.records; last = st.last; out = ap (without r) st.out }
 leaf_stands_folded g i w l (Install s records) st fits = record { version = refl; records = fits.2; last = st.last; out = st.out }
 leaf_stands_folded g i w l Compact st fits = record { version = st.version; records = st.records; last = st.last; out = st.out }
 
@@ -76,8 +77,8 @@ module _ (g : PastHub) (asked : ℕ → List UserChange) (hub : HubHolds asked g
       (leaf_laws g i) w l st sound
 
   leaf_writes : (rec : LeafRecord) (note : Note) (sends : List Outgoing) (loose : LeafLoose) → l.down ≡ false
-      → LeafFits g i l.kept rec → IsFineNote note → KeepsTrueParts g loose
-      → AllOutgoing (LeafSays i (leaf_grown l.kept rec)) sends → LeafGoes g i l (journals leaf_folded how w rec note sends loose)
+      → LeafFits g i l.kept rec → KeepsTrueParts g loose → AllOutgoing (LeafSays i (leaf_grown l.kept rec)) sends
+      → LeafGoes g i l (journals leaf_folded how w rec note sends loose)
   leaf_writes =
       written leaf_folded leaf_grown (LeafStands g.accepted) (LeafHolds g i) (KeepsTrueParts g) (LeafFits g i) LeafGrows (LeafSays i)
       (leaf_laws g i) w l st sound how
@@ -116,33 +117,50 @@ module _ (g : PastHub) (asked : ℕ → List UserChange) (hub : HubHolds asked g
       by true = leaf_stays (Err BadBotText) [] tt tt
       by false = leaf_stays (Ok Relayed) _ tt (tt, tt)
 
+  -- each request is said to ask what it does
+  asking_said : (k : PastLeaf) (out : List OutRequest) → AreAsked k.asked out → AllOutgoing (LeafSays i k) (asking leaves i how w out)
+  asking_said k [] t = tt
+  asking_said k (one ∷ out) t = ((refl, t.0), asking_said k out t.1)
+
+  again : (out : List OutRequest) → AreAsked l.kept.asked out → LeafGoes g i l (sent_again leaves i how w out)
+  again [] t = leaf_stays _ _ tt ((refl, (refl, st.kept.version)), tt)
+  again (one ∷ out) t = leaf_stays _ _ tt ((refl, (refl, st.kept.version)), asking_said l.kept (one ∷ out) t)
+
+  held : (out : List OutRequest) → AreAsked l.kept.asked out → LeafGoes g i l (held_back leaves i how w out)
+  held [] t = leaf_stays (Err NumbersSpent) [] tt tt
+  held (one ∷ out) t = again (one ∷ out) t
+
+  -- the next request is out in history too
+  next_asked : (c : UserChange) (out : List OutRequest) → out ≡ l.kept.out
+      → AreAsked (l.kept.asked ++ c ∷ []) (with_request (w.kept.last + 1) c out)
+  next_asked c out is =
+      let same : with_request (w.kept.last + 1) c out ≡ (leaf_grown l.kept (Out c)).out = rw (is, st.kept.last) refl in
+      subst (AreAsked (l.kept.asked ++ c ∷ [])) (sym same) (leaf_holds_grown g i l.kept (Out c) sound.kept tt).asked
+
   pub leaf_pumps : LeafGoes g i l (leaf_pumped leaves i how w)
-  leaf_pumps = leaf_ups _ (λ up. at up w.kept.out st.kept.out w.loose.waiting)
+  leaf_pumps =
+      leaf_ups _ (λ up. at up w.kept.out st.kept.out (subst (AreAsked l.kept.asked) (sym st.kept.out) sound.kept.asked) w.loose.waiting)
     where
-      at : l.down ≡ false → (o : Option UserChange) → o ≡ l.kept.out → (waiting : List UserChange)
-          → LeafGoes g i l (leaf_pumped_up leaves i how w o waiting)
-      at up (Some c) e waiting =
-          let out : item_at l.kept.asked (length l.kept.asked) ≡ Some c =
-          (subst (λ o. IsAnswered o l.kept.asked (g.answers i)) (sym e) sound.kept.answered).1 in
-          leaf_stays _ _ tt ((refl, (refl, st.kept.version)), ((refl, rw st.kept.last out), tt))
-      at up None e [] = leaf_stays _ _ tt ((refl, (refl, st.kept.version)), tt)
-      at up None e (c ∷ rest) = by (nat_lt w.kept.last last_number)
+      at : l.down ≡ false → (out : List OutRequest) → out ≡ l.kept.out → AreAsked l.kept.asked out → (waiting : List UserChange)
+          → LeafGoes g i l (leaf_pumped_up leaves i how w out waiting)
+      at up out e t [] = again out t
+      at up out e t (c ∷ rest) = by (may_go_out w.kept.last out)
         where
           by : (b : Bool) → LeafGoes g i l (
               if b then journals leaf_folded how w (Out c) (Sent (w.kept.last + 1))
-              (hello leaves i how w ∷ asking leaves i how w (w.kept.last + 1) c ∷ []) (record w.loose { waiting = rest })
-              else refused NumbersSpent w)
+              (hello leaves i how w ∷ asking leaves i how w (with_request (w.kept.last + 1) c out)) (record w.loose { waiting = rest })
+              else held_back leaves i how w out)
           by true =
-              leaf_writes (Out c) _ _ _ up (sym e) tt true_parts
-              ((refl, (refl, st.kept.version)), ((refl, rw st.kept.last (item_at-end l.kept.asked c)), tt))
-          by false = leaf_stays (Err NumbersSpent) [] tt tt
+              leaf_writes (Out c) _ _ _ up tt true_parts
+              ((refl, (refl, st.kept.version)), asking_said (leaf_grown l.kept (Out c)) (with_request (w.kept.last + 1) c out) (next_asked c out e))
+          by false = held out t
 
   pub leaf_compacts : LeafGoes g i l (leaf_compacted leaves i how w)
   leaf_compacts = leaf_ups _ (λ up. by up (nat_lt w.kept.generation last_number))
     where
       by : l.down ≡ false → (b : Bool)
           → LeafGoes g i l (if b then journals leaf_folded how w Compact Compacted [] w.loose else refused NumbersSpent w)
-      by up true = leaf_writes Compact _ [] w.loose up tt tt true_parts tt
+      by up true = leaf_writes Compact _ [] w.loose up tt true_parts tt
       by up false = leaf_stays (Err NumbersSpent) [] tt tt
 
   pub leaf_restarts : LeafGoes g i l (leaf_restarted leaves i how w)
@@ -171,20 +189,12 @@ module _ (g : PastHub) (asked : ℕ → List UserChange) (hub : HubHolds asked g
           → LeafGoes g i l (next_applied leaves i how w e.change f)
       by (Some fault) r =
           let none = sym (hub.taken l.kept.version e there) ∙ ap (λ (x : Records). refusal x e.change) (sym st.kept.records) ∙ r in cc
-      by None r = leaf_writes (Apply e.change) _ [] w.loose up (e, there, refl) tt true_parts tt
+      by None r = leaf_writes (Apply e.change) _ [] w.loose up (e, there, refl) true_parts tt
 
-  fine_done : (answer : Answer) → IsFineNote (note_of leaves i how w answer)
-  fine_done (Taken n) = tt
-  fine_done (refused_request fault) = tt
-
-  answered : l.down ≡ false → (r : ℕ) (answer : Answer) → item_at (g.answers i) r ≡ Some answer
-      → (o : Option UserChange) (b : Bool) → (r == w.kept.last) ≡ b
-      → LeafGoes g i l (reply_taken leaves i how w answer o b)
-  answered up r answer at None b e = leaf_stays (Ok Old) [] tt tt
-  answered up r answer at (Some c) false e = leaf_stays (Ok Old) [] tt tt
-  answered up r answer at (Some c) true e =
-      leaf_writes Done _ [] w.loose up (omega (arith, eqb-true r w.kept.last e, st.kept.last, item_at-within (g.answers i) r answer at))
-      (fine_done answer) true_parts tt
+  answered : l.down ≡ false → (r : ℕ) (answer : Answer) → item_at (g.answers i) r ≡ Some answer → (b : Bool)
+      → LeafGoes g i l (reply_taken leaves i how w r answer b)
+  answered up r answer at false = leaf_stays (Ok Old) [] tt tt
+  answered up r answer at true = leaf_writes (Done r) _ [] w.loose up (item_at-within (g.answers i) r answer at) true_parts tt
 
   -- an answer to this leaf, or to another
   replied : l.down ≡ false → (leaf r : ℕ) (answer : Answer) → item_at (g.answers leaf) r ≡ Some answer
@@ -192,10 +202,10 @@ module _ (g : PastHub) (asked : ℕ → List UserChange) (hub : HubHolds asked g
   replied up leaf r answer at = by (leaf == i) refl (r == 0)
     where
       by : (mine : Bool) → (leaf == i) ≡ mine → (none : Bool) → LeafGoes g i l (
-          if not mine || none then noted Stray w else reply_taken leaves i how w answer w.kept.out (r == w.kept.last))
+          if not mine || none then noted Stray w else reply_taken leaves i how w r answer (is_out r w.kept.out))
       by false e none = leaf_stays (Ok Stray) [] tt tt
       by true e true = leaf_stays (Ok Stray) [] tt tt
-      by true e false = answered up r answer (subst (λ k. item_at (g.answers k) r ≡ Some answer) (eqb-true leaf i e) at) w.kept.out _ refl
+      by true e false = answered up r answer (subst (λ k. item_at (g.answers k) r ≡ Some answer) (eqb-true leaf i e) at) _
 
   parts : l.down ≡ false → (j : ℕ) (set : PartSet) → IsTrueSet g.accepted set → l.kept.version ≤ set.version
       → LeafGoes g i l (part_taken leaves i how w j set)
@@ -214,7 +224,7 @@ module _ (g : PastHub) (asked : ℕ → List UserChange) (hub : HubHolds asked g
               if b then journals leaf_folded how w (Install set.version (records_from items)) (Installed set.version) []
               (record w.loose { parts = None })
               else refused NumbersSpent w)
-          room true = leaf_writes (Install set.version (records_from items)) _ [] _ up (above, t.reached, whole) tt (λ set' f. cc) tt
+          room true = leaf_writes (Install set.version (records_from items)) _ [] _ up (above, t.reached, whole) (λ set' f. cc) tt
           room false = leaf_stays (Err NumbersSpent) [] tt tt
 
           install : (f : Option ChangeFault) → records_fault (records_from items).users (records_from items).bans ≡ f

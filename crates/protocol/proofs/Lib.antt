@@ -2,6 +2,8 @@ pub mod Lists
 pub mod Truth
 pub mod Counted
 pub mod Growing
+pub mod Replies
+pub mod Requests
 pub mod Goes
 pub mod Snapshots
 pub mod HubGoes
@@ -12,3 +14,4 @@ pub mod Holding
 pub mod Runs
 pub mod Moves
 pub mod Journals
+pub mod Examples

@@ -1,15 +1,16 @@
 -- Numbered items, lists that grow, functions with one value put anew, and the records at versions.
-use Rattle.std.proofs.Common.{◌≡◌, ◌⊎◌, inl, inr, ℕ, zero, suc, ◌+◌, ◌<◌, ◌≤◌, ◌==◌, Bool, true, false, ◌||◌, if◌then◌else◌, List, [], ◌∷◌, ◌++◌, length, take, drop, slice_get, Some, refl, ap, sym, subst, ◌∙◌, arith, append_assoc, length-append, eqb-true, eq-eqb, slice_set, ltb-true, nat_lt}
+use Rattle.std.proofs.Common.{◌≡◌, ◌⊎◌, inl, inr, ℕ, zero, suc, ◌+◌, ◌-◌, ◌<◌, ◌≤◌, ◌==◌, Bool, true, false, ◌||◌, if◌then◌else◌, List, [], ◌∷◌, ◌++◌, length, take, drop, slice_get, Some, refl, ap, sym, subst, ◌∙◌, arith, append_assoc, length-append, eqb-true, eq-eqb, slice_set, ltb-true, nat_lt}
 use Rattle.std.proofs.lemmas.Bool.{eqb-false}
 use Rattle.std.proofs.lemmas.Bool.Decides.{nat_tests}
 use Rattle.std.proofs.lemmas.List.{take-append-le, take_more, append-nil}
 use Rattle.std.proofs.lemmas.Option.{slice_get_within, get_or_from_slice_get}
 use Rattle.std.specs.Option.{option_map}
+use Rattle.std.specs.List.{AllByRecursion}
 use Rattle.userfile.specs.Records.{Records, no_records}
 use Rattle.userfile.specs.Apply.{changed}
 use Rattle.userfile.specs.Versions.{after_changes}
 use Rattle.userfile.specs.declared.change.Change.{Change as UserChange}
-use Rattle.protocol.specs.Numbers.{item_at, set_at, Place, Below, Same, Next, Above, place_of}
+use Rattle.protocol.specs.Numbers.{item_at, last_item, set_at, Place, Below, Same, Next, Above, place_of}
 use Rattle.protocol.specs.Packets.{AcceptedChange}
 use Rattle.protocol.specs.History.{changes_of, records_of, Extends, AllExtend}
 
@@ -62,6 +63,32 @@ item_at-drop (y ∷ xs) (suc n) (suc i) x e =
     let same : suc n + suc i ≡ suc (suc (n + i)) = omega arith in
     let rest : n + suc i ≡ suc (n + i) = omega arith in
     rw same (rw rest at (item_at-drop xs n (suc i) x e))
+
+pub last_item-end : {X : Type 0} (xs : List X) (x : X) → last_item (xs ++ x ∷ []) ≡ Some x
+last_item-end xs x =
+    let last : length (xs ++ x ∷ []) - 1 ≡ length xs = omega (arith, length-append xs (x ∷ [])) in rw last (slice_get-end xs [] x)
+
+-- ---- all of some
+
+pub all-map : {X : Type 0} (P Q : X → Type 0) → ((x : X) → P x → Q x) → (xs : List X) → AllByRecursion P xs
+    → AllByRecursion Q xs
+all-map P Q to [] all = tt
+all-map P Q to (x ∷ xs) all = (to x all.0, all-map P Q to xs all.1)
+
+pub all-take : {X : Type 0} (P : X → Type 0) (n : ℕ) (xs : List X) → AllByRecursion P xs → AllByRecursion P (take n xs)
+all-take P zero xs all = tt
+all-take P (suc n) [] all = tt
+all-take P (suc n) (x ∷ xs) all = (all.0, all-take P n xs all.1)
+
+pub all-drop : {X : Type 0} (P : X → Type 0) (n : ℕ) (xs : List X) → AllByRecursion P xs → AllByRecursion P (drop n xs)
+all-drop P zero xs all = all
+all-drop P (suc n) [] all = tt
+all-drop P (suc n) (x ∷ xs) all = all-drop P n xs all.1
+
+pub all-append : {X : Type 0} (P : X → Type 0) (xs ys : List X) → AllByRecursion P xs → AllByRecursion P ys
+    → AllByRecursion P (xs ++ ys)
+all-append P [] ys all more = more
+all-append P (x ∷ xs) ys all more = (all.0, all-append P xs ys all.1 more)
 
 -- ---- places
 

@@ -14,7 +14,7 @@ use Rattle.protocol.specs.Notes.{Note}
 use Rattle.protocol.specs.Notes.Note.{Queued, Accepted, Applied, Compacted, Relayed, Stray, Restarted}
 use Rattle.protocol.specs.Notes.LinkFault.{AsksFull, Down, NumbersSpent, BadBotText, OtherLayout}
 use Rattle.protocol.specs.Bots.{How, Works, Fails, Counts, Row, noted, refused, unless_down, journals, counted, reopened}
-use Rattle.protocol.specs.HubRules.{HubRecord, Accept, Settle, Rebase, Hub, version_of, last_request, hub_folded, is_no_leaf, ask_taken, hub_asked, is_bad_text, text_told, accepts, ask_served, hub_pumped_up, hub_pumped, replied, next_request, repeats, request_placed, request_of, hello_served, hello_met, text_passed, hub_received_up, hub_received, hub_compacted, hub_restarted}
+use Rattle.protocol.specs.HubRules.{HubRecord, Accept, Settle, Rebase, Hub, version_of, last_request, reply_to, hub_folded, is_no_leaf, ask_taken, hub_asked, is_bad_text, text_told, accepts, ask_served, hub_pumped_up, hub_pumped, replied, next_request, repeats, request_placed, request_of, hello_served, hello_met, text_passed, hub_received_up, hub_received, hub_compacted, hub_restarted}
 use Rattle.protocol.specs.LeafRules.{Apply, Leaf, leaf_folded, next_applied, change_placed, leaf_received_up, leaf_received}
 use Rattle.protocol.specs.Network.{Net, Event, Ask, Pump, Tell, Compact, Restart, Step, At, Deliver, Report, Course, Makes, LacksMemory, hub_stepped, leaf_met, at_bot, hub_event, leaf_event, delivered, happened, stepped}
 use Rattle.protocol.specs.Claims.{MovesAsTold}
@@ -122,9 +122,9 @@ module _ (leaves : ℕ) (how : How) (w : Hub) where
       by Fails = inl refl
       by Counts = found w.doubt
 
-  moves-request : (leaf r : ℕ) (c : UserChange) (o : Option (Option Reply)) → Moves w (request_of leaves how w leaf r c o)
+  moves-request : (leaf r : ℕ) (c : UserChange) (o : Option (List Reply)) → Moves w (request_of leaves how w leaf r c o)
   moves-request leaf r c None = inl refl
-  moves-request leaf r c (Some last) = placed (place_of r (last_request last))
+  moves-request leaf r c (Some kept) = placed (place_of r (last_request kept))
     where
       next : (f : Option ChangeFault) → Moves w (next_request leaves how w leaf r c f)
       next (Some fault) = moves-journals how (Settle leaf fault) _ _ w.loose refl
@@ -132,13 +132,13 @@ module _ (leaves : ℕ) (how : How) (w : Hub) where
           moves-accepts (record { origin = leaf; request = r; change = c }) (replied leaves how w leaf r (Taken (version_of w.kept + 1)))
           w.loose
 
-      again : (last : Option Reply) → Moves w (repeats leaves how w leaf r last)
+      again : (o : Option Reply) → Moves w (repeats leaves how w leaf r o)
       again None = inl refl
       again (Some reply) = inl refl
 
-      placed : (p : Place) → Moves w (request_placed leaves how w leaf r c last p)
-      placed Below = inl refl
-      placed Same = again last
+      placed : (p : Place) → Moves w (request_placed leaves how w leaf r c kept p)
+      placed Below = again (reply_to r kept)
+      placed Same = again (reply_to r kept)
       placed Next = next (refusal w.kept.records c)
       placed Above = inl refl
 

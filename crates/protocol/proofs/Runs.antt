@@ -1,5 +1,5 @@
 -- Every run of a new net is lawful, and all that is promised holds at each of its moments.
-use Rattle.std.proofs.Common.{◌≡◌, ℕ, zero, suc, ◌≤◌, List, [], ◌∷◌, length, slice_get, Option, None, Some, refl, ap, sym, subst, ◌∙◌, arith, ◌++◌}
+use Rattle.std.proofs.Common.{◌≡◌, inr, ℕ, zero, suc, ◌≤◌, List, [], ◌∷◌, length, slice_get, Some, refl, ap, sym, subst, ◌∙◌, arith, ◌++◌}
 use Rattle.userfile.specs.Together.{AreSound}
 use Rattle.botjournal.specs.declared.reply.Reply.{Reply}
 use Rattle.protocol.specs.Numbers.{item_at}
@@ -8,7 +8,7 @@ use Rattle.protocol.specs.LeafRules.{Leaf}
 use Rattle.protocol.specs.History.{History, start, records_of, Grows}
 use Rattle.protocol.specs.Soundness.{IsSound}
 use Rattle.protocol.specs.Network.{Net, Step, Course, no_replies, new_leaf, new_leaves, new_net, stepped}
-use Rattle.protocol.specs.Standing.{Stands, LeafStands, BotStands, IsLastReply}
+use Rattle.protocol.specs.Standing.{Stands, LeafStands, BotStands, KeepsLast}
 use Rattle.protocol.specs.Claims.{shown_version, shown_records, IsFineOutcome, Made, net_after, Leads, Ends}
 use Rattle.protocol.proofs.Growing.{Grows-refl, Grows-trans}
 use Rattle.protocol.proofs.Steps.{Follows, follows}
@@ -44,12 +44,12 @@ no_records_sound : (version : ℕ) → AreSound (records_of [] version)
 no_records_sound zero = record { users = refl; bans = refl; together = refl }
 no_records_sound (suc version) = record { users = refl; bans = refl; together = refl }
 
-no_replies_stand : (count place : ℕ) (reply : Option Reply) → slice_get (no_replies count) place ≡ Some reply
-    → IsLastReply reply []
-no_replies_stand zero place reply e = cc
-no_replies_stand (suc count) zero reply e =
-    subst (λ (x : Option Reply). IsLastReply x []) (let same : None ≡ reply = cc in same) (refl, refl)
-no_replies_stand (suc count) (suc place) reply e = no_replies_stand count place reply e
+no_replies_stand : (count place : ℕ) (kept : List Reply) → slice_get (no_replies count) place ≡ Some kept → KeepsLast kept []
+no_replies_stand zero place kept e = cc
+no_replies_stand (suc count) zero kept e =
+    subst (λ (replies : List Reply). KeepsLast replies []) (let same : [] ≡ kept = cc in same)
+    (record { in_turn = record { first = 1; numbered = tt; few = omega arith }; last = refl; these = tt })
+no_replies_stand (suc count) (suc place) kept e = no_replies_stand count place kept e
 
 new_leaves-length : (count : ℕ) → length (new_leaves count) ≡ count
 new_leaves-length zero = refl
@@ -81,7 +81,7 @@ start_sound count = record {
     loose = tt;
     doubt = λ entry e. cc;
   };
-  leaves = λ i. record { kept = record { version = omega arith; answered = omega arith }; loose = λ set e. cc; doubt = λ entry e. cc };
+  leaves = λ i. record { kept = record { version = omega arith; asked = tt; answered = λ r within. inr within }; loose = λ set e. cc; doubt = λ entry e. cc };
   packets = tt;
 }
   where
@@ -130,7 +130,7 @@ module _ (count : ℕ) (first more : List Made) where
       (net_after (net_after (new_net count) first) more) ended.after ended.stands ended.sound grown bot v v' is
       (ap (λ w. shown_version w bot) (sym later) ∙ is')
 
--- no step of a run is told as a gap or as diverged
+-- no step of a run is told as diverged
 pub run_fine : (count : ℕ) (made : List Made) (course : Course) (step : Step)
     → IsFineOutcome (stepped course (net_after (new_net count) made) step).outcome
 run_fine count made course step =

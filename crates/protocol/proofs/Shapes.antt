@@ -1,5 +1,5 @@
 -- The records of a part of sound records are of good shape.
-use Rattle.std.proofs.Common.{◌≡◌, ℕ, zero, suc, ◌-◌, ◌*◌, true, false, List, [], ◌∷◌, ◌++◌, take, drop}
+use Rattle.std.proofs.Common.{◌≡◌, ℕ, ◌-◌, ◌*◌, true, false, List, [], ◌∷◌, drop}
 use Rattle.std.specs.List.{list_any, list_all, AllByRecursion}
 use Rattle.userfile.specs.Records.{Records}
 use Rattle.userfile.specs.Together.{is_user, is_good_ban, repeats_mask, is_over, AreSound}
@@ -9,23 +9,7 @@ use Rattle.userfile.proofs.SoundLemmas.{first_none, if_none}
 use Rattle.userfile.proofs.RepeatLemmas.{or_false, and_true}
 use Rattle.usercodec.specs.Records.{HasShape}
 use Rattle.protocol.specs.Snapshots.{user_items, ban_items, items_of, part_of}
-
--- ---- all of some
-
-all-take : {X : Type 0} (P : X → Type 0) (n : ℕ) (xs : List X) → AllByRecursion P xs → AllByRecursion P (take n xs)
-all-take P zero xs all = tt
-all-take P (suc n) [] all = tt
-all-take P (suc n) (x ∷ xs) all = (all.0, all-take P n xs all.1)
-
-all-drop : {X : Type 0} (P : X → Type 0) (n : ℕ) (xs : List X) → AllByRecursion P xs → AllByRecursion P (drop n xs)
-all-drop P zero xs all = all
-all-drop P (suc n) [] all = tt
-all-drop P (suc n) (x ∷ xs) all = all-drop P n xs all.1
-
-all-append : {X : Type 0} (P : X → Type 0) (xs ys : List X) → AllByRecursion P xs → AllByRecursion P ys
-    → AllByRecursion P (xs ++ ys)
-all-append P [] ys all more = more
-all-append P (x ∷ xs) ys all more = (all.0, all-append P xs ys all.1 more)
+use Rattle.protocol.proofs.Lists.{all-take, all-drop, all-append}
 
 -- ---- users and bans
 

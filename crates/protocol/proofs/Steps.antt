@@ -1,5 +1,5 @@
 -- Each step from a sound moment leads to one.
-use Rattle.std.proofs.Common.{◌≡◌, ℕ, zero, suc, ◌+◌, ◌≤◌, List, ◌++◌, length, slice_get, length-set, Option, None, Some, refl, ap, sym, ◌∙◌, arith}
+use Rattle.std.proofs.Common.{◌≡◌, ℕ, zero, suc, ◌≤◌, List, ◌++◌, length, slice_get, length-set, Option, None, Some, refl, ap, sym, ◌∙◌}
 use Rattle.userfile.specs.declared.change.Change.{Change as UserChange}
 use Rattle.protocol.specs.Numbers.{item_at, set_at}
 use Rattle.protocol.specs.Packets.{Sent}
@@ -8,7 +8,7 @@ use Rattle.protocol.specs.HubRules.{Hub}
 use Rattle.protocol.specs.LeafRules.{Leaf}
 use Rattle.protocol.specs.History.{PastHub, HubPast, LeafPast, History, asked_of, AllExtend, HubGrows, LeafGrows, Grows}
 use Rattle.protocol.specs.Truth.{IsTrue, HubSays, LeafSays, IsKeptAnswer, AllOutgoing}
-use Rattle.protocol.specs.Soundness.{HubSound, LeafSound, IsAnswered, IsSound}
+use Rattle.protocol.specs.Soundness.{HubSound, LeafSound, IsSound}
 use Rattle.protocol.specs.Network.{Net, Event, Ask, Pump, Tell, Compact, Restart, Step, At, Deliver, Outcome, OutOfMemory, NoSuchBot, NoSuchPacket, Course, Makes, LacksMemory, Stepped, posted, unmoved, hub_stepped, leaf_stepped, leaf_met, at_bot, hub_event, leaf_event, delivered, happened, lacked, stepped}
 use Rattle.protocol.specs.Standing.{LeafStands, BotStands, Stands}
 use Rattle.protocol.specs.Claims.{IsFineOutcome}
@@ -143,15 +143,6 @@ leaf_moves w s st sound place row goes =
 
 -- ---- every step
 
--- at most one request of a leaf has no reply
-near : (s : History) → IsSound s → (i : ℕ) → length (asked_of s.leaves i) ≤ length (s.hub.kept.answers i) + 1
-near s sound i = by (s.leaves i).kept.out (sound.leaves i).kept.answered
-  where
-    by : (o : Option UserChange) → IsAnswered o (s.leaves i).kept.asked (s.hub.kept.answers i)
-        → length (asked_of s.leaves i) ≤ length (s.hub.kept.answers i) + 1
-    by None t = omega (arith, t)
-    by (Some c) t = t.0
-
 at_some_bot : (w : Net) (s : History) → Stands w s → IsSound s → (bot : ℕ) (hub_row : Row Hub) (leaf_row : ℕ → Leaf → Row Leaf)
     → HubGoes (asked_of s.leaves) s.hub hub_row
     → ((place : ℕ) (leaf : Leaf) → slice_get w.leaves place ≡ Some leaf
@@ -195,7 +186,7 @@ module _ (w : Net) (s : History) (st : Stands w s) (sound : IsSound s) (how : Ho
   deliveries n (Some sent) e =
       let t = AllSent-at (IsTrue s.hub.kept (asked_of s.leaves)) s.packets n sent sound.packets e in
       at_some_bot w s st sound sent.to _ _
-      (hub_receives (asked_of s.leaves) w.hub s.hub st.hub sound.hub w.count how (near s sound) sent.packet t)
+      (hub_receives (asked_of s.leaves) w.hub s.hub st.hub sound.hub w.count how sent.packet t)
       (λ place leaf at.
       leaf_receives s.hub.kept (asked_of s.leaves) sound.hub.kept w.count (suc place) leaf (s.leaves (suc place))
       (st.leaves place leaf at) (sound.leaves (suc place)) how sent.packet t)

@@ -75,27 +75,7 @@ pub record Holds (net : Net) (h : History) : Type 0 where
 
 -- ---- of each step
 
--- a request is never early, no leaf ever diverges, and no hello has another layout
-abbrev pub IsFineNote : Note → Type 0
-IsFineNote Note.Queued = Unit {0}
-IsFineNote Note.Idle = Unit {0}
-IsFineNote (Note.Sent request) = Unit {0}
-IsFineNote (Note.Accepted number) = Unit {0}
-IsFineNote (Note.Refused fault) = Unit {0}
-IsFineNote (Note.Served count) = Unit {0}
-IsFineNote Note.Old = Unit {0}
-IsFineNote Note.Repeat = Unit {0}
-IsFineNote Note.Gap = ⊥
-IsFineNote Note.Early = Unit {0}
-IsFineNote (Note.Applied number) = Unit {0}
-IsFineNote (Note.Kept part) = Unit {0}
-IsFineNote (Note.Installed version) = Unit {0}
-IsFineNote Note.Compacted = Unit {0}
-IsFineNote Note.Relayed = Unit {0}
-IsFineNote (Note.Text from text) = Unit {0}
-IsFineNote Note.Stray = Unit {0}
-IsFineNote (Note.Restarted version) = Unit {0}
-
+-- no leaf ever diverges, and no hello has another layout
 abbrev pub IsFineFault : LinkFault → Type 0
 IsFineFault (LinkFault.BadChange fault) = Unit {0}
 IsFineFault LinkFault.AsksFull = Unit {0}
@@ -108,7 +88,7 @@ IsFineFault LinkFault.DiskFault = Unit {0}
 IsFineFault LinkFault.OtherLayout = ⊥
 
 abbrev pub IsFine : Result Note LinkFault → Type 0
-IsFine (Ok note) = IsFineNote note
+IsFine (Ok note) = Unit {0}
 IsFine (Err fault) = IsFineFault fault
 
 abbrev pub IsFineOutcome : Outcome → Type 0
@@ -122,7 +102,7 @@ pub record Lawful (net : Net) (h : History) (made : Stepped) (h' : History) : Ty
   pub grows : Grows h h'
   -- no version goes back
   pub versions : (bot v v' : ℕ) → shown_version net bot ≡ Some v → shown_version made.after bot ≡ Some v' → v ≤ v'
-  -- each answer that is sent is the hub's kept one, the last to its leaf
+  -- each answer that is sent is one that the hub keeps, one of the last eight to its leaf
   pub answers : AllOutgoing (IsKeptAnswer h'.hub.kept) made.sends
   pub fine : IsFineOutcome made.outcome
 

@@ -1,15 +1,16 @@
 -- The net as plain history: all that was ever accepted, replied, asked and sent. No bot holds it.
-use Rattle.std.specs.Prelude.{◌≡◌, ℕ, zero, suc, ◌+◌, ◌≤◌, false, List, [], ◌∷◌, ◌++◌, length, Option, None, Some}
+use Rattle.std.specs.Prelude.{◌≡◌, ℕ, zero, suc, ◌+◌, ◌≤◌, false, List, [], ◌∷◌, ◌++◌, length, None}
 use Rattle.userfile.specs.Records.{Records}
 use Rattle.userfile.specs.Versions.{records_at}
 use Rattle.userfile.specs.declared.change.Change.{Change as UserChange}
+use Rattle.botjournal.specs.declared.request.Request.{Request as OutRequest}
 use Rattle.botjournal.specs.declared.reply.Answer.{Answer}
 use Rattle.botjournal.specs.declared.reply.Answer.TheVariants.{Taken, Refused as refused_request}
 use Rattle.protocol.specs.Numbers.{set_at}
 use Rattle.protocol.specs.Packets.{Sent, AcceptedChange}
 use Rattle.protocol.specs.Bots.{Bot}
 use Rattle.protocol.specs.HubRules.{HubRecord, Accept, Settle, Rebase}
-use Rattle.protocol.specs.LeafRules.{LeafRecord, Apply, Out, Done, Install, Compact, LeafLoose, no_loose}
+use Rattle.protocol.specs.LeafRules.{LeafRecord, Apply, Out, Done, Install, Compact, LeafLoose, no_loose, without, with_request}
 
 -- all accepted changes; for each leaf all answers to its requests, of which the answer to request r is the r-th; and the floor
 pub record PastHub : Type 0 where
@@ -17,11 +18,11 @@ pub record PastHub : Type 0 where
   pub answers : ℕ → List Answer
   pub floor : ℕ
 
--- a leaf's version; all changes that it gave a request number, of which that of request r is the r-th; and the one that is out
+-- a leaf's version; all changes that it gave a request number, of which that of request r is the r-th; and the requests that are out
 pub record PastLeaf : Type 0 where
   pub version : ℕ
   pub asked : List UserChange
-  pub out : Option UserChange
+  pub out : List OutRequest
 
 abbrev pub HubPast : Type 0
 HubPast = Bot PastHub (List UserChange) HubRecord
@@ -41,7 +42,7 @@ abbrev pub start : ℕ → History
 start count = record {
   count = count;
   hub = record { kept = record { accepted = []; answers = λ leaf. []; floor = 0 }; loose = []; down = false; doubt = None };
-  leaves = λ leaf. record { kept = record { version = 0; asked = []; out = None }; loose = no_loose; down = false; doubt = None };
+  leaves = λ leaf. record { kept = record { version = 0; asked = []; out = [] }; loose = no_loose; down = false; doubt = None };
   packets = [];
 }
 
@@ -74,8 +75,9 @@ hub_grown hub Rebase = record hub { floor = length hub.accepted }
 
 abbrev pub leaf_grown : PastLeaf → LeafRecord → PastLeaf
 leaf_grown leaf (Apply change) = record leaf { version = leaf.version + 1 }
-leaf_grown leaf (Out change) = record leaf { asked = leaf.asked ++ change ∷ []; out = Some change }
-leaf_grown leaf Done = record leaf { out = None }
+leaf_grown leaf (Out change) =
+    record leaf { asked = leaf.asked ++ change ∷ []; out = with_request (length leaf.asked + 1) change leaf.out }
+leaf_grown leaf (Done request) = record leaf { out = without request leaf.out }
 leaf_grown leaf (Install version records) = record leaf { version = version }
 leaf_grown leaf Compact = leaf
 

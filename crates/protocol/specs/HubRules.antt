@@ -1,5 +1,5 @@
 -- The hub's side of the link, call by call. A call journals at most one record.
-use Rattle.std.specs.Prelude.{ℕ, zero, suc, ◌+◌, ◌-◌, ◌==◌, nat_lt, Bool, true, false, not, ◌||◌, List, [], ◌∷◌, ◌++◌, length, take, drop, slice_get, slice_set, if◌then◌else◌, Option, None, Some, Ok}
+use Rattle.std.specs.Prelude.{◌≡◌, ◌≤◌, ℕ, zero, suc, ◌+◌, ◌-◌, ◌==◌, nat_lt, Bool, true, false, not, ◌||◌, List, [], ◌∷◌, ◌++◌, length, take, drop, slice_get, slice_set, if◌then◌else◌, Option, None, Some, Ok}
 use Rattle.userfile.specs.Records.{Records}
 use Rattle.userfile.specs.Apply.{bad_shape, refusal, changed}
 use Rattle.userfile.specs.declared.change.Change.{Change as UserChange}
@@ -9,7 +9,7 @@ use Rattle.botjournal.specs.declared.TheConstants.{LAYOUT}
 use Rattle.botjournal.specs.declared.reply.Reply.{Reply}
 use Rattle.botjournal.specs.declared.reply.Answer.{Answer}
 use Rattle.botjournal.specs.declared.reply.Answer.TheVariants.{Taken, Refused as refused_request}
-use Rattle.protocol.specs.Numbers.{last_number, item_at, Place, Below, Same, Next, Above, place_of}
+use Rattle.protocol.specs.Numbers.{last_number, item_at, last_item, Place, Below, Same, Next, Above, place_of}
 use Rattle.protocol.specs.Packets.{Packet, Outgoing, AcceptedChange, own, change_packet, answer_packet, to_each, numbered_from}
 use Rattle.protocol.specs.Packets.Packet.{Hello, Change, Request, Accepted as accepted_packet, Refused as refused_packet, BotText, Part}
 use Rattle.protocol.specs.Notes.Note.{Queued, Idle, Accepted, Refused, Served, Old, Repeat, Gap, Compacted, Relayed, Text, Stray}
@@ -20,12 +20,13 @@ use Rattle.protocol.specs.Snapshots.{part_count, part_of}
 -- ---- what a hub is
 
 -- what outlives a restart: the floor, which is the version of the journal's base; the changes accepted since; the records at
--- the hub's version; the last reply to each leaf; and the journal's generation
+-- the hub's version; for each leaf, at its place, the last replies to it, at most eight, the oldest first; and the journal's
+-- generation
 pub record HubState : Type 0 where
   pub floor : ℕ
   pub tail : List AcceptedChange
   pub records : Records
-  pub replies : List (Option Reply)
+  pub replies : List (List Reply)
   pub generation : ℕ
 
 -- what a hub journals: an accepted change, the refusal of a leaf's next request, or its state alone
@@ -42,21 +43,46 @@ Hub = Bot HubState (List UserChange) HubRecord
 abbrev pub version_of : HubState → ℕ
 version_of hub = hub.floor + length hub.tail
 
+-- the number of a reply's request: 0 where there is no reply
+abbrev pub request_number : Option Reply → ℕ
+request_number None = 0
+request_number (Some reply) = reply.request
+
 -- the number of the last request that was replied to
-abbrev pub last_request : Option Reply → ℕ
-last_request None = 0
-last_request (Some reply) = reply.request
+abbrev pub last_request : List Reply → ℕ
+last_request kept = request_number (last_item kept)
 
--- the number of a leaf's next request, of a leaf that has a place among the replies
-abbrev pub next_number : Option (Option Reply) → ℕ
-next_number None = 1
-next_number (Some last) = last_request last + 1
+-- the replies that are kept at a leaf's place: none where it has no place
+abbrev pub kept_in : Option (List Reply) → List Reply
+kept_in None = []
+kept_in (Some kept) = kept
 
--- the reply to a leaf's next request in place of the last one; the hub's own changes have none
-abbrev pub with_reply : List (Option Reply) → ℕ → Answer → List (Option Reply)
+-- the number of a leaf's next request
+abbrev pub next_number : Option (List Reply) → ℕ
+next_number place = last_request (kept_in place) + 1
+
+abbrev pub last_eight : List Reply → List Reply
+last_eight kept = drop (length kept - 8) kept
+
+-- replies to requests with numbers from this one on
+abbrev pub AreNumbered : ℕ → List Reply → Type 0
+AreNumbered number [] = Unit {0}
+AreNumbered number (reply ∷ replies) = (reply.request ≡ number) × AreNumbered (number + 1) replies
+
+-- what is kept of a leaf: at most eight replies, to requests with consecutive numbers
+pub record AreInTurn (kept : List Reply) : Type 0 where
+  pub first : ℕ
+  pub numbered : AreNumbered first kept
+  pub few : length kept ≤ 8
+
+-- the replies to a leaf with that to its next request, after which the last eight are kept
+abbrev pub with_next : ℕ → Answer → List Reply → List Reply
+with_next leaf answer kept = last_eight (kept ++ record { leaf = leaf; request = last_request kept + 1; answer = answer } ∷ [])
+
+-- the reply to a leaf's next request at the leaf's place; the hub's own changes have none
+abbrev pub with_reply : List (List Reply) → ℕ → Answer → List (List Reply)
 with_reply replies zero answer = replies
-with_reply replies (suc place) answer =
-    slice_set replies place (Some (record { leaf = suc place; request = next_number (slice_get replies place); answer = answer }))
+with_reply replies (suc place) answer = slice_set replies place (with_next (suc place) answer (kept_in (slice_get replies place)))
 
 -- a record that is kept: the call, the restart that finds it and the journal that is read all fold it in so
 abbrev pub hub_folded : HubState → HubRecord → HubState
@@ -86,6 +112,11 @@ abbrev pub all_parts : HubState → ℕ → List Outgoing
 all_parts hub leaf = parts_from hub leaf 1 (part_count hub.records)
 
 -- ---- the calls
+
+-- the reply to the request of this number, where it is kept
+abbrev pub reply_to : ℕ → List Reply → Option Reply
+reply_to request [] = None
+reply_to request (reply ∷ replies) = if reply.request == request then Some reply else reply_to request replies
 
 -- no such leaf
 abbrev pub is_no_leaf : ℕ → ℕ → Bool
@@ -145,22 +176,22 @@ module _ (leaves : ℕ) (how : How) (old : Hub) where
       accepts (record { origin = leaf; request = request; change = change })
       (replied leaf request (Taken (version_of old.kept + 1))) old.loose
 
-  -- the last request is answered with the reply that is kept
+  -- a request that was replied to is answered with that reply, where it is still kept
   abbrev pub repeats : ℕ → ℕ → Option Reply → Row Hub
-  repeats leaf request None = noted Repeat old
+  repeats leaf request None = noted Old old
   repeats leaf request (Some reply) = record { told = Ok Repeat; sends = replied leaf request reply.answer; after = old }
 
-  abbrev pub request_placed : ℕ → ℕ → UserChange → Option Reply → Place → Row Hub
-  request_placed leaf request change last Below = noted Old old
-  request_placed leaf request change last Same = repeats leaf request last
-  request_placed leaf request change last Next = next_request leaf request change (refusal old.kept.records change)
-  request_placed leaf request change last Above = noted Gap old
+  abbrev pub request_placed : ℕ → ℕ → UserChange → List Reply → Place → Row Hub
+  request_placed leaf request change kept Below = repeats leaf request (reply_to request kept)
+  request_placed leaf request change kept Same = repeats leaf request (reply_to request kept)
+  request_placed leaf request change kept Next = next_request leaf request change (refusal old.kept.records change)
+  request_placed leaf request change kept Above = noted Gap old
 
   -- a request of a leaf that has a place among the replies
-  abbrev pub request_of : ℕ → ℕ → UserChange → Option (Option Reply) → Row Hub
+  abbrev pub request_of : ℕ → ℕ → UserChange → Option (List Reply) → Row Hub
   request_of leaf request change None = noted Stray old
-  request_of leaf request change (Some last) =
-      request_placed leaf request change last (place_of request (last_request last))
+  request_of leaf request change (Some kept) =
+      request_placed leaf request change kept (place_of request (last_request kept))
 
   abbrev pub served_with : List Outgoing → Row Hub
   served_with packets = record { told = Ok (Served (length packets)); sends = packets; after = old }

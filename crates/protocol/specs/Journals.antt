@@ -1,6 +1,6 @@
 -- What a bot's journal means as the state of a link, and what a link writes into it.
-use Rattle.std.specs.Prelude.{◌≡◌, ℕ, zero, suc, ◌+◌, ◌==◌, nat_le, nat_lt, Bool, true, false, ◌&&◌, List, [], ◌∷◌, length, slice_get, if◌then◌else◌, Option, None, Some, is_none, is_some, option_map}
-use Rattle.std.specs.List.{list_all}
+use Rattle.std.specs.Prelude.{◌≡◌, ℕ, zero, suc, ◌+◌, ◌==◌, nat_le, nat_lt, Bool, true, false, ◌&&◌, List, [], ◌∷◌, ◌++◌, length, slice_get, if◌then◌else◌, Option, None, Some, is_none, is_some, option_map}
+use Rattle.std.specs.List.{list_all, AllByRecursion}
 use Rattle.userfile.specs.Records.{Records}
 use Rattle.userfile.specs.Apply.{refusal}
 use Rattle.userfile.specs.Together.{records_fault, AreSound}
@@ -8,11 +8,12 @@ use Rattle.botjournal.specs.declared.base.Base.{Base}
 use Rattle.botjournal.specs.declared.entry.Entry.{Entry}
 use Rattle.botjournal.specs.declared.entry.Entry.TheVariants.{Accepted, Settled, Applied, ReqOut, ReqDone}
 use Rattle.botjournal.specs.declared.reply.Reply.{Reply}
+use Rattle.botjournal.specs.Bases.{are_out}
 use Rattle.botjournal.specs.Contents.{Contents, added, rebased}
 use Rattle.protocol.specs.Numbers.{last_number, item_at}
 use Rattle.protocol.specs.Snapshots.{items_of, records_from}
-use Rattle.protocol.specs.HubRules.{HubState, HubRecord, Accept, Settle, Rebase, version_of, last_request, next_number, hub_folded}
-use Rattle.protocol.specs.LeafRules.{LeafState, LeafRecord, Apply, Out, Done, Install, Compact, leaf_folded}
+use Rattle.protocol.specs.HubRules.{HubState, HubRecord, Accept, Settle, Rebase, AreInTurn, version_of, last_request, next_number, hub_folded}
+use Rattle.protocol.specs.LeafRules.{LeafState, LeafRecord, Apply, Out, Done, Install, Compact, is_out, may_go_out, leaf_folded}
 
 -- ---- reading entries
 
@@ -34,21 +35,21 @@ stand_together records = is_none (records_fault records.users records.bans)
 
 -- ---- the hub
 
--- the reply to a leaf among those of a base
-abbrev pub reply_among : ℕ → List Reply → Option Reply
-reply_among leaf [] = None
-reply_among leaf (reply ∷ replies) = if reply.leaf == leaf then Some reply else reply_among leaf replies
+-- the replies to a leaf among those of a base
+abbrev pub replies_among : ℕ → List Reply → List Reply
+replies_among leaf [] = []
+replies_among leaf (reply ∷ replies) =
+    if reply.leaf == leaf then reply ∷ replies_among leaf replies else replies_among leaf replies
 
 -- a place for each leaf from the first on
-abbrev pub replies_of : ℕ → ℕ → List Reply → List (Option Reply)
+abbrev pub replies_of : ℕ → ℕ → List Reply → List (List Reply)
 replies_of first zero replies = []
-replies_of first (suc count) replies = reply_among first replies ∷ replies_of (first + 1) count replies
+replies_of first (suc count) replies = replies_among first replies ∷ replies_of (first + 1) count replies
 
--- the replies that there are
-abbrev pub replies_in : List (Option Reply) → List Reply
+-- all replies that are kept, those to the first leaf first
+abbrev pub replies_in : List (List Reply) → List Reply
 replies_in [] = []
-replies_in (None ∷ others) = replies_in others
-replies_in (Some reply ∷ others) = reply ∷ replies_in others
+replies_in (kept ∷ others) = kept ++ replies_in others
 
 -- a hub on a base alone
 abbrev pub hub_of : ℕ → ℕ → Base → HubState
@@ -68,7 +69,7 @@ hub_base hub = record {
   records = items_of hub.records;
   replies = replies_in hub.replies;
   last_request = 0;
-  out = None;
+  out = [];
 }
 
 -- the reply is to one of so many leaves, which are numbered from 1 on
@@ -81,12 +82,12 @@ is_hub_base leaves base =
     (base.bot == 0) && (list_all (is_to_leaf leaves) base.replies && stand_together (records_from base.records))
 
 -- the request is the leaf's next one, of a leaf that has a place
-abbrev pub is_next_of : Option (Option Reply) → ℕ → Bool
+abbrev pub is_next_of : Option (List Reply) → ℕ → Bool
 is_next_of None request = false
-is_next_of (Some last) request = request == (last_request last + 1)
+is_next_of (Some kept) request = request == (last_request kept + 1)
 
 -- so is an accepted change's; the hub's own has request number 0
-abbrev pub is_next : List (Option Reply) → ℕ → ℕ → Bool
+abbrev pub is_next : List (List Reply) → ℕ → ℕ → Bool
 is_next replies zero request = request == 0
 is_next replies (suc place) request = is_next_of (slice_get replies place) request
 
@@ -124,10 +125,15 @@ HubMay hub (Accept entry) =
 HubMay hub (Settle leaf fault) = is_some (item_at hub.replies leaf) ≡ true
 HubMay hub Rebase = Unit {0}
 
--- the state of a hub with so many leaves: a place for each leaf, each reply at its leaf's, and the records of a userfile
+-- all of them are to this leaf
+abbrev pub AreTo : ℕ → List Reply → Type 0
+AreTo leaf kept = AllByRecursion (λ (reply : Reply). reply.leaf ≡ leaf) kept
+
+-- the state of a hub with so many leaves: a place for each leaf, the replies to it there, and the records of a userfile
 pub record IsHubState (leaves : ℕ) (hub : HubState) : Type 0 where
   pub places : length hub.replies ≡ leaves
-  pub placed : (place : ℕ) (reply : Reply) → slice_get hub.replies place ≡ Some (Some reply) → reply.leaf ≡ suc place
+  pub placed : (place : ℕ) (kept : List Reply) → slice_get hub.replies place ≡ Some kept → AreTo (suc place) kept
+  pub in_turn : (place : ℕ) (kept : List Reply) → slice_get hub.replies place ≡ Some kept → AreInTurn kept
   pub records : AreSound hub.records
 
 -- ---- a leaf
@@ -162,8 +168,8 @@ abbrev pub leaf_record : LeafState → Entry → Option LeafRecord
 leaf_record leaf (Applied number change) =
     record_if (is_none (refusal leaf.records change) && (number == (leaf.version + 1))) (Apply change)
 leaf_record leaf (ReqOut request change) =
-    record_if (is_none leaf.out && (nat_lt leaf.last last_number && (request == (leaf.last + 1)))) (Out change)
-leaf_record leaf (ReqDone request) = record_if (is_some leaf.out && (request == leaf.last)) Done
+    record_if (may_go_out leaf.last leaf.out && (request == (leaf.last + 1))) (Out change)
+leaf_record leaf (ReqDone request) = record_if (is_out request leaf.out) (Done request)
 leaf_record leaf (Accepted origin request change) = None
 leaf_record leaf (Settled of request fault) = None
 
@@ -178,7 +184,7 @@ leaf_meaning number contents =
 abbrev pub leaf_written : ℕ → Contents → LeafState → LeafRecord → Contents
 leaf_written number contents leaf (Apply change) = added (Applied (leaf.version + 1) change) contents
 leaf_written number contents leaf (Out change) = added (ReqOut (leaf.last + 1) change) contents
-leaf_written number contents leaf Done = added (ReqDone leaf.last) contents
+leaf_written number contents leaf (Done request) = added (ReqDone request) contents
 leaf_written number contents leaf (Install version records) =
     rebased (leaf_base number (record leaf { version = version; records = records })) contents
 leaf_written number contents leaf Compact = rebased (leaf_base number leaf) contents
@@ -186,7 +192,12 @@ leaf_written number contents leaf Compact = rebased (leaf_base number leaf) cont
 -- a record that the journal may take now
 abbrev pub LeafMay : LeafState → LeafRecord → Type 0
 LeafMay leaf (Apply change) = refusal leaf.records change ≡ None
-LeafMay leaf (Out change) = (leaf.out ≡ None) × (nat_lt leaf.last last_number ≡ true)
-LeafMay leaf Done = is_some leaf.out ≡ true
+LeafMay leaf (Out change) = may_go_out leaf.last leaf.out ≡ true
+LeafMay leaf (Done request) = is_out request leaf.out ≡ true
 LeafMay leaf (Install version records) = AreSound records
 LeafMay leaf Compact = Unit {0}
+
+-- the state of a leaf: the records of a userfile, and requests that may be out, as those of a base
+pub record IsLeafState (leaf : LeafState) : Type 0 where
+  pub records : AreSound leaf.records
+  pub out : are_out leaf.last leaf.out ≡ true

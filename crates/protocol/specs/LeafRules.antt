@@ -1,5 +1,5 @@
 -- A leaf's side of the link, call by call. A call journals at most one record.
-use Rattle.std.specs.Prelude.{ℕ, ◌+◌, ◌==◌, nat_lt, nat_le, Bool, true, false, not, ◌||◌, List, [], ◌∷◌, ◌++◌, length, if◌then◌else◌, Option, None, Some, Ok}
+use Rattle.std.specs.Prelude.{ℕ, ◌+◌, ◌==◌, nat_lt, nat_le, Bool, true, false, not, ◌||◌, ◌&&◌, List, [], ◌∷◌, ◌++◌, length, if◌then◌else◌, Option, None, Some, Ok}
 use Rattle.userfile.specs.Records.{Records}
 use Rattle.userfile.specs.Apply.{bad_shape, refusal, changed}
 use Rattle.userfile.specs.Together.{records_fault}
@@ -7,9 +7,10 @@ use Rattle.userfile.specs.declared.change.Change.{Change as UserChange}
 use Rattle.userfile.specs.declared.error.ChangeFault.{ChangeFault}
 use Rattle.usercodec.specs.declared.records.Record.{Record}
 use Rattle.botjournal.specs.declared.TheConstants.{LAYOUT}
+use Rattle.botjournal.specs.declared.request.Request.{Request as OutRequest}
 use Rattle.botjournal.specs.declared.reply.Answer.{Answer}
 use Rattle.botjournal.specs.declared.reply.Answer.TheVariants.{Taken, Refused as refused_request}
-use Rattle.protocol.specs.Numbers.{last_number, Place, Below, Same, Next, Above, place_of}
+use Rattle.protocol.specs.Numbers.{last_number, last_item, Place, Below, Same, Next, Above, place_of}
 use Rattle.protocol.specs.Packets.{Packet, Outgoing}
 use Rattle.protocol.specs.Packets.Packet.{Hello, Change, Request, Accepted as accepted_packet, Refused as refused_packet, BotText, Part}
 use Rattle.protocol.specs.Notes.{Note}
@@ -21,13 +22,13 @@ use Rattle.protocol.specs.HubRules.{ask_taken}
 
 -- ---- what a leaf is
 
--- what outlives a restart: the version and its records, the last request number, the change that is out under that number,
+-- what outlives a restart: the version and its records, the last request number, the requests that are out, by rising number,
 -- and the generation of the journal
 pub record LeafState : Type 0 where
   pub version : ℕ
   pub records : Records
   pub last : ℕ
-  pub out : Option UserChange
+  pub out : List OutRequest
   pub generation : ℕ
 
 -- what a restart loses: the asks that wait, and the parts that are kept
@@ -39,23 +40,57 @@ pub record LeafLoose : Type 0 where
 abbrev pub no_loose : LeafLoose
 no_loose = record { waiting = []; parts = None }
 
--- what a leaf journals: the next change is applied, a change goes out under the next request number, the one that is out was
--- replied to, records of a version take the place of what there was, or the state alone
+-- what a leaf journals: the next change is applied, a change goes out under the next request number, the request of this number
+-- that is out was replied to, records of a version take the place of what there was, or the state alone
 pub data LeafRecord : Type 0 where
   Apply : UserChange → LeafRecord
   Out : UserChange → LeafRecord
-  Done : LeafRecord
+  Done : (request : ℕ) → LeafRecord
   Install : (version : ℕ) → Records → LeafRecord
   Compact : LeafRecord
 
 abbrev pub Leaf : Type 0
 Leaf = Bot LeafState LeafLoose LeafRecord
 
+-- ---- the requests that are out
+
+-- the request of this number is out
+abbrev pub is_out : ℕ → List OutRequest → Bool
+is_out number [] = false
+is_out number (request ∷ requests) = (request.number == number) || is_out number requests
+
+-- all but the request of this number
+abbrev pub without : ℕ → List OutRequest → List OutRequest
+without number [] = []
+without number (request ∷ requests) = if request.number == number then requests else request ∷ without number requests
+
+-- the number of a request: 0 where there is none
+abbrev pub number_of : Option OutRequest → ℕ
+number_of None = 0
+number_of (Some request) = request.number
+
+-- the highest number that is out
+abbrev pub highest : List OutRequest → ℕ
+highest out = number_of (last_item out)
+
+-- the number after the last is less than eight above the lowest that is out
+abbrev pub has_room : ℕ → List OutRequest → Bool
+has_room last [] = true
+has_room last (request ∷ requests) = nat_lt (last + 1) (request.number + 8)
+
+-- a next request may go out: it has a number, and there is room for it
+abbrev pub may_go_out : ℕ → List OutRequest → Bool
+may_go_out last out = nat_lt last last_number && has_room last out
+
+-- with a change out under this number
+abbrev pub with_request : ℕ → UserChange → List OutRequest → List OutRequest
+with_request number change out = out ++ record { number = number; change = change } ∷ []
+
 -- a record that is kept: the call, the restart that finds it and the journal that is read all fold it in so
 abbrev pub leaf_folded : LeafState → LeafRecord → LeafState
 leaf_folded old (Apply change) = record old { version = old.version + 1; records = changed old.records change }
-leaf_folded old (Out change) = record old { last = old.last + 1; out = Some change }
-leaf_folded old Done = record old { out = None }
+leaf_folded old (Out change) = record old { last = old.last + 1; out = with_request (old.last + 1) change old.out }
+leaf_folded old (Done request) = record old { out = without request old.out }
 leaf_folded old (Install version records) = record old { version = version; records = records; generation = old.generation + 1 }
 leaf_folded old Compact = record old { generation = old.generation + 1 }
 
@@ -71,21 +106,31 @@ module _ (leaves number : ℕ) (how : How) (old : Leaf) where
   abbrev pub hello : Outgoing
   hello = record { to = 0; packet = Hello LAYOUT number old.kept.version }
 
-  -- the leaf asks the hub for a change
-  abbrev pub asking : ℕ → UserChange → Outgoing
-  asking request change = record { to = 0; packet = Request number request change }
+  -- the leaf asks the hub for these changes
+  abbrev pub asking : List OutRequest → List Outgoing
+  asking [] = []
+  asking (request ∷ requests) = record { to = 0; packet = Request number request.number request.change } ∷ asking requests
 
-  -- the request that is out goes again; else the oldest ask gets the next request number while there is one, and is journaled
-  -- before it goes; a hello goes first
-  abbrev pub leaf_pumped_up : Option UserChange → List UserChange → Row Leaf
-  leaf_pumped_up (Some change) waiting =
-      record { told = Ok (Sent old.kept.last); sends = hello ∷ asking old.kept.last change ∷ []; after = old }
-  leaf_pumped_up None [] = record { told = Ok Idle; sends = hello ∷ []; after = old }
-  leaf_pumped_up None (change ∷ rest) =
-      if nat_lt old.kept.last last_number
+  -- what is out goes again, after a hello
+  abbrev pub sent_again : List OutRequest → Row Leaf
+  sent_again [] = record { told = Ok Idle; sends = hello ∷ []; after = old }
+  sent_again (request ∷ requests) =
+      record { told = Ok (Sent (highest (request ∷ requests))); sends = hello ∷ asking (request ∷ requests); after = old }
+
+  -- the next request waits: what is out goes again, and where nothing is, the numbers are spent
+  abbrev pub held_back : List OutRequest → Row Leaf
+  held_back [] = refused NumbersSpent old
+  held_back (request ∷ requests) = sent_again (request ∷ requests)
+
+  -- the oldest ask gets the next request number where it may go out, is journaled, and goes after what is out; a hello goes
+  -- first
+  abbrev pub leaf_pumped_up : List OutRequest → List UserChange → Row Leaf
+  leaf_pumped_up out [] = sent_again out
+  leaf_pumped_up out (change ∷ rest) =
+      if may_go_out old.kept.last out
       then journals leaf_folded how old (Out change) (Sent (old.kept.last + 1))
-      (hello ∷ asking (old.kept.last + 1) change ∷ []) (record old.loose { waiting = rest })
-      else refused NumbersSpent old
+      (hello ∷ asking (with_request (old.kept.last + 1) change out)) (record old.loose { waiting = rest })
+      else held_back out
 
   abbrev pub leaf_pumped : Row Leaf
   leaf_pumped = unless_down old (leaf_pumped_up old.kept.out old.loose.waiting)
@@ -110,16 +155,15 @@ module _ (leaves number : ℕ) (how : How) (old : Leaf) where
   note_of (Taken n) = Accepted n
   note_of (refused_request fault) = Refused fault
 
-  -- a reply to the request that is out ends it
-  abbrev pub reply_taken : Answer → Option UserChange → Bool → Row Leaf
-  reply_taken answer None is_last = noted Old old
-  reply_taken answer (Some change) false = noted Old old
-  reply_taken answer (Some change) true = journals leaf_folded how old Done (note_of answer) [] old.loose
+  -- a reply to a request that is out ends it
+  abbrev pub reply_taken : ℕ → Answer → Bool → Row Leaf
+  reply_taken request answer false = noted Old old
+  reply_taken request answer true = journals leaf_folded how old (Done request) (note_of answer) [] old.loose
 
   abbrev pub reply_received : ℕ → ℕ → Answer → Row Leaf
   reply_received leaf request answer =
       if not (leaf == number) || (request == 0) then noted Stray old
-      else reply_taken answer old.kept.out (request == old.kept.last)
+      else reply_taken request answer (is_out request old.kept.out)
 
   -- the whole set: its records are put in place where they stand together, in the next generation while there is one
   abbrev pub installed : ℕ → Records → Option ChangeFault → Row Leaf

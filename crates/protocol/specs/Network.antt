@@ -122,9 +122,9 @@ stepped LacksMemory old step = lacked old step
 
 -- ---- a new net
 
-abbrev pub no_replies : ℕ → List (Option Reply)
+abbrev pub no_replies : ℕ → List (List Reply)
 no_replies zero = []
-no_replies (suc count) = None ∷ no_replies count
+no_replies (suc count) = [] ∷ no_replies count
 
 abbrev pub new_hub : ℕ → Hub
 new_hub count = record {
@@ -136,7 +136,7 @@ new_hub count = record {
 
 abbrev pub new_leaf : Leaf
 new_leaf = record {
-  kept = record { version = 0; records = no_records; last = 0; out = None; generation = 1 };
+  kept = record { version = 0; records = no_records; last = 0; out = []; generation = 1 };
   loose = no_loose;
   down = false;
   doubt = None;

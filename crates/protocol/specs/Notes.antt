@@ -8,7 +8,7 @@ pub data Note : Type 0 where
   Queued : Note
   -- nothing waits
   Idle : Note
-  -- the leaf's request of this number went out
+  -- the leaf's requests went out, this number the highest of them
   Sent : (request : ℕ) → Note
   -- a change was accepted under this number
   Accepted : (number : ℕ) → Note
@@ -18,7 +18,7 @@ pub data Note : Type 0 where
   Served : (count : ℕ) → Note
   -- the packet tells nothing new
   Old : Note
-  -- the last request comes again
+  -- a request comes again, the reply to which is kept
   Repeat : Note
   -- a request before this one is missing
   Gap : Note

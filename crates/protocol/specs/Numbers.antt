@@ -1,5 +1,5 @@
 -- Numbers that go from 1: the items of lists by their numbers, and where one number stands to another.
-use Rattle.std.specs.Prelude.{ℕ, zero, suc, ◌+◌, ◌==◌, nat_lt, List, slice_get, if◌then◌else◌, Option, None}
+use Rattle.std.specs.Prelude.{ℕ, zero, suc, ◌+◌, ◌-◌, ◌==◌, nat_lt, List, length, slice_get, if◌then◌else◌, Option, None}
 
 -- the last version, request number and generation
 abbrev pub last_number : ℕ
@@ -9,6 +9,10 @@ last_number = 4294967295
 abbrev pub item_at : {X : Type 0} → List X → ℕ → Option X
 item_at xs zero = None
 item_at xs (suc place) = slice_get xs place
+
+-- the last item, where there is one
+abbrev pub last_item : {X : Type 0} → List X → Option X
+last_item xs = slice_get xs (length xs - 1)
 
 -- a function with one value put anew
 abbrev pub set_at : {X : Type 0} → (ℕ → X) → ℕ → X → ℕ → X

@@ -1,9 +1,10 @@
 -- What holds at each moment of history.
-use Rattle.std.specs.Prelude.{◌≡◌, ◌⊎◌, ℕ, suc, ◌+◌, ◌≤◌, true, List, length, Option, None, Some}
+use Rattle.std.specs.Prelude.{◌≡◌, ◌⊎◌, ℕ, suc, ◌+◌, ◌≤◌, true, List, [], ◌∷◌, length, None, Some}
 use Rattle.userfile.specs.Apply.{refusal}
 use Rattle.userfile.specs.Together.{AreSound}
 use Rattle.userfile.specs.declared.change.Change.{Change as UserChange}
 use Rattle.usercodec.specs.declared.records.Record.{Record}
+use Rattle.botjournal.specs.declared.request.Request.{Request as OutRequest}
 use Rattle.botjournal.specs.declared.reply.Answer.{Answer}
 use Rattle.botjournal.specs.declared.reply.Answer.TheVariants.{Taken}
 use Rattle.protocol.specs.Numbers.{item_at}
@@ -11,7 +12,7 @@ use Rattle.protocol.specs.Packets.{AcceptedChange}
 use Rattle.protocol.specs.Bots.{Bot}
 use Rattle.protocol.specs.Snapshots.{PartSet, part_count, part_of}
 use Rattle.protocol.specs.HubRules.{HubRecord, Accept, Settle, Rebase}
-use Rattle.protocol.specs.LeafRules.{LeafRecord, Apply, Out, Done, Install, Compact, LeafLoose}
+use Rattle.protocol.specs.LeafRules.{LeafRecord, Apply, Out, Done, Install, Compact, LeafLoose, is_out}
 use Rattle.protocol.specs.History.{PastHub, PastLeaf, HubPast, LeafPast, History, asked_of, records_of}
 use Rattle.protocol.specs.Truth.{IsTrue, AllSent}
 
@@ -45,22 +46,24 @@ HubFits asked hub Rebase = Unit {0}
 
 -- ---- a leaf
 
--- with no change out, each request was answered; else each but the last, whose change is the one that is out
-abbrev pub IsAnswered : Option UserChange → List UserChange → List Answer → Type 0
-IsAnswered None asked answers = length asked ≤ length answers
-IsAnswered (Some change) asked answers = (length asked ≤ length answers + 1) × (item_at asked (length asked) ≡ Some change)
+-- each request that is out is one that the leaf made, with its change
+abbrev pub AreAsked : List UserChange → List OutRequest → Type 0
+AreAsked asked [] = Unit {0}
+AreAsked asked (request ∷ requests) = (item_at asked request.number ≡ Some request.change) × AreAsked asked requests
 
--- of what a leaf keeps: its version was reached, and it waits for at most one answer
+-- of what a leaf keeps: its version was reached, what is out was asked, and each request that it made is out or was answered
 pub record LeafHolds (hub : PastHub) (number : ℕ) (leaf : PastLeaf) : Type 0 where
   pub version : leaf.version ≤ length hub.accepted
-  pub answered : IsAnswered leaf.out leaf.asked (hub.answers number)
+  pub asked : AreAsked leaf.asked leaf.out
+  pub answered : (request : ℕ) → request ≤ length leaf.asked
+      → (is_out request leaf.out ≡ true) ⊎ (request ≤ length (hub.answers number))
 
 -- a record that a leaf may journal
 abbrev pub LeafFits : PastHub → ℕ → PastLeaf → LeafRecord → Type 0
 LeafFits hub number leaf (Apply change) =
     (entry : AcceptedChange) × (item_at hub.accepted (suc leaf.version) ≡ Some entry) × (entry.change ≡ change)
-LeafFits hub number leaf (Out change) = leaf.out ≡ None
-LeafFits hub number leaf Done = length leaf.asked ≤ length (hub.answers number)
+LeafFits hub number leaf (Out change) = Unit {0}
+LeafFits hub number leaf (Done request) = request ≤ length (hub.answers number)
 LeafFits hub number leaf (Install version records) =
     (leaf.version ≤ version) × (version ≤ length hub.accepted) × (records ≡ records_of hub.accepted version)
 LeafFits hub number leaf Compact = Unit {0}

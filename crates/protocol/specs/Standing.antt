@@ -1,32 +1,30 @@
 -- A net stands for a moment of history, part by part: what the bots hold is read off what happened.
-use Rattle.std.specs.Prelude.{◌≡◌, ℕ, suc, List, length, drop, slice_get, Option, None, Some}
+use Rattle.std.specs.Prelude.{◌≡◌, ℕ, suc, List, length, drop, slice_get, Some}
+use Rattle.std.specs.List.{AllByRecursion}
 use Rattle.botjournal.specs.declared.reply.Reply.{Reply}
 use Rattle.botjournal.specs.declared.reply.Answer.{Answer}
 use Rattle.protocol.specs.Numbers.{item_at}
 use Rattle.protocol.specs.Packets.{AcceptedChange}
 use Rattle.protocol.specs.Bots.{Bot}
-use Rattle.protocol.specs.HubRules.{HubState, last_request}
+use Rattle.protocol.specs.HubRules.{HubState, AreInTurn, last_request}
 use Rattle.protocol.specs.LeafRules.{LeafState, Leaf}
 use Rattle.protocol.specs.History.{PastHub, PastLeaf, History, records_of}
 use Rattle.protocol.specs.Network.{Net}
 
--- the answer of a reply
-abbrev pub answer_of : Option Reply → Option Answer
-answer_of None = None
-answer_of (Some reply) = Some reply.answer
-
--- the hub keeps the number of a leaf's last request, and the last answer
-abbrev pub IsLastReply : Option Reply → List Answer → Type 0
-IsLastReply reply answers = (last_request reply ≡ length answers) × (answer_of reply ≡ item_at answers (length answers))
+-- the replies that the hub keeps to a leaf are the last so many answers, and the last one is among them where there is any
+pub record KeepsLast (kept : List Reply) (answers : List Answer) : Type 0 where
+  pub in_turn : AreInTurn kept
+  pub last : last_request kept ≡ length answers
+  pub these : AllByRecursion (λ (reply : Reply). item_at answers reply.request ≡ Some reply.answer) kept
 
 -- the tail is the accepted changes since the floor, and the records are those at the last version
 pub record HubStands (state : HubState) (past : PastHub) : Type 0 where
   pub floor : state.floor ≡ past.floor
   pub tail : state.tail ≡ drop past.floor past.accepted
   pub records : state.records ≡ records_of past.accepted (length past.accepted)
-  pub replies : (place : ℕ) (reply : Option Reply) → slice_get state.replies place ≡ Some reply → IsLastReply reply (past.answers (suc place))
+  pub replies : (place : ℕ) (kept : List Reply) → slice_get state.replies place ≡ Some kept → KeepsLast kept (past.answers (suc place))
 
--- the records are those at the leaf's version, and its last request number counts what it asked
+-- the records are those at the leaf's version, its last request number counts what it asked, and the same is out
 pub record LeafStands (accepted : List AcceptedChange) (state : LeafState) (past : PastLeaf) : Type 0 where
   pub version : state.version ≡ past.version
   pub records : state.records ≡ records_of accepted past.version

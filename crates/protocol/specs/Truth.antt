@@ -1,5 +1,5 @@
 -- When a packet is true of history, and what a bot may say.
-use Rattle.std.specs.Prelude.{◌≡◌, ℕ, ◌≤◌, List, [], ◌∷◌, length, Some}
+use Rattle.std.specs.Prelude.{◌≡◌, ℕ, ◌+◌, ◌<◌, ◌≤◌, List, [], ◌∷◌, length, Some}
 use Rattle.userfile.specs.declared.change.Change.{Change as UserChange}
 use Rattle.usercodec.specs.declared.records.Record.{Record}
 use Rattle.botjournal.specs.declared.TheConstants.{LAYOUT}
@@ -32,17 +32,18 @@ IsTrue hub asked (Refused leaf request fault) = item_at (hub.answers leaf) reque
 IsTrue hub asked (BotText from to text) = Unit {0}
 IsTrue hub asked (Part version part count items) = IsPart hub.accepted version part count items
 
--- the answer to a leaf's last request
-abbrev pub IsLastAnswer : PastHub → ℕ → ℕ → Answer → Type 0
-IsLastAnswer hub leaf request answer = (request ≡ length (hub.answers leaf)) × (item_at (hub.answers leaf) request ≡ Some answer)
+-- the answer to a leaf's request of this number, which is one of its last eight
+abbrev pub IsRecentAnswer : PastHub → ℕ → ℕ → Answer → Type 0
+IsRecentAnswer hub leaf request answer =
+    (length (hub.answers leaf) < request + 8) × (item_at (hub.answers leaf) request ≡ Some answer)
 
--- what the hub says in a step: an answer is always the last one to its leaf
+-- what the hub says in a step: an answer is always one of the last eight to its leaf
 abbrev pub HubSays : PastHub → Packet → Type 0
 HubSays hub (Hello layout leaf version) = ⊥
 HubSays hub (Change number origin request change) = IsAccepted hub.accepted number origin request change
 HubSays hub (Request leaf request change) = ⊥
-HubSays hub (Accepted leaf request number) = IsLastAnswer hub leaf request (Taken number)
-HubSays hub (Refused leaf request fault) = IsLastAnswer hub leaf request (refused_request fault)
+HubSays hub (Accepted leaf request number) = IsRecentAnswer hub leaf request (Taken number)
+HubSays hub (Refused leaf request fault) = IsRecentAnswer hub leaf request (refused_request fault)
 HubSays hub (BotText from to text) = Unit {0}
 HubSays hub (Part version part count items) = IsPart hub.accepted version part count items
 
@@ -56,13 +57,13 @@ LeafSays number leaf (Refused to request fault) = ⊥
 LeafSays number leaf (BotText from to text) = Unit {0}
 LeafSays number leaf (Part version part count items) = ⊥
 
--- an answer that is sent is the one that the hub keeps, the last one to its leaf
+-- an answer that is sent is one that the hub keeps, one of the last eight to its leaf
 abbrev pub IsKeptAnswer : PastHub → Packet → Type 0
 IsKeptAnswer hub (Hello layout leaf version) = Unit {0}
 IsKeptAnswer hub (Change number origin request change) = Unit {0}
 IsKeptAnswer hub (Request leaf request change) = Unit {0}
-IsKeptAnswer hub (Accepted leaf request number) = IsLastAnswer hub leaf request (Taken number)
-IsKeptAnswer hub (Refused leaf request fault) = IsLastAnswer hub leaf request (refused_request fault)
+IsKeptAnswer hub (Accepted leaf request number) = IsRecentAnswer hub leaf request (Taken number)
+IsKeptAnswer hub (Refused leaf request fault) = IsRecentAnswer hub leaf request (refused_request fault)
 IsKeptAnswer hub (BotText from to text) = Unit {0}
 IsKeptAnswer hub (Part version part count items) = Unit {0}
 

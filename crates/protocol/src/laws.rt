@@ -13,7 +13,7 @@ ghost use Rattle.protocol.specs.LeafRules.{Leaf, LeafState, LeafRecord, leaf_fol
 ghost use Rattle.protocol.specs.History.{start};
 ghost use Rattle.protocol.specs.Network.{Net, Step, Course, stepped, new_net};
 ghost use Rattle.protocol.specs.Claims.{shown_version, shown_records, Made, Ends, IsFineOutcome, MovesAsTold, net_after};
-ghost use Rattle.protocol.specs.Journals.{hub_meaning, hub_written, HubMay, IsHubState, leaf_meaning, leaf_written, LeafMay};
+ghost use Rattle.protocol.specs.Journals.{hub_meaning, hub_written, HubMay, IsHubState, leaf_meaning, leaf_written, LeafMay, IsLeafState};
 
 /// The laws of the sharing link. It does nothing: what it ensures holds of any net and of any steps, whatever their
 /// order, however devices fail, and whenever memory runs out.
@@ -28,13 +28,13 @@ pub fn laws_of_the_link()
         → shown_version (net_after (new_net count) first) bot ≡ Some before
         → shown_version (net_after (new_net count) (first ++ more)) bot ≡ Some after
         → before ≤ after }
-    // No request comes early, no leaf's records diverge, and no hello has another layout than the bots'.
+    // No leaf's records diverge, and no hello has another layout than the bots'.
     ensures fine { (count : ℕ) (made : List Made) (course : Course) (step : Step)
         → IsFineOutcome (stepped course (net_after (new_net count) made) step).outcome }
     // A run is a history of which all that `Holds` says is so at each moment: a request is accepted at most once, its
     // change is the one that was asked, it is told under its number and never as refused; each change that was sent is
     // the accepted one; each hello has the bots' layout; each part is one of the records at its version. No step takes back
-    // what was accepted, answered, asked or sent, and each answer that it sends is the last one to its leaf.
+    // what was accepted, answered, asked or sent, and each answer that it sends is one of the last eight to its leaf.
     ensures runs { (count : ℕ) (made : List Made) → Ends (new_net count) (start count) made }
     // The hub's version moves where a step tells that a change was accepted, or that a restart found one, and nowhere else.
     ensures moves { (course : Course) (net : Net) (step : Step) → MovesAsTold net (stepped course net step) }
@@ -63,6 +63,6 @@ pub fn laws_of_link_journals()
     ensures leaf { (number : ℕ) (contents : Contents) (leaf : LeafState) (entry : LeafRecord) → leaf_meaning number contents ≡ Some leaf
         → leaf.generation ≡ contents.generation → AreSound leaf.records → LeafMay leaf entry
         → leaf_meaning number (leaf_written number contents leaf entry) ≡ Some (leaf_folded leaf entry) }
-    ensures leaf_state { (leaf : LeafState) (entry : LeafRecord) → AreSound leaf.records → LeafMay leaf entry
-        → AreSound (leaf_folded leaf entry).records }
+    ensures leaf_state { (leaf : LeafState) (entry : LeafRecord) → IsLeafState leaf → LeafMay leaf entry
+        → IsLeafState (leaf_folded leaf entry) }
 {}

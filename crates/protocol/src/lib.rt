@@ -2,10 +2,11 @@
 //!
 //! A net is a hub, which is bot 0, its leaves, which are numbered from 1, and every packet that was ever sent. The hub
 //! accepts changes of the userfile and numbers them; a leaf applies the change that is numbered one above its version,
-//! and no other. A leaf's own changes go to the hub as requests, one at a time, each under the next request number. Each
-//! bot journals on a device that may fail at any time: what was being journaled then is in doubt until a restart finds it
-//! or doesn't. Whoever runs the net chooses which bot acts next, which packet is delivered, how often, and when a device
-//! fails or memory runs out.
+//! and no other. A leaf's own changes go to the hub as requests, each under the next request number. At most eight of them
+//! are out, and the hub keeps its last eight replies to each leaf, so that a request that comes again is answered again.
+//! Each bot journals on a device that may fail at any time: what was being journaled then is in doubt until a restart
+//! finds it or doesn't. Whoever runs the net chooses which bot acts next, which packet is delivered, how often, and when a
+//! device fails or memory runs out.
 //!
 //! [`laws_of_the_link`] says what holds of every such run: bots at one version hold the same records, no version goes
 //! back, a request is accepted at most once, and what is told of it is so. Its words are defined in `specs/`:

@@ -1,7 +1,10 @@
 use Rattle.std.proofs.Common.{◌<◌, ◌^◌, List, ℕ, length, sym, ◌∙◌, subst}
-use Rattle.botjournal.proofs.LengthLaws.{base_is_short}
+use Rattle.botjournal.proofs.LengthLaws.{base_is_short, shapes_are}
 use Rattle.botjournal.proofs.OpenLaws.{creates}
 use Rattle.botjournal.proofs.journal.Journal.create.Goals as goal
+
+pub write_base-requires : goal.write_base-requires
+write_base-requires g c = shapes_are c.args.base.now c.requires.good
 
 pub create-requires-clause-small : goal.create-requires-clause-small
 create-requires-clause-small g c =

@@ -1,8 +1,17 @@
-use Rattle.std.proofs.Common.{◌∙◌, sym, ap}
-use Rattle.protocol.specs.Journals.{replies_of}
+use Rattle.std.proofs.Common.{◌≤◌, ◌∙◌, List, length, sym, ap, subst}
+use Rattle.botjournal.specs.declared.reply.Reply.{Reply}
+use Rattle.protocol.specs.Journals.{replies_of, replies_among}
 use Rattle.linkstate.specs.States.{sound_records}
 use Rattle.linkstate.proofs.Folding.{hub_on-is}
+use Rattle.linkstate.proofs.KeptReplies.{among-kept}
 use Rattle.linkstate.proofs.hub.HubState.on_base.Goals as goal
+
+pub replies_of-requires : goal.replies_of-requires
+replies_of-requires c = record {
+  few = λ leaf.
+      subst (λ (l : List Reply). length (replies_among leaf l) ≤ 8) (sym c.as_slice-2.ensures)
+      (among-kept leaf c.args.base.now.replies c.requires.good.kept).1.few;
+}
 
 pub returns-clause-reads : goal.returns-clause-reads
 returns-clause-reads c =

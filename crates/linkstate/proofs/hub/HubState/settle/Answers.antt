@@ -7,6 +7,6 @@ use Rattle.linkstate.proofs.hub.HubState.settle.Goals as goal
 pub returns-clause-takes : goal.returns-clause-takes
 returns-clause-takes c =
     folds hub_folded c.args.self.now _ _ (Settle c.args.leaf c.args.fault)
-    (ap (λ last. is_next_of last c.args.request) (sym c.reply_of.ensures) ∙ sym c.is_next_of.ensures ∙ c.if-not-is_next_of.false)
+    (ap (λ place. is_next_of place c.args.request) (sym c.replies_to.ensures) ∙ sym c.is_next_of.ensures ∙ c.if-not-is_next_of.false)
     (settled-is c.args.self.now c.self.inside.floor c.self.inside.generation c.self.inside.tail.items c.self.inside.userfile
     c.self.inside.replies.items c.put_reply.new.held.items c.args.leaf c.args.fault c.self.view_is c.put_reply.ensures)
