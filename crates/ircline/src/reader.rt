@@ -1,7 +1,6 @@
 // A stream of bytes to lines, in whatever pieces it comes.
-ghost use Rattle.std.specs.Prelude.{◌≡◌, ℕ, List, [], ◌++◌, map, take, drop, length, false, ◌<◌, ◌≤◌, IfOk, IfErr, IsTrue, MatchResult, OnErr};
-ghost use Rattle.std.specs.List.{list_all};
-ghost use Rattle.ircline.specs.Classes.{filled, is_end};
+ghost use Rattle.std.specs.Prelude.{◌≡◌, ℕ, List, [], ◌++◌, map, take, drop, length, ◌≤◌, IfOk, IsTrue, OnErr};
+ghost use Rattle.ircline.specs.Classes.{filled};
 ghost use Rattle.ircline.specs.Reading.{line_of, TakesMemory};
 ghost use Rattle.ircline.specs.Stream.{with_run, runs_from, rest_from, lines_of, begun, held_of, last_line};
 
@@ -49,8 +48,7 @@ impl LineReader {
     /// The lines that this piece of the stream ends, in order.
     ///
     /// # Errors
-    /// `NoMemory` where room for the lines, or for the run that is begun, is refused. The reader is as before, and the
-    /// piece can be fed again.
+    /// `NoMemory` where room for the lines is refused. The reader is as before, and the piece can be fed again.
     pub fn feed(&mut self, alloc: Global, piece: &[u8]) -> Result<Vec<Line>, NoMemory>
         // Of any stream whose begun run is held, the lines go on with these.
         ensures lines { (stream : List ℕ) → self.old ≡ held_of stream
@@ -58,8 +56,6 @@ impl LineReader {
         ensures held { (stream : List ℕ) → self.old ≡ held_of stream
             → IfOk result (λ _. self.new ≡ held_of (stream ++ piece.now)) }
         ensures few { length self.new ≤ 511 }
-        // Where no run is begun, CR and LF alone take no memory.
-        ensures memory { self.old ≡ [] → OnErr result (list_all is_end piece.now ≡ false) }
         ensures err { OnErr result (self.new ≡ self.old) }
     {
         let (front, rest) = parted(piece, first_end(piece));
@@ -104,21 +100,11 @@ impl TryCopy for LineReader {
 fn joined(alloc: Global, front: &[u8], back: &[u8]) -> Result<Vec<u8>, NoMemory>
     ensures run { IfOk result (λ run. run.items ≡ take 511 (front.now ++ back.now)) }
     ensures few { IfOk result (λ run. length run.items ≤ 511) }
-    ensures memory { IfErr result (λ _. 0 < length (front.now ++ back.now)) }
 {
     let front = first_bytes(front, LIMIT + 1);
-    let mut run = copy_of(alloc, front)?;
+    let mut run = Vec::from_slice(alloc, front)?;
     run.extend_from_slice(first_bytes(back, LIMIT + 1 - front.len()))?;
     Ok(run)
-}
-
-// The bytes in a list of their own.
-fn copy_of(alloc: Global, bytes: &[u8]) -> Result<Vec<u8>, NoMemory>
-    ensures { MatchResult result (λ copy. copy.items ≡ bytes.now) (λ _. 0 < length bytes.now) }
-{
-    let mut copy = Vec::with_capacity(alloc, bytes.len())?;
-    copy.extend_from_slice(bytes)?;
-    Ok(copy)
 }
 
 // No more than so many of the first bytes.
@@ -146,8 +132,7 @@ fn last_line(alloc: Global, run: &[u8]) -> Result<Option<Line>, NoMemory>
 
 // Puts what the run reads as after the lines, if it isn't empty.
 fn push_line(alloc: Global, lines: &mut Vec<Line>, run: &[u8]) -> Result<(), NoMemory>
-    ensures lines { IfOk result (λ _. lines.new.items ≡ lines.old.items ++ map line_of (with_run run.now [])) }
-    ensures memory { IfErr result (λ _. 0 < length run.now) }
+    ensures { IfOk result (λ _. lines.new.items ≡ lines.old.items ++ map line_of (with_run run.now [])) }
 {
     if !run.is_empty() {
         lines.push(read_run(alloc, run)?)?;
@@ -164,7 +149,6 @@ fn push_lines<'a>(
 ) -> Result<&'a [u8], NoMemory>
     ensures lines { IfOk result (λ _. lines.new.items ≡ lines.old.items ++ lines_of text.now) }
     ensures rest { IfOk result (λ rest. rest.now ≡ begun text.now) }
-    ensures memory { IfErr result (λ _. list_all is_end text.now ≡ false) }
 {
     let mut text = text;
     loop {

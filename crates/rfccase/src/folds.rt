@@ -1,5 +1,5 @@
 // The lower case of a byte and of a text.
-ghost use Rattle.std.specs.Prelude.{◌≡◌, ◌<◌, ◌↔◌, IsTrue, MatchResult, length, slice_index};
+ghost use Rattle.std.specs.Prelude.{◌≡◌, ◌↔◌, IsTrue, IfOk, slice_index};
 ghost use Rattle.rfccase.specs.Casemapping.{low, folded, IsSame};
 ghost use Rattle.rfccase.specs.Table.{lower_cases};
 
@@ -45,12 +45,11 @@ pub fn fold_slice(text: &mut [u8])
 /// The lower case of a text.
 ///
 /// # Errors
-/// `NoMemory` where room for the copy is refused: never where the text is empty.
+/// `NoMemory` where room for the copy is refused.
 pub fn fold_text(alloc: Global, text: &[u8]) -> Result<Vec<u8>, NoMemory>
-    ensures { MatchResult result (λ lower. lower.items ≡ folded text.now) (λ _. 0 < length text.now) }
+    ensures { IfOk result (λ lower. lower.items ≡ folded text.now) }
 {
-    let mut lower = Vec::with_capacity(alloc, text.len())?;
-    lower.extend_from_slice(text)?;
+    let mut lower = Vec::from_slice(alloc, text)?;
     fold_slice(&mut lower);
     Ok(lower)
 }

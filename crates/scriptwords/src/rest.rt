@@ -1,5 +1,5 @@
 // The rest of a line: a word that takes all that follows, spaces and all.
-ghost use Rattle.std.specs.Prelude.{◌≡◌, ◌∷◌, ◌+◌, ◌<◌, length, map, IfOk, IfErr};
+ghost use Rattle.std.specs.Prelude.{◌≡◌, ◌∷◌, map, IfOk};
 ghost use Rattle.scriptwords.specs.Words.{line_of, rest_of};
 
 use bytetext::{NoMemory, Text};
@@ -8,10 +8,9 @@ use std::alloc::Global;
 /// The rest of a line from a word on; none where it is empty.
 ///
 /// # Errors
-/// `NoMemory` where room is refused: never where it is empty.
+/// `NoMemory` where room is refused.
 pub fn rest_of(alloc: Global, first: &[u8], rest: &[&[u8]]) -> Result<Option<Text>, NoMemory>
-    ensures text { IfOk result (λ text. text ≡ rest_of (first.now ∷ map (λ word. word.now) rest.now)) }
-    ensures memory { IfErr result (λ _. 0 < length first.now + length rest.now) }
+    ensures { IfOk result (λ text. text ≡ rest_of (first.now ∷ map (λ word. word.now) rest.now)) }
 {
     let line = line_of(alloc, first, rest)?;
     if line.is_empty() {
@@ -22,23 +21,12 @@ pub fn rest_of(alloc: Global, first: &[u8], rest: &[&[u8]]) -> Result<Option<Tex
 
 // Words as a line, with one space between each two.
 fn line_of(alloc: Global, first: &[u8], rest: &[&[u8]]) -> Result<Vec<u8>, NoMemory>
-    ensures line { IfOk result (λ line. line.items ≡ line_of (first.now ∷ map (λ word. word.now) rest.now)) }
-    ensures memory { IfErr result (λ _. 0 < length first.now + length rest.now) }
+    ensures { IfOk result (λ line. line.items ≡ line_of (first.now ∷ map (λ word. word.now) rest.now)) }
 {
-    let mut line = copy_of(alloc, first)?;
+    let mut line = Vec::from_slice(alloc, first)?;
     for word in rest {
         line.push(b' ')?;
         line.extend_from_slice(word)?;
     }
     Ok(line)
-}
-
-// A copy of these bytes.
-fn copy_of(alloc: Global, bytes: &[u8]) -> Result<Vec<u8>, NoMemory>
-    ensures copy { IfOk result (λ copy. copy.items ≡ bytes.now) }
-    ensures memory { IfErr result (λ _. 0 < length bytes.now) }
-{
-    let mut copy = Vec::new(alloc);
-    copy.extend_from_slice(bytes)?;
-    Ok(copy)
 }
