@@ -308,25 +308,19 @@ def answers(numbers):
     return [(number, ("Accepted", 100 + number % 10)) for number in numbers]
 
 
+def pumps(at, version, lists):
+    """What a leaf's pumps send, the first packet under this number, and tell: each a hello, and requests of these numbers."""
+    told = []
+    for numbers in lists:
+        told.append("send %d 1>0 Hello %d" % (at, version))
+        told += ["send %d 1>0 Request %d" % (at + place, number) for place, number in enumerate(numbers, 1)]
+        told.append("1 Sent %d" % numbers[-1])
+        at += len(numbers) + 1
+    return told
+
+
 # nine pumps of a leaf with ten asks, of which nothing is delivered: pump K sends requests 1 to K, and the ninth 1 to 8
-NINE_PUMPS_TOLD = [
-    "send 1 1>0 Hello 0", "send 2 1>0 Request 1", "1 Sent 1",
-    "send 3 1>0 Hello 0", "send 4 1>0 Request 1", "send 5 1>0 Request 2", "1 Sent 2",
-    "send 6 1>0 Hello 0", "send 7 1>0 Request 1", "send 8 1>0 Request 2", "send 9 1>0 Request 3", "1 Sent 3",
-    "send 10 1>0 Hello 0", "send 11 1>0 Request 1", "send 12 1>0 Request 2", "send 13 1>0 Request 3",
-    "send 14 1>0 Request 4", "1 Sent 4",
-    "send 15 1>0 Hello 0", "send 16 1>0 Request 1", "send 17 1>0 Request 2", "send 18 1>0 Request 3",
-    "send 19 1>0 Request 4", "send 20 1>0 Request 5", "1 Sent 5",
-    "send 21 1>0 Hello 0", "send 22 1>0 Request 1", "send 23 1>0 Request 2", "send 24 1>0 Request 3",
-    "send 25 1>0 Request 4", "send 26 1>0 Request 5", "send 27 1>0 Request 6", "1 Sent 6",
-    "send 28 1>0 Hello 0", "send 29 1>0 Request 1", "send 30 1>0 Request 2", "send 31 1>0 Request 3",
-    "send 32 1>0 Request 4", "send 33 1>0 Request 5", "send 34 1>0 Request 6", "send 35 1>0 Request 7", "1 Sent 7",
-    "send 36 1>0 Hello 0", "send 37 1>0 Request 1", "send 38 1>0 Request 2", "send 39 1>0 Request 3",
-    "send 40 1>0 Request 4", "send 41 1>0 Request 5", "send 42 1>0 Request 6", "send 43 1>0 Request 7",
-    "send 44 1>0 Request 8", "1 Sent 8",
-    "send 45 1>0 Hello 0", "send 46 1>0 Request 1", "send 47 1>0 Request 2", "send 48 1>0 Request 3",
-    "send 49 1>0 Request 4", "send 50 1>0 Request 5", "send 51 1>0 Request 6", "send 52 1>0 Request 7",
-    "send 53 1>0 Request 8", "1 Sent 8"]
+NINE_PUMPS_TOLD = pumps(1, 0, [[*range(1, min(pump, 8) + 1)] for pump in range(1, 10)])
 
 WORKED += [
     ("two requests are out; the second comes first",
@@ -483,25 +477,8 @@ WORKED += [
      ["leaves 1", "hold 1 %s 00" % disk(base(1, 3, last=4, out={4: ALICE}), layout=2)]
      + ["ask 1 adduser u%d" % n for n in range(5, 13)] + ["pump 1"] * 7 + ["restart 1", "ask 1 adduser u12", "pump 1",
                                                                           "give 1 %s" % accepted(1, 4, 4), "pump 1"],
-     ["1 Restarted 3"] + ["1 Queued"] * 8 + [
-         "send 1 1>0 Hello 3", "send 2 1>0 Request 4", "send 3 1>0 Request 5", "1 Sent 5",
-         "send 4 1>0 Hello 3", "send 5 1>0 Request 4", "send 6 1>0 Request 5", "send 7 1>0 Request 6", "1 Sent 6",
-         "send 8 1>0 Hello 3", "send 9 1>0 Request 4", "send 10 1>0 Request 5", "send 11 1>0 Request 6",
-         "send 12 1>0 Request 7", "1 Sent 7",
-         "send 13 1>0 Hello 3", "send 14 1>0 Request 4", "send 15 1>0 Request 5", "send 16 1>0 Request 6",
-         "send 17 1>0 Request 7", "send 18 1>0 Request 8", "1 Sent 8",
-         "send 19 1>0 Hello 3", "send 20 1>0 Request 4", "send 21 1>0 Request 5", "send 22 1>0 Request 6",
-         "send 23 1>0 Request 7", "send 24 1>0 Request 8", "send 25 1>0 Request 9", "1 Sent 9",
-         "send 26 1>0 Hello 3", "send 27 1>0 Request 4", "send 28 1>0 Request 5", "send 29 1>0 Request 6",
-         "send 30 1>0 Request 7", "send 31 1>0 Request 8", "send 32 1>0 Request 9", "send 33 1>0 Request 10", "1 Sent 10",
-         "send 34 1>0 Hello 3", "send 35 1>0 Request 4", "send 36 1>0 Request 5", "send 37 1>0 Request 6",
-         "send 38 1>0 Request 7", "send 39 1>0 Request 8", "send 40 1>0 Request 9", "send 41 1>0 Request 10",
-         "send 42 1>0 Request 11", "1 Sent 11", "1 Restarted 3", "1 Queued",
-         "send 43 1>0 Hello 3", "send 44 1>0 Request 4", "send 45 1>0 Request 5", "send 46 1>0 Request 6",
-         "send 47 1>0 Request 7", "send 48 1>0 Request 8", "send 49 1>0 Request 9", "send 50 1>0 Request 10",
-         "send 51 1>0 Request 11", "1 Sent 11", "1 Accepted 4", "send 52 1>0 Hello 3", "send 53 1>0 Request 5",
-         "send 54 1>0 Request 6", "send 55 1>0 Request 7", "send 56 1>0 Request 8", "send 57 1>0 Request 9",
-         "send 58 1>0 Request 10", "send 59 1>0 Request 11", "send 60 1>0 Request 12", "1 Sent 12"]),
+     ["1 Restarted 3"] + ["1 Queued"] * 8 + pumps(1, 3, [[*range(4, last + 1)] for last in range(5, 12)])
+     + ["1 Restarted 3", "1 Queued"] + pumps(43, 3, [[*range(4, 12)]]) + ["1 Accepted 4"] + pumps(52, 3, [[*range(5, 13)]])),
     ("a hub's journal that a program of layout 1 wrote",
      ["leaves 2", "hold 0 %s %s" % FIRST_HUB, "show 0", "give 0 %s" % request(1, 1, b"a"), "give 0 %s" % request(1, 2, b"a"),
       "give 0 %s" % request(1, 3, b"a"), "give 0 %s" % request(1, 5, b"a"), "give 0 %s" % request(2, 2, b"a"), "give 0 %s" %
