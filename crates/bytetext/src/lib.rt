@@ -24,4 +24,4 @@ pub use crate::failure::{Failure, refuse};
 pub use crate::memory::NoMemory;
 pub use crate::moment::MOMENTS_END;
 pub use crate::seq::{Seq, TryCopy, copies_of};
-pub use crate::text::{Text, Texts};
+pub use crate::text::{Text, Texts, bytes_of};

@@ -1,5 +1,5 @@
 // One text.
-ghost use Rattle.std.specs.Prelude.{◌≡◌, ◌↔◌, [], IsTrue, IfOk, length};
+ghost use Rattle.std.specs.Prelude.{◌≡◌, ◌<◌, ◌↔◌, [], IsTrue, MatchResult, length};
 
 use crate::memory::NoMemory;
 use crate::seq::{Seq, TryCopy};
@@ -38,11 +38,11 @@ impl Text {
     /// A copy of these bytes.
     ///
     /// # Errors
-    /// `NoMemory` where room for the copy is refused.
+    /// `NoMemory` where room for the copy is refused: never where there is no byte.
     pub fn from_slice(alloc: Global, bytes: &[u8]) -> Result<Text, NoMemory>
-        ensures { IfOk result (λ t. t ≡ bytes.now) }
+        ensures { MatchResult result (λ t. t ≡ bytes.now) (λ _. 0 < length bytes.now) }
     {
-        let bytes = Vec::from_slice(alloc, bytes)?;
+        let bytes = bytes_of(alloc, bytes)?;
         Ok(Text { bytes })
     }
 
@@ -96,6 +96,18 @@ impl Clone for Text {
             bytes: self.bytes.clone()?,
         })
     }
+}
+
+/// A copy of these bytes, in a list of their own.
+///
+/// # Errors
+/// `NoMemory` where room for the copy is refused: never where there is no byte.
+pub fn bytes_of(alloc: Global, bytes: &[u8]) -> Result<Vec<u8>, NoMemory>
+    ensures { MatchResult result (λ copy. copy.items ≡ bytes.now) (λ _. 0 < length bytes.now) }
+{
+    let mut copy = Vec::with_capacity(alloc, bytes.len())?;
+    copy.extend_from_slice(bytes)?;
+    Ok(copy)
 }
 
 /// A list of texts.

@@ -1,6 +1,7 @@
 pub mod PlaceLemmas
 pub mod ParamLemmas
 pub mod StreamLemmas
+pub mod EndsLemmas
 pub mod TextLemmas
 pub mod GrammarLemmas
 pub mod MessageLemmas

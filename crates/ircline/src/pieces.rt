@@ -1,7 +1,8 @@
 // A whole stream, from the pieces that it came in.
-ghost use Rattle.std.specs.Prelude.{◌≡◌, ◌++◌, List, ℕ, IfOk};
-ghost use Rattle.std.specs.List.{flat_map};
+ghost use Rattle.std.specs.Prelude.{◌≡◌, ◌++◌, List, ℕ, IfOk, IfErr, is_some, true, false};
+ghost use Rattle.std.specs.List.{flat_map, list_all};
 ghost use Rattle.std.specs.Option.{option_to_list};
+ghost use Rattle.ircline.specs.Classes.{is_end};
 ghost use Rattle.ircline.specs.Stream.{lines_of, begun, last_line};
 
 use crate::line::Line;
@@ -13,10 +14,11 @@ use std::alloc::Global;
 /// are the same however the stream was cut.
 ///
 /// # Errors
-/// `NoMemory` where room for the lines is refused.
+/// `NoMemory` where room for the lines is refused: never where there is none, since each byte is CR or LF.
 pub fn read_pieces(alloc: Global, pieces: &[Text]) -> Result<Vec<Line>, NoMemory>
-    ensures { IfOk result (λ lines. let stream = flat_map (λ (piece : List ℕ). piece) pieces.now in
+    ensures lines { IfOk result (λ lines. let stream = flat_map (λ (piece : List ℕ). piece) pieces.now in
         lines.items ≡ lines_of stream ++ option_to_list (last_line (begun stream))) }
+    ensures memory { IfErr result (λ _. list_all is_end (flat_map (λ (piece : List ℕ). piece) pieces.now) ≡ false) }
 {
     let mut reader = LineReader::new(alloc);
     let mut lines = Vec::new(alloc);
@@ -30,7 +32,8 @@ pub fn read_pieces(alloc: Global, pieces: &[Text]) -> Result<Vec<Line>, NoMemory
 }
 
 fn push_last(lines: &mut Vec<Line>, last: Option<Line>) -> Result<(), NoMemory>
-    ensures { IfOk result (λ _. lines.new.items ≡ lines.old.items ++ option_to_list last) }
+    ensures last { IfOk result (λ _. lines.new.items ≡ lines.old.items ++ option_to_list last) }
+    ensures memory { IfErr result (λ _. is_some last ≡ true) }
 {
     if let Some(line) = last {
         lines.push(line)?;

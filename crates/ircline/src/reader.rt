@@ -1,13 +1,14 @@
 // A stream of bytes to lines, in whatever pieces it comes.
-ghost use Rattle.std.specs.Prelude.{◌≡◌, ℕ, List, [], ◌++◌, map, take, drop, length, ◌≤◌, IfOk, IsTrue, OnErr};
-ghost use Rattle.ircline.specs.Classes.{filled};
+ghost use Rattle.std.specs.Prelude.{◌≡◌, ℕ, List, [], ◌++◌, map, take, drop, length, false, ◌<◌, ◌≤◌, IfOk, IfErr, IsTrue, OnErr};
+ghost use Rattle.std.specs.List.{list_all};
+ghost use Rattle.ircline.specs.Classes.{filled, is_end};
 ghost use Rattle.ircline.specs.Reading.{line_of, TakesMemory};
 ghost use Rattle.ircline.specs.Stream.{with_run, runs_from, rest_from, lines_of, begun, held_of, last_line};
 
 use crate::line::Line;
 use crate::read::{LIMIT, first_end, read_run};
 use crate::words::parted;
-use bytetext::{NoMemory, TryCopy};
+use bytetext::{NoMemory, TryCopy, bytes_of};
 use std::alloc::Global;
 use std::marker::Model;
 
@@ -48,7 +49,8 @@ impl LineReader {
     /// The lines that this piece of the stream ends, in order.
     ///
     /// # Errors
-    /// `NoMemory` where room for the lines is refused. The reader is as before, and the piece can be fed again.
+    /// `NoMemory` where room for the lines, or for the run that is begun, is refused. The reader is as before, and the
+    /// piece can be fed again.
     pub fn feed(&mut self, alloc: Global, piece: &[u8]) -> Result<Vec<Line>, NoMemory>
         // Of any stream whose begun run is held, the lines go on with these.
         ensures lines { (stream : List ℕ) → self.old ≡ held_of stream
@@ -56,6 +58,8 @@ impl LineReader {
         ensures held { (stream : List ℕ) → self.old ≡ held_of stream
             → IfOk result (λ _. self.new ≡ held_of (stream ++ piece.now)) }
         ensures few { length self.new ≤ 511 }
+        // Where no run is begun, CR and LF alone take no memory.
+        ensures memory { self.old ≡ [] → OnErr result (list_all is_end piece.now ≡ false) }
         ensures err { OnErr result (self.new ≡ self.old) }
     {
         let (front, rest) = parted(piece, first_end(piece));
@@ -100,9 +104,10 @@ impl TryCopy for LineReader {
 fn joined(alloc: Global, front: &[u8], back: &[u8]) -> Result<Vec<u8>, NoMemory>
     ensures run { IfOk result (λ run. run.items ≡ take 511 (front.now ++ back.now)) }
     ensures few { IfOk result (λ run. length run.items ≤ 511) }
+    ensures memory { IfErr result (λ _. 0 < length (front.now ++ back.now)) }
 {
     let front = first_bytes(front, LIMIT + 1);
-    let mut run = Vec::from_slice(alloc, front)?;
+    let mut run = bytes_of(alloc, front)?;
     run.extend_from_slice(first_bytes(back, LIMIT + 1 - front.len()))?;
     Ok(run)
 }
@@ -132,7 +137,8 @@ fn last_line(alloc: Global, run: &[u8]) -> Result<Option<Line>, NoMemory>
 
 // Puts what the run reads as after the lines, if it isn't empty.
 fn push_line(alloc: Global, lines: &mut Vec<Line>, run: &[u8]) -> Result<(), NoMemory>
-    ensures { IfOk result (λ _. lines.new.items ≡ lines.old.items ++ map line_of (with_run run.now [])) }
+    ensures lines { IfOk result (λ _. lines.new.items ≡ lines.old.items ++ map line_of (with_run run.now [])) }
+    ensures memory { IfErr result (λ _. 0 < length run.now) }
 {
     if !run.is_empty() {
         lines.push(read_run(alloc, run)?)?;
@@ -149,6 +155,7 @@ fn push_lines<'a>(
 ) -> Result<&'a [u8], NoMemory>
     ensures lines { IfOk result (λ _. lines.new.items ≡ lines.old.items ++ lines_of text.now) }
     ensures rest { IfOk result (λ rest. rest.now ≡ begun text.now) }
+    ensures memory { IfErr result (λ _. list_all is_end text.now ≡ false) }
 {
     let mut text = text;
     loop {

@@ -70,11 +70,6 @@ last_item-end xs x =
 
 -- ---- all of some
 
-pub all-map : {X : Type 0} (P Q : X → Type 0) → ((x : X) → P x → Q x) → (xs : List X) → AllByRecursion P xs
-    → AllByRecursion Q xs
-all-map P Q to [] all = tt
-all-map P Q to (x ∷ xs) all = (to x all.0, all-map P Q to xs all.1)
-
 pub all-take : {X : Type 0} (P : X → Type 0) (n : ℕ) (xs : List X) → AllByRecursion P xs → AllByRecursion P (take n xs)
 all-take P zero xs all = tt
 all-take P (suc n) [] all = tt

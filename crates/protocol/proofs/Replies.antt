@@ -7,7 +7,8 @@ use Rattle.botjournal.specs.declared.reply.Answer.{Answer}
 use Rattle.protocol.specs.Numbers.{item_at}
 use Rattle.protocol.specs.HubRules.{request_number, last_request, last_eight, with_next, reply_to, AreNumbered, AreInTurn}
 use Rattle.protocol.specs.Standing.{KeepsLast}
-use Rattle.protocol.proofs.Lists.{all-map, all-append, all-drop, item_at-more, item_at-end, last_item-end, Extends-one, length-one}
+use Rattle.usercodec.proofs.RecordLengths.{all_map}
+use Rattle.protocol.proofs.Lists.{all-append, all-drop, item_at-more, item_at-end, last_item-end, Extends-one, length-one}
 
 -- ---- numbers
 
@@ -122,7 +123,7 @@ keeps_next leaf kept answers x y is keeps = record {
 
     old : AllByRecursion Says kept
     old =
-        all-map (λ (reply : Reply). item_at answers reply.request ≡ Some reply.answer) Says
+        all_map (λ (reply : Reply). item_at answers reply.request ≡ Some reply.answer) Says
         (λ reply at. item_at-more answers (answers ++ y ∷ []) reply.request reply.answer (Extends-one answers y) at) kept keeps.these
 
     new : item_at (answers ++ y ∷ []) (last_request kept + 1) ≡ Some x

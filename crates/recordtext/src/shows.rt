@@ -1,5 +1,6 @@
 // The lines of a bot's version and records.
-ghost use Rattle.std.specs.Prelude.{◌≡◌, ◌++◌, OnOk};
+ghost use Rattle.std.specs.Prelude.{◌≡◌, ◌<◌, ◌+◌, ◌++◌, None, OnOk, OnErr, length, vec_len};
+ghost use Rattle.std.specs.Vec.{vec_capacity};
 ghost use Rattle.std.specs.List.{flat_map};
 ghost use Rattle.std.specs.Option.{option_copied};
 ghost use Rattle.recordtext.specs.Text.{shown_text, version_line, user_lines, ban_lines};
@@ -14,7 +15,7 @@ use userfile::{Ban, User, Userfile};
 /// Adds a bot's version and the lines of its userfile, or that there is no such bot where it has none of them.
 ///
 /// # Errors
-/// `NoMemory` where room is refused.
+/// `NoMemory` where room is refused: for a bot that isn't there, never where it is there already.
 #[tactic(auto, using(std::proofs::Common::append_assoc))]
 pub fn put_records(
     alloc: Global,
@@ -23,7 +24,8 @@ pub fn put_records(
     version: Option<u32>,
     userfile: Option<&Userfile>,
 ) -> Result<(), NoMemory>
-    ensures { OnOk result (out.new.items ≡ out.old.items ++ shown_text bot version (option_copied userfile.entry)) }
+    ensures text { OnOk result (out.new.items ≡ out.old.items ++ shown_text bot version (option_copied userfile.entry)) }
+    ensures memory { OnErr result (version ≡ None → vec_capacity out.old < vec_len out.old + length (shown_text bot None None)) }
 {
     let (Some(version), Some(userfile)) = (version, userfile) else {
         return put(out, b"world O2\n");

@@ -1,9 +1,9 @@
 // The lower case of a byte and of a text.
-ghost use Rattle.std.specs.Prelude.{◌≡◌, ◌↔◌, IsTrue, IfOk, slice_index};
+ghost use Rattle.std.specs.Prelude.{◌≡◌, ◌<◌, ◌↔◌, IsTrue, MatchResult, length, slice_index};
 ghost use Rattle.rfccase.specs.Casemapping.{low, folded, IsSame};
 ghost use Rattle.rfccase.specs.Table.{lower_cases};
 
-use bytetext::NoMemory;
+use bytetext::{NoMemory, bytes_of};
 use std::alloc::Global;
 
 /// The lower case of a byte, or the byte itself where it has none (RFC 2812 section 2.2).
@@ -45,11 +45,11 @@ pub fn fold_slice(text: &mut [u8])
 /// The lower case of a text.
 ///
 /// # Errors
-/// `NoMemory` where room for the copy is refused.
+/// `NoMemory` where room for the copy is refused: never where the text is empty.
 pub fn fold_text(alloc: Global, text: &[u8]) -> Result<Vec<u8>, NoMemory>
-    ensures { IfOk result (λ lower. lower.items ≡ folded text.now) }
+    ensures { MatchResult result (λ lower. lower.items ≡ folded text.now) (λ _. 0 < length text.now) }
 {
-    let mut lower = Vec::from_slice(alloc, text)?;
+    let mut lower = bytes_of(alloc, text)?;
     fold_slice(&mut lower);
     Ok(lower)
 }

@@ -1,5 +1,5 @@
 // A text as a key.
-ghost use Rattle.std.specs.Prelude.{◌≡◌, ◌↔◌, ℕ, List, IsTrue, IfOk, Some, nat_eq, refl};
+ghost use Rattle.std.specs.Prelude.{◌≡◌, ◌<◌, ◌↔◌, ℕ, List, IsTrue, MatchResult, Some, length, nat_eq, refl};
 ghost use Rattle.std.specs.Ordering.{nat_cmp};
 ghost use Rattle.std.specs.Hash as fed;
 ghost use Rattle.std.specs.Cmp.Lexicographic.{pointwise, slice_cmp, nat_list_eq_equiv, nat_list_cmp_total, texts_ties, texts_po};
@@ -36,9 +36,9 @@ impl FoldKey {
     /// The key of this text.
     ///
     /// # Errors
-    /// `NoMemory` where room for the key is refused.
+    /// `NoMemory` where room for the key is refused: never where the text is empty.
     pub fn new(alloc: Global, text: &[u8]) -> Result<FoldKey, NoMemory>
-        ensures { IfOk result (λ key. key ≡ folded text.now) }
+        ensures { MatchResult result (λ key. key ≡ folded text.now) (λ _. 0 < length text.now) }
     {
         let lower = fold_text(alloc, text)?;
         Ok(FoldKey { lower })

@@ -1,5 +1,5 @@
 // The changes that can be asked for.
-ghost use Rattle.std.specs.Prelude.{◌≡◌, map, option_map, if◌then◌else◌, None, IfOk};
+ghost use Rattle.std.specs.Prelude.{◌≡◌, map, option_map, if◌then◌else◌, ◌<◌, length, None, IfOk, IfErr};
 ghost use Rattle.userfile.specs.declared.change.Change.TheVariants.{SetChan, SetInfo, SetSticky};
 ghost use Rattle.scriptwords.specs.Words.{is_empty};
 ghost use Rattle.scriptwords.specs.Changes.{by_more_words, by_one_word, by_three_words, by_two_words, info_by_words, pair_of};
@@ -47,9 +47,10 @@ fn change_by_words(alloc: Global, words: &[&[u8]]) -> Result<Option<Change>, NoM
 /// The change of this name and these words; none where they are no change.
 ///
 /// # Errors
-/// `NoMemory` where room is refused.
+/// `NoMemory` where room is refused: never where no words follow the name.
 pub fn change_named(alloc: Global, name: &[u8], words: &[&[u8]]) -> Result<Option<Change>, NoMemory>
-    ensures { IfOk result (λ change. change ≡ change_named name.now (map (λ word. word.now) words.now)) }
+    ensures change { IfOk result (λ change. change ≡ change_named name.now (map (λ word. word.now) words.now)) }
+    ensures memory { IfErr result (λ _. 0 < length words.now) }
 {
     if name == b"info".as_slice() {
         info_by_words(alloc, words)
@@ -60,7 +61,8 @@ pub fn change_named(alloc: Global, name: &[u8], words: &[&[u8]]) -> Result<Optio
 
 // info H, and the text
 fn info_by_words(alloc: Global, words: &[&[u8]]) -> Result<Option<Change>, NoMemory>
-    ensures { IfOk result (λ change. change ≡ info_by_words (map (λ word. word.now) words.now)) }
+    ensures change { IfOk result (λ change. change ≡ info_by_words (map (λ word. word.now) words.now)) }
+    ensures memory { IfErr result (λ _. 0 < length words.now) }
 {
     match words {
         [] => Ok(None),
@@ -83,7 +85,8 @@ fn set_info(alloc: Global, h: &[u8], info: Option<Text>) -> Result<Option<Change
 
 // The changes that have a count of words each.
 fn change_by_count(alloc: Global, name: &[u8], words: &[&[u8]]) -> Result<Option<Change>, NoMemory>
-    ensures { IfOk result (λ change. change ≡ change_by_count name.now (map (λ word. word.now) words.now)) }
+    ensures change { IfOk result (λ change. change ≡ change_by_count name.now (map (λ word. word.now) words.now)) }
+    ensures memory { IfErr result (λ _. 0 < length words.now) }
 {
     match words {
         [] => Ok(None),

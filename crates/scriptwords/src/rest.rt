@@ -1,16 +1,17 @@
 // The rest of a line: a word that takes all that follows, spaces and all.
-ghost use Rattle.std.specs.Prelude.{◌≡◌, ◌∷◌, map, IfOk};
+ghost use Rattle.std.specs.Prelude.{◌≡◌, ◌∷◌, ◌+◌, ◌<◌, length, map, IfOk, IfErr};
 ghost use Rattle.scriptwords.specs.Words.{line_of, rest_of};
 
-use bytetext::{NoMemory, Text};
+use bytetext::{NoMemory, Text, bytes_of};
 use std::alloc::Global;
 
 /// The rest of a line from a word on; none where it is empty.
 ///
 /// # Errors
-/// `NoMemory` where room is refused.
+/// `NoMemory` where room is refused: never where it is empty.
 pub fn rest_of(alloc: Global, first: &[u8], rest: &[&[u8]]) -> Result<Option<Text>, NoMemory>
-    ensures { IfOk result (λ text. text ≡ rest_of (first.now ∷ map (λ word. word.now) rest.now)) }
+    ensures text { IfOk result (λ text. text ≡ rest_of (first.now ∷ map (λ word. word.now) rest.now)) }
+    ensures memory { IfErr result (λ _. 0 < length first.now + length rest.now) }
 {
     let line = line_of(alloc, first, rest)?;
     if line.is_empty() {
@@ -21,9 +22,10 @@ pub fn rest_of(alloc: Global, first: &[u8], rest: &[&[u8]]) -> Result<Option<Tex
 
 // Words as a line, with one space between each two.
 fn line_of(alloc: Global, first: &[u8], rest: &[&[u8]]) -> Result<Vec<u8>, NoMemory>
-    ensures { IfOk result (λ line. line.items ≡ line_of (first.now ∷ map (λ word. word.now) rest.now)) }
+    ensures line { IfOk result (λ line. line.items ≡ line_of (first.now ∷ map (λ word. word.now) rest.now)) }
+    ensures memory { IfErr result (λ _. 0 < length first.now + length rest.now) }
 {
-    let mut line = Vec::from_slice(alloc, first)?;
+    let mut line = bytes_of(alloc, first)?;
     for word in rest {
         line.push(b' ')?;
         line.extend_from_slice(word)?;

@@ -35,6 +35,7 @@ impl From<NoMemory> for ReadError {
 ///
 /// # Errors
 /// `Fault` where it fails or would have to wait, and `NoMemory` where a growth is refused. What was read before is lost.
+/// Neither where no bytes are asked for.
 pub fn read_up_to<S: Stream>(
     alloc: Global,
     stream: &mut S,
@@ -43,6 +44,7 @@ pub fn read_up_to<S: Stream>(
     ensures ok { IfOk result (λ bytes. ReadsUpTo most (S.source stream.old) bytes.items (S.source stream.new)) }
     ensures err { IfErr result (λ e. ReadsNot most (S.source stream.old) e (S.source stream.new)) }
     ensures other { S.sink stream.new ≡ S.sink stream.old }
+    ensures some { IfErr result (λ _. 0 < most) }
 {
     let mut bytes = Vec::new(alloc);
     while bytes.len() < most {

@@ -1,11 +1,23 @@
-use Rattle.std.proofs.Common.{◌≡◌, ◌≤◌, ◌-◌, ℕ, List, ◌++◌, [], length, drop, take, ap, ◌∙◌, sym, arith, length-drop, subst}
+use Rattle.std.proofs.Common.{◌≡◌, ◌≤◌, ◌-◌, ℕ, List, ◌++◌, [], length, drop, take, ap, ◌∙◌, sym, arith, length-drop, subst, Result, Ok, Err, IfErr}
 use Rattle.std.proofs.lemmas.List.{take_rest, nil_from_length, append-nil}
 use Rattle.ircline.specs.declared.line.Line.{Line}
 use Rattle.ircline.specs.Words.{from_first}
 use Rattle.ircline.specs.Classes.{is_end}
 use Rattle.ircline.proofs.PlaceLemmas.{length-from_first}
 use Rattle.ircline.proofs.StreamLemmas.{no_more, step_lines, step_rest}
+use Rattle.ircline.proofs.EndsLemmas.{some_front, some_left}
 use Rattle.ircline.proofs.reader.push_lines.Goals as goal
+
+-- what holds after each error
+at_err : {T E : Type 0} {P : Type 0} (result : Result T E) → P → IfErr result (λ _. P)
+at_err (Ok _) p = tt
+at_err (Err _) p = p
+
+pub returns-in_err-push_line-clause-memory : goal.returns-in_err-push_line-clause-memory
+returns-in_err-push_line-clause-memory c =
+    let parts = c.parted.ensures is_end c.first_end.ensures in
+    at_err c.from_residual.result
+    (c.loop-rest.invariant.ends (some_front c.loop-rest.text.now c.parted.result.0.now parts.0 c.in_err-push_line.ensures.memory))
 
 pub returns-in_default-clause-lines : goal.returns-in_default-clause-lines
 returns-in_default-clause-lines c =
@@ -36,6 +48,7 @@ loop-rest-preserved c =
     record {
       lines =
           step_lines c.loop-rest.lines.items _ c.loop-rest.text.now c.parted.result.0.now rest _ _ parts.0 parts.1 c.in-len1-up.len_at_least
-          (take_rest rest 1) c.in_ok-push_line.ensures c.loop-rest.invariant.lines;
+          (take_rest rest 1) c.in_ok-push_line.ensures.lines c.loop-rest.invariant.lines;
       rest = step_rest c.loop-rest.text.now rest _ _ parts.1 c.in-len1-up.len_at_least (take_rest rest 1) c.loop-rest.invariant.rest;
+      ends = λ some. c.loop-rest.invariant.ends (some_left c.loop-rest.text.now rest _ parts.1 (take_rest rest 1) some);
     }

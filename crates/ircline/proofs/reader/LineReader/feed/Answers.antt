@@ -1,4 +1,4 @@
-use Rattle.std.proofs.Common.{◌≢◌, ℕ, List, ◌++◌, [], length, take, ap, ◌∙◌, sym, arith, refl, map}
+use Rattle.std.proofs.Common.{◌≡◌, ◌≢◌, ◌<◌, ℕ, List, ◌++◌, [], length, take, ap, ◌∙◌, sym, arith, refl, map, subst, Result, Ok, Err, OnErr}
 use Rattle.std.proofs.lemmas.Bool.{eqb-true, eqb-false}
 use Rattle.std.proofs.lemmas.List.{nil_from_length, append-nil}
 use Rattle.ircline.specs.declared.line.Line.{Line}
@@ -6,7 +6,43 @@ use Rattle.ircline.specs.Classes.{is_end}
 use Rattle.ircline.specs.Reading.{line_of}
 use Rattle.ircline.specs.Stream.{lines_of, with_run}
 use Rattle.ircline.proofs.StreamLemmas.{piece_without, feed_with}
+use Rattle.ircline.proofs.EndsLemmas.{some_front, some_run, some_rest, some_begun}
 use Rattle.ircline.proofs.reader.LineReader.feed.Goals as goal
+
+-- what holds after each error
+at_err : {T E : Type 0} {P : Type 0} (result : Result T E) → P → OnErr result P
+at_err (Ok _) p = tt
+at_err (Err _) p = p
+
+pub returns-in_err-run-clause-memory : goal.returns-in_err-run-clause-memory
+returns-in_err-run-clause-memory c = λ none.
+    let parts = c.parted.ensures is_end c.first_end.ensures in
+    let front = c.parted.result.0.now in
+    let held = c.as_slice.ensures.value ∙ c.self.view_is ∙ none in
+    let some = subst (λ (h : List ℕ). 0 < length (h ++ front)) held c.in_err-run.ensures.memory in
+    at_err c.from_residual.result (some_front c.args.piece.now front parts.0 some)
+
+pub returns-in_err-push_line-clause-memory : goal.returns-in_err-push_line-clause-memory
+returns-in_err-push_line-clause-memory c = λ none.
+    let parts = c.parted.ensures is_end c.first_end.ensures in
+    let front = c.parted.result.0.now in
+    let held = c.as_slice.ensures.value ∙ c.self.view_is ∙ none in
+    let run = c.as_slice-2.ensures.value ∙ c.in_ok-run.ensures.run ∙ ap (λ (h : List ℕ). take 511 (h ++ front)) held in
+    at_err c.from_residual-in_err-push_line.result
+    (some_run c.args.piece.now front c.as_slice-2.result.now parts.0 run c.in_err-push_line.ensures.memory)
+
+pub returns-in_err-tail-clause-memory : goal.returns-in_err-tail-clause-memory
+returns-in_err-tail-clause-memory c = λ none.
+    let parts = c.parted.ensures is_end c.first_end.ensures in
+    at_err c.from_residual-in_err-tail.result (some_rest c.args.piece.now c.parted.result.1.now parts.1 c.in_err-tail.ensures.memory)
+
+pub returns-in_err-self-inside-clause-memory : goal.returns-in_err-self-inside-clause-memory
+returns-in_err-self-inside-clause-memory c = λ none.
+    let parts = c.parted.ensures is_end c.first_end.ensures in
+    let rest = c.parted.result.1.now in
+    let some = subst (λ (t : List ℕ). 0 < length t) (append-nil c.in_ok-tail.tail.now) c.in_err-self-inside.ensures.memory in
+    at_err c.from_residual-in_err-self-inside.result
+    (some_rest c.args.piece.now rest parts.1 (some_begun rest c.in_ok-tail.tail.now c.in_ok-tail.ensures.rest some))
 
 pub returns-then-is_empty-clause-lines : goal.returns-then-is_empty-clause-lines
 returns-then-is_empty-clause-lines c = λ stream is.
@@ -29,7 +65,7 @@ returns-clause-lines c = λ stream is.
     let parts = c.parted.ensures is_end c.first_end.ensures in
     let some : length c.parted.result.1.now ≢ 0 = eqb-false _ 0 (sym c.is_empty.ensures ∙ c.if-is_empty.false) in
     let run-is = c.in_ok-run.ensures.run ∙ ap (λ (h : List ℕ). take 511 (h ++ c.parted.result.0.now)) (c.as_slice.ensures.value ∙ c.self.view_is) in
-    let first-is = c.in_ok-push_line.ensures ∙ ap (λ (l : List Line). l
+    let first-is = c.in_ok-push_line.ensures.lines ∙ ap (λ (l : List Line). l
     ++ map line_of (with_run c.as_slice-2.result.now [])) c.new-lines.ensures.items
     ∙ ap (λ (r : List ℕ). map line_of (with_run r [])) c.as_slice-2.ensures.value in
     (feed_with c.args.self.now stream c.args.piece.now c.parted.result.0.now c.parted.result.1.now c.in_ok-run.run'.items c.push_line.new.lines.items
