@@ -233,3 +233,11 @@ next-shorter (x ∷ xs) rest b first is_rest = let len : length rest ≡ length 
 pub none-left : (all : List Bind) (numbers : List ℕ) → None ≡ slice_get all 0 → numbers ≡ numbers ++ numbers_of all
 none-left [] numbers none = sym (append-nil numbers)
 none-left (x ∷ xs) numbers none = absurd cc
+
+-- where one is left, one is called
+pub some-called : (left all : List Bind) (numbers : List ℕ) (b : Bind) → Some b ≡ slice_get left 0 → numbers ++ numbers_of left ≡ numbers_of all
+    → 0 < length all
+some-called [] all numbers b first whole = absurd cc
+some-called (x ∷ left) (y ∷ all) numbers b first whole = omega arith
+some-called (x ∷ left) [] [] b first whole = absurd cc
+some-called (x ∷ left) [] (n ∷ numbers) b first whole = absurd cc

@@ -1,5 +1,5 @@
 // A bind that is held, with what its flags and its mask say, so that no event reads their texts again.
-ghost use Rattle.std.specs.Prelude.{◌≡◌, IfOk};
+ghost use Rattle.std.specs.Prelude.{◌≡◌, ◌<◌, IfOk, IfErr, length};
 
 use crate::bind::Bind;
 use crate::bind_kind::BindKind;
@@ -165,7 +165,8 @@ impl TryCopy for Held {
 
 // A copy of each bind, in order.
 pub(crate) fn binds_of(alloc: Global, held: &[Held]) -> Result<Vec<Bind>, NoMemory>
-    ensures { IfOk result (λ binds. binds.items ≡ held.now) }
+    ensures binds { IfOk result (λ binds. binds.items ≡ held.now) }
+    ensures memory { IfErr result (λ _. 0 < length held.now) }
 {
     let mut binds = Vec::with_capacity(alloc, held.len())?;
     for one in held {

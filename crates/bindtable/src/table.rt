@@ -53,7 +53,7 @@ impl Model for BindTable {
 }
 
 impl BindTable {
-    ghost use Rattle.std.specs.Prelude.{◌≡◌, ◌↔◌, true, ◌+◌, None, false, true, find, map, IfOk, OnOk, OnErr};
+    ghost use Rattle.std.specs.Prelude.{◌≡◌, ◌↔◌, true, ◌+◌, None, false, true, find, map, ◌<◌, IfOk, IfErr, OnOk, OnErr, length};
     ghost use Rattle.std.specs.List.{list_any};
     ghost use Rattle.flagexpr.specs.Expression.{expression_of};
     ghost use Rattle.flagexpr.specs.Faults.{expression_fault};
@@ -184,9 +184,10 @@ impl BindTable {
     /// The numbers of the binds that an event calls, oldest first.
     ///
     /// # Errors
-    /// `NoMemory` where room for the list is refused.
+    /// `NoMemory` where room for the list is refused: never where no bind is called.
     pub fn find(&self, alloc: Global, event: &Event) -> Result<Seq<u32>, NoMemory>
-        ensures { IfOk result (λ numbers. numbers ≡ numbers_of (called (seen event.now) self.now.binds)) }
+        ensures numbers { IfOk result (λ numbers. numbers ≡ numbers_of (called (seen event.now) self.now.binds)) }
+        ensures memory { IfErr result (λ _. 0 < length (called (seen event.now) self.now.binds)) }
     {
         let mut numbers = Seq::empty(alloc);
         let mut called = self.called(event);
@@ -209,9 +210,10 @@ impl BindTable {
     /// A copy of all binds, oldest first.
     ///
     /// # Errors
-    /// `NoMemory` where room for the copies is refused.
+    /// `NoMemory` where room for the copies is refused: never where there is no bind.
     pub fn list(&self, alloc: Global) -> Result<Binds, NoMemory>
-        ensures { IfOk result (λ binds. binds ≡ self.now.binds) }
+        ensures binds { IfOk result (λ binds. binds ≡ self.now.binds) }
+        ensures memory { IfErr result (λ _. 0 < length self.now.binds) }
     {
         Ok(Seq::new(binds_of(alloc, &self.held)?))
     }

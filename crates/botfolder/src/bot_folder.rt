@@ -1,5 +1,7 @@
 // A folder that this program has taken.
-ghost use Rattle.std.specs.Prelude.{IfOk};
+ghost use Rattle.std.specs.Prelude.{◌≡◌, ◌<◌, length, Err, IfOk};
+ghost use Rattle.bytetext.specs.declared.failure.Failure.TheVariants.{Refused};
+ghost use Rattle.botfolder.specs.declared.fault.FolderFault.TheVariants.{LongName};
 ghost use Rattle.botfolder.specs.Folders.{AreEmpty, AreReady, IsBegun, IsReady};
 
 use crate::begun::Begun;
@@ -43,11 +45,13 @@ impl BotFolder {
     ///
     /// # Errors
     /// `LongName`, `NoParent`, `Unusable`, `LetsOthersIn`, `InUse` and `DiskFails` as they say; `NoMemory` where
-    /// memory is refused. The folder may have been made, and a file `lock` in it.
+    /// memory is refused, which no long name asks for. The folder may have been made, and a file `lock` in it.
     pub fn take<R: AllocGlobal + Files<File = File>>(
         rt: &R,
         folder: &str,
-    ) -> Result<BotFolder, FolderError> {
+    ) -> Result<BotFolder, FolderError>
+        ensures long_name { MAX_PATH < length folder.now → result ≡ Err (Refused LongName) }
+    {
         if folder.len() > MAX_PATH {
             return Err(Failure::Refused(FolderFault::LongName));
         }

@@ -1,8 +1,10 @@
 -- When a leaf is to say hello.
-use Rattle.std.specs.Prelude.{ℕ, Bool, ◌+◌, ◌-◌, ◌^◌, ◌&&◌, min, nat_le, nat_lt, if◌then◌else◌}
+use Rattle.std.specs.Prelude.{ℕ, Bool, ◌+◌, ◌-◌, ◌^◌, ◌&&◌, min, nat_le, nat_lt, if◌then◌else◌, Option, None, Some}
 use Rattle.linkcalls.specs.declared.TheConstants.{HELLO_CHANGES}
 use Rattle.linkcalls.specs.declared.note.Note.{Note}
 use Rattle.linkcalls.specs.declared.note.Note.TheVariants.{Queued, Idle, Sent, Accepted, Refused, Served, Old, Repeat, Gap, Early, Applied, Kept, Installed, Compacted, Relayed, Text, Stray, Restarted}
+use Rattle.botlinks.specs.declared.links.Links.{Links}
+use Rattle.botlinks.specs.declared.links.Links.TheVariants.{Alone, Hub, Leaf}
 use Rattle.botlinks.specs.declared.pumps.Pumps.{Pumps}
 use Rattle.botlinks.specs.declared.pumps.TheConstants.{REST, AGAIN}
 
@@ -57,3 +59,9 @@ noted Relayed more pumps = pumps
 noted (Text from text) more pumps = pumps
 noted Stray more pumps = pumps
 noted (Restarted version) more pumps = pumps
+
+-- when a bot is to say hello, if it is a leaf
+abbrev pub pumps_of : Links → Option Pumps
+pumps_of Alone = None
+pumps_of (Hub hub) = None
+pumps_of (Leaf leaf) = Some leaf.pumps

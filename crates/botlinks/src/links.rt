@@ -1,7 +1,9 @@
 // A bot's connections to the others of its net.
-ghost use Rattle.std.specs.Prelude.{◌<◌, IfOk};
+ghost use Rattle.std.specs.Prelude.{◌≡◌, ◌≢◌, ◌<◌, IfOk, IfErr, option_map};
 ghost use Rattle.std.specs.List.{AllByRecursion};
 ghost use Rattle.bytetext.specs.declared.moment.TheConstants.{MOMENTS_END};
+ghost use Rattle.botlinks.specs.Hellos.{asked, noted, pumps_of};
+ghost use Rattle.botlinks.specs.declared.links.Links.TheVariants.{Alone};
 ghost use Rattle.linkcalls.specs.Shapes.{HasGoodRecords};
 
 use crate::hub_links::HubLinks;
@@ -101,9 +103,10 @@ impl Links {
     /// The packets of one turn.
     ///
     /// # Errors
-    /// `NoMemory` where room for them is refused.
+    /// `NoMemory` where room for them is refused: never for a bot that is alone.
     pub fn take_packets(&mut self, alloc: Global) -> Result<Vec<Packet>, NoMemory>
         ensures good { IfOk result (λ packets. AllByRecursion HasGoodRecords packets.items) }
+        ensures memory { IfErr result (λ _. self.old ≢ Alone) }
     {
         match self {
             Links::Alone => Ok(Vec::new(alloc)),
@@ -143,14 +146,18 @@ impl Links {
     }
 
     /// Something was asked at this bot.
-    pub fn ask(&mut self) {
+    pub fn ask(&mut self)
+        ensures { pumps_of self.new ≡ option_map asked (pumps_of self.old) }
+    {
         if let Links::Leaf(leaf) = self {
             leaf.pumps.ask();
         }
     }
 
     /// What a step of the link notes, for when a leaf is to say hello, and whether more changes wait than are out.
-    pub fn note(&mut self, note: &Note, more: bool) {
+    pub fn note(&mut self, note: &Note, more: bool)
+        ensures { pumps_of self.new ≡ option_map (noted note.now more) (pumps_of self.old) }
+    {
         if let Links::Leaf(leaf) = self {
             leaf.pumps.note(note, more);
         }

@@ -1,4 +1,7 @@
 // How a bot's connections to the others are, as lines.
+ghost use Rattle.std.specs.Prelude.{◌≢◌, OnErr};
+ghost use Rattle.botlinks.specs.declared.links.Links.TheVariants.{Alone};
+
 use crate::hub_links::HubLinks;
 use crate::leaf_link::LeafLink;
 use crate::links::Links;
@@ -10,8 +13,10 @@ use itoa::Buffer;
 /// of its last hello and how many bytes wait for it; at a leaf whether the hub is, or when the next try is.
 ///
 /// # Errors
-/// `NoMemory` where room is refused.
-pub fn put_status(text: &mut Vec<u8>, links: &Links) -> Result<(), NoMemory> {
+/// `NoMemory` where room is refused: never for a bot that is alone.
+pub fn put_status(text: &mut Vec<u8>, links: &Links) -> Result<(), NoMemory>
+    ensures memory { OnErr result (links.now ≢ Alone) }
+{
     match links {
         Links::Alone => Ok(()),
         Links::Hub(hub) => put_hub(text, hub),

@@ -10,6 +10,9 @@ use Rattle.procstore.specs.declared.kind.Kind.{Kind}
 use Rattle.procstore.specs.declared.kind.Kind.TheVariants.{Raw, Msg, Msgm, Notc, Pub, Pubm, Join, Part, Sign, Kick, Nick, Mode, Topc}
 use Rattle.procstore.specs.declared.kind.Kind.TheVariants.{Bot, Time, Cron, Timer as timer_kind}
 use Rattle.botcalls.specs.declared.made_call.MadeCall.{MadeCall}
+use Rattle.sharewire.specs.declared.packet.Packet.{Packet}
+use Rattle.sharewire.specs.declared.packet.Packet.TheVariants as wire
+use Rattle.linkcalls.specs.declared.answer.Outgoing.{Outgoing}
 use Rattle.linkcalls.specs.declared.error.LinkFault.{LinkFault}
 use Rattle.linkcalls.specs.declared.error.LinkFault.TheVariants as refuses
 use Rattle.linkcalls.specs.declared.note.Note.{Note as LinkNote}
@@ -121,6 +124,20 @@ askers_of made = replicate (asks_of made) (asker_in made.call)
 abbrev pub proc_askers : Report → List Asker
 proc_askers report =
     if count_by is_refused_ask report.faults == 0 then flat_map askers_of report.calls else replicate (asked_by_procs report) Nobody
+
+-- ---- what a leaf's pump sends
+
+abbrev pub asks_hub : Packet → Bool
+asks_hub (wire.Hello layout leaf version) = false
+asks_hub (wire.Change number origin request change) = false
+asks_hub (wire.Part version part count records) = false
+asks_hub (wire.Request leaf request change) = true
+asks_hub (wire.Accepted leaf request number) = false
+asks_hub (wire.Refused leaf request fault) = false
+asks_hub (wire.BotText from to text) = false
+
+abbrev pub is_request : Outgoing → Bool
+is_request outgoing = asks_hub outgoing.packet
 
 -- ---- what a step tells
 

@@ -1,5 +1,6 @@
 // Of which net a bot is, and how it is connected to the others.
-ghost use Rattle.std.specs.Prelude.{◌≡◌, ◌<◌, IfOk};
+ghost use Rattle.std.specs.Prelude.{◌≡◌, ◌<◌, IfOk, count_by};
+ghost use Rattle.botrun.specs.Askers.{is_request};
 ghost use Rattle.botrun.specs.Stations.{IsKnownWhereWanted, IsLinkedAs};
 
 use crate::ending::{RunError, of_folder};
@@ -160,13 +161,25 @@ pub(crate) fn count_out<P: Promise, B: Run>(
 }
 
 // How many requests are among these packets: of a leaf's pump, all that are out.
-pub(crate) fn requests_in(packets: &[Outgoing]) -> usize {
+pub(crate) fn requests_in(packets: &[Outgoing]) -> usize
+    ensures { result ≡ count_by is_request packets.now }
+{
     packets
         .iter()
-        .filter(|outgoing| is_request(&outgoing.packet))
+        .filter(|outgoing| is_request(outgoing))
         .count()
 }
 
-fn is_request(packet: &Packet) -> bool {
-    matches!(packet, Packet::Request { .. })
+fn is_request(outgoing: &Outgoing) -> bool
+    ensures { result ≡ is_request outgoing.now }
+{
+    match &outgoing.packet {
+        Packet::Request { .. } => true,
+        Packet::Hello { .. }
+        | Packet::Change { .. }
+        | Packet::Part { .. }
+        | Packet::Accepted { .. }
+        | Packet::Refused { .. }
+        | Packet::BotText { .. } => false,
+    }
 }

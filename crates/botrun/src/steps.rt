@@ -45,7 +45,8 @@ impl Process {
         if self.bases.is_due(now) {
             self.compact(rt, store, settings, now)?;
         }
-        // A proc may have had a leaf ask for a change. Where this turn pumped, what is due is for a later second.
+        // A proc may have had a leaf ask for a change. Where this turn pumped and more is due at once, the link took bytes, so
+        // that the next turn comes at once too.
         Ok(said || (!pumped && self.others.links.is_pump_due(now)))
     }
 

@@ -381,6 +381,13 @@ filter_map-more f xs i d less =
     ap (filter_map f) (take_more xs i d less) ∙ filter_map-append f (take i xs) (get_or xs i d ∷ [])
     ∙ ap (λ ys. filter_map f (take i xs) ++ ys) (one_of (f (get_or xs i d)))
 
+-- where someone sits, somebody is seated
+pub seated-some : (ps : Places) (i : ℕ) (d : Option Member) → i < length ps → 0 < length (option_to_list (get_or ps i d)) → 0 < length (seated ps)
+seated-some [] i d less some = absurd (omega arith)
+seated-some (None ∷ ps) zero d less some = absurd (omega arith)
+seated-some (None ∷ ps) (suc i) d less some = seated-some ps i d (omega arith) some
+seated-some (Some m ∷ ps) i d less some = omega arith
+
 pub seated-taken : (ps : Places) → seated (taken ps) ≡ seated ps
 seated-taken [] = refl
 seated-taken (None ∷ ps) = seated-taken ps

@@ -1,5 +1,5 @@
 // The channels that the bot is on.
-ghost use Rattle.std.specs.Prelude.{◌≡◌, ◌+◌, ◌<◌, ◌≤◌, [], true, IfOk, IfSome, Some, is_some, OnOk, OnErr, MatchResult, position, length, map, filter, find};
+ghost use Rattle.std.specs.Prelude.{◌≡◌, ◌+◌, ◌<◌, ◌≤◌, [], true, IfOk, IfErr, IfSome, Some, is_some, OnOk, OnErr, MatchResult, position, length, map, filter, find};
 ghost use Rattle.std.specs.Option.{option_copied};
 ghost use Rattle.std.specs.List.{list_any};
 ghost use Rattle.chanstate.specs.Items.{names_in};
@@ -83,7 +83,8 @@ impl Channels {
 
     // The names of the channels that have a member of this nick, in order.
     pub(crate) fn names_with(&self, alloc: Global, nick: &[u8]) -> Result<Vec<Text>, NoMemory>
-        ensures { IfOk result (λ names. names.items ≡ map (λ channel. channel.name) (filter (λ channel. has_member nick.now channel.members) self.now)) }
+        ensures names { IfOk result (λ names. names.items ≡ map (λ channel. channel.name) (filter (λ channel. has_member nick.now channel.members) self.now)) }
+        ensures memory { IfErr result (λ _. 0 < length (filter (λ channel. has_member nick.now channel.members) self.now)) }
     {
         names_with(alloc, self.items.as_slice(), nick)
     }
@@ -288,7 +289,8 @@ pub(crate) fn put_each(items: &mut Vec<Channel>, channels: Vec<Channel>)
 
 // The names of those channels that have a member of this nick, in order.
 fn names_with(alloc: Global, channels: &[Channel], nick: &[u8]) -> Result<Vec<Text>, NoMemory>
-    ensures { IfOk result (λ names. names.items ≡ map (λ channel. channel.name) (filter (λ channel. has_member nick.now channel.members) channels.now)) }
+    ensures names { IfOk result (λ names. names.items ≡ map (λ channel. channel.name) (filter (λ channel. has_member nick.now channel.members) channels.now)) }
+    ensures memory { IfErr result (λ _. 0 < length (filter (λ channel. has_member nick.now channel.members) channels.now)) }
 {
     let mut names = Vec::new(alloc);
     for channel in channels {

@@ -1,5 +1,5 @@
 // Copies of those who sit on seats.
-ghost use Rattle.std.specs.Prelude.{◌≡◌, ◌++◌, IfOk, OnOk, map, Some};
+ghost use Rattle.std.specs.Prelude.{◌≡◌, ◌++◌, ◌<◌, IfOk, IfErr, OnOk, OnErr, length, map, Some};
 ghost use Rattle.std.specs.Option.{option_to_list};
 ghost use Rattle.chanstate.specs.Seats.{seated, taken};
 
@@ -9,7 +9,8 @@ use std::alloc::Global;
 
 // Copies of the members who sit there, in order.
 pub(crate) fn copies_of(alloc: Global, places: &[Option<Member>]) -> Result<Vec<Member>, NoMemory>
-    ensures { IfOk result (λ copies. copies.items ≡ seated places.now) }
+    ensures copies { IfOk result (λ copies. copies.items ≡ seated places.now) }
+    ensures memory { IfErr result (λ _. 0 < length (seated places.now)) }
 {
     let mut copies = Vec::new(alloc);
     for place in places {
@@ -24,7 +25,8 @@ fn push_copy(
     alloc: Global,
     place: &Option<Member>,
 ) -> Result<(), NoMemory>
-    ensures { OnOk result (copies.new.items ≡ copies.old.items ++ option_to_list place.now) }
+    ensures copy { OnOk result (copies.new.items ≡ copies.old.items ++ option_to_list place.now) }
+    ensures memory { OnErr result (0 < length (option_to_list place.now)) }
 {
     if let Some(member) = place {
         copies.push(member.copy(alloc)?)?;

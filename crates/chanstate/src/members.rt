@@ -1,5 +1,5 @@
 // A list of members.
-ghost use Rattle.std.specs.Prelude.{◌≡◌, [], length, IfOk};
+ghost use Rattle.std.specs.Prelude.{◌≡◌, ◌<◌, [], length, IfOk, IfErr};
 
 use crate::member::Member;
 use crate::roster::Roster;
@@ -48,7 +48,8 @@ impl Members {
 
     // Copies of the members of a channel, in order.
     pub(crate) fn copied(alloc: Global, roster: &Roster) -> Result<Members, NoMemory>
-        ensures { IfOk result (λ m. m ≡ roster.now) }
+        ensures members { IfOk result (λ m. m ≡ roster.now) }
+        ensures memory { IfErr result (λ _. 0 < length roster.now) }
     {
         let items = roster.copies(alloc)?;
         Ok(Members { items })

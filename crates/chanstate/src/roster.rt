@@ -1,5 +1,5 @@
 // The members of one channel, as the bot keeps them: found by their nicks, in the order in which they came.
-ghost use Rattle.std.specs.Prelude.{◌≡◌, [], ◌∷◌, not, IfOk, OnErr, find};
+ghost use Rattle.std.specs.Prelude.{◌≡◌, ◌<◌, [], ◌∷◌, not, length, IfOk, IfErr, OnErr, find};
 ghost use Rattle.std.specs.List.{list_any};
 ghost use Rattle.std.specs.Option.{option_copied, option_to_list};
 ghost use Rattle.chanstate.specs.Views.{is_op};
@@ -52,7 +52,8 @@ impl Roster {
 
     // Copies of the members, in order.
     pub(crate) fn copies(&self, alloc: Global) -> Result<Vec<Member>, NoMemory>
-        ensures { IfOk result (λ copies. copies.items ≡ self.now) }
+        ensures copies { IfOk result (λ copies. copies.items ≡ self.now) }
+        ensures memory { IfErr result (λ _. 0 < length self.now) }
     {
         copies_of(alloc, self.seats.places.as_slice())
     }

@@ -1,5 +1,5 @@
 // The bot's channels.
-ghost use Rattle.std.specs.Prelude.{◌≡◌, true, false, length, is_some, IfOk, OnErr, MatchResult};
+ghost use Rattle.std.specs.Prelude.{◌≡◌, ◌<◌, true, false, length, is_some, IfOk, IfErr, OnErr, MatchResult};
 ghost use Rattle.std.specs.Option.{option_copied, option_map};
 ghost use Rattle.chanstate.specs.Channels.{is_held};
 ghost use Rattle.chanstate.specs.Views.{connected, channel_in, channel_at, topic_in, members_in, member_in, is_op, is_voice, channels_with};
@@ -143,9 +143,10 @@ impl ChanState {
     /// The members of a channel in the order in which they came; nobody where the bot isn't on the channel.
     ///
     /// # Errors
-    /// `NoMemory` where room for the copies is refused.
+    /// `NoMemory` where room for the copies is refused: never where there is nobody.
     pub fn members(&self, alloc: Global, channel: &[u8]) -> Result<Members, NoMemory>
-        ensures { IfOk result (λ m. m ≡ members_in channel.now self.now) }
+        ensures members { IfOk result (λ m. m ≡ members_in channel.now self.now) }
+        ensures memory { IfErr result (λ _. 0 < length (members_in channel.now self.now)) }
     {
         match self.channels.find(channel) {
             Some(held) => Members::copied(alloc, &held.members),
@@ -156,9 +157,10 @@ impl ChanState {
     /// The channels that the bot is on together with this nick, as it spells them, in the order in which it joined them.
     ///
     /// # Errors
-    /// `NoMemory` where room for the names is refused.
+    /// `NoMemory` where room for the names is refused: never where there is none.
     pub fn channels_of(&self, alloc: Global, nick: &[u8]) -> Result<Texts, NoMemory>
-        ensures { IfOk result (λ names. names ≡ channels_with nick.now self.now) }
+        ensures names { IfOk result (λ names. names ≡ channels_with nick.now self.now) }
+        ensures memory { IfErr result (λ _. 0 < length (channels_with nick.now self.now)) }
     {
         let names = self.channels.names_with(alloc, nick)?;
         Ok(Texts::new(names))

@@ -1,5 +1,5 @@
 // The parts of a parameter: channels with commas between, names with spaces between.
-ghost use Rattle.std.specs.Prelude.{◌≡◌, ◌≤◌, length, IfOk, take, drop};
+ghost use Rattle.std.specs.Prelude.{◌≡◌, ◌≤◌, length, IfOk, IfErr, is_some, true, take, drop};
 ghost use Rattle.std.specs.List.{slice_get};
 ghost use Rattle.std.specs.Option.{option_copied};
 ghost use Rattle.chanstate.specs.Items.{signs_len, shown_by, named, last_of};
@@ -86,12 +86,16 @@ pub fn shown(alloc: Global, signs: &[u8], nick: Text) -> Member
 }
 
 /// A word of a list of names, as a member; none where no nick follows the signs.
+///
+/// # Errors
+/// `NoMemory` where room for the nick is refused: never where no nick follows the signs.
 pub fn named_member(
     alloc: Global,
     support: &Support,
     word: &[u8],
 ) -> Result<Option<Member>, NoMemory>
-    ensures { IfOk result (λ one. one ≡ named support.now word.now) }
+    ensures named { IfOk result (λ one. one ≡ named support.now word.now) }
+    ensures memory { IfErr result (λ _. is_some (named support.now word.now) ≡ true) }
 {
     let (signs, nick) = split_signs(support, word);
     if nick.is_empty() {

@@ -1,13 +1,11 @@
 -- How a call stands to its row.
-use Rattle.std.proofs.Common.{◌≡◌, ◌⊎◌, ◌+◌, ◌<◌, ◌≤◌, ◌^◌, ◌==◌, ℕ, true, false, nat_lt, List, Option, None, Some, is_some, Ok, refl, sym, ap, inl, inr, ◌∙◌, arith, eq-eqb, lt-ltb}
-use Rattle.std.proofs.lemmas.Bool.{ne_eqb, eqb-true, cases_order}
-use Rattle.botjournal.specs.declared.reply.Reply.{Reply}
+use Rattle.std.proofs.Common.{◌≡◌, ◌⊎◌, ◌+◌, ◌<◌, ◌≤◌, ◌==◌, ℕ, false, nat_lt, List, Ok, refl, sym, ap, inl, inr, ◌∙◌, arith, eq-eqb, lt-ltb}
+use Rattle.std.proofs.lemmas.Bool.{ne_eqb, cases_order}
 use Rattle.std.proofs.lemmas.Bool.Decides.{nat_tests}
 use Rattle.protocol.specs.Notes.{Note}
 use Rattle.protocol.specs.Packets.{Outgoing as Sent}
 use Rattle.protocol.specs.Bots.{How, Works, Fails, Row}
-use Rattle.protocol.specs.HubRules.{Hub, last_request, next_number}
-use Rattle.protocol.specs.Journals.{is_next_of}
+use Rattle.protocol.specs.HubRules.{Hub}
 use Rattle.protocol.specs.Numbers.{Below, Same, Next, Above, place_of}
 use Rattle.linkcalls.specs.declared.answer.Answer.{Answer}
 use Rattle.linkcalls.specs.Calls.{note_of, outgoings_of}
@@ -30,13 +28,7 @@ meets-answer old new row meaning sends answer is notes sent numbered same moment
   moments = moments;
 }
 
--- ---- where a number stands
-
--- a leaf's next request has the number after the last
-pub next-settled : (place : Option (List Reply)) (request : ℕ) → request < 2 ^ 32 → is_next_of place request ≡ true
-    → (is_some place ≡ true) × (next_number place < 2 ^ 32)
-next-settled None request small next = absurd (cc)
-next-settled (Some kept) request small next = (refl, omega (arith, eqb-true request (last_request kept + 1) next, small))
+-- ---- where a request's number stands to that of the last reply
 
 pub place-old : (number last : ℕ) → number ≤ last → (place_of number last ≡ Below) ⊎ (place_of number last ≡ Same)
 place-old number last le = by (cases_order number last)

@@ -1,5 +1,5 @@
 -- Packets one after another, and the shapes of those that a hub sends.
-use Rattle.std.proofs.Common.{◌≡◌, ◌<◌, ◌≤◌, ◌+◌, ◌-◌, ◌*◌, ℕ, zero, suc, List, [], ◌∷◌, ◌++◌, length, take, drop, get_or, Option, None, Some, Result, Ok, Err, IfOk, refl, sym, ap, subst, ◌∙◌, append_assoc, arith, add-one}
+use Rattle.std.proofs.Common.{◌≡◌, ◌<◌, ◌≤◌, ◌+◌, ◌-◌, ◌*◌, ℕ, zero, suc, List, [], ◌∷◌, ◌++◌, length, take, drop, get_or, Result, Ok, Err, IfOk, refl, sym, ap, subst, ◌∙◌, append_assoc, arith, add-one}
 use Rattle.std.proofs.lemmas.List.{append-nil}
 use Rattle.std.proofs.Math.Seq.{drop-cons}
 use Rattle.std.specs.List.{AllByRecursion}
@@ -7,9 +7,8 @@ use Rattle.usercodec.specs.declared.records.Record.{Record}
 use Rattle.usercodec.specs.Records.{IsGoodRecord}
 use Rattle.sharewire.specs.declared.packet.Packet.{Packet as WirePacket}
 use Rattle.sharewire.specs.declared.packet.Packet.TheVariants as wire
-use Rattle.protocol.specs.Packets.{Packet, Outgoing as Sent, AcceptedChange, from_wire, answer_packet, change_packet, to_each, numbered_from}
+use Rattle.protocol.specs.Packets.{Packet, Outgoing as Sent, AcceptedChange, from_wire, change_packet, to_each, numbered_from}
 use Rattle.protocol.specs.Packets.Packet.{Hello, Change, Request, Accepted, Refused, BotText, Part}
-use Rattle.botjournal.specs.declared.reply.Answer.TheVariants.{Taken, Refused as refused_request}
 use Rattle.protocol.specs.HubRules.{HubState, version_of, changes_from, parts_from}
 use Rattle.protocol.specs.Snapshots.{items_of, part_count, part_of}
 use Rattle.linkcalls.specs.declared.answer.Outgoing.{Outgoing}

@@ -1,5 +1,5 @@
 -- A hub's end of the link as contracts see it, and how its calls stand to the protocol's.
-use Rattle.std.specs.Prelude.{◌+◌, ℕ, zero, suc, Bool, true, false, List, [], ◌∷◌, ◌++◌, take, Option, None, Some, Result, Ok, Err}
+use Rattle.std.specs.Prelude.{◌+◌, ℕ, zero, suc, Bool, true, false, List, [], ◌∷◌, ◌++◌, take, Result, Ok, Err}
 use Rattle.bytetext.specs.declared.failure.Failure.{Failure}
 use Rattle.userfile.specs.declared.change.Change.{Change}
 use Rattle.botjournal.specs.declared.reply.Answer.TheVariants.{Taken}

@@ -5,6 +5,9 @@
 //! was told. A call makes one call of the journal at most, and takes all memory before it: a call that is out of memory
 //! leaves the link as it was.
 //!
+//! For each leaf it keeps the replies to the last eight requests. A request that comes again is never accepted twice: it is
+//! answered with its reply, where that is kept.
+//!
 //! Where a disk fails while the journal is written, the link is down: it shows what it showed, and takes nothing but a
 //! restart, which finds that what was being written counts, or doesn't.
 //!

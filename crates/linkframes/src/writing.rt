@@ -1,5 +1,5 @@
 // Packets as frames.
-ghost use Rattle.std.specs.Prelude.{◌≡◌, true};
+ghost use Rattle.std.specs.Prelude.{◌≡◌, true, IfErr};
 ghost use Rattle.sharewire.specs.Frames.{CanBeWritten};
 ghost use Rattle.linkcalls.specs.Shapes.{HasGoodRecords};
 
@@ -11,9 +11,10 @@ use userfile::shape;
 /// The frame of a packet; none where it has none.
 ///
 /// # Errors
-/// `NoMemory` where room for it is refused.
+/// `NoMemory` where room for it is refused: never where it has none.
 pub fn frame_of(alloc: Global, packet: &Packet) -> Result<Option<Vec<u8>>, NoMemory>
     requires good { HasGoodRecords packet.now }
+    ensures memory { IfErr result (λ _. CanBeWritten packet.now) }
 {
     if !has_frame(packet) {
         return Ok(None);

@@ -21,7 +21,7 @@ pub struct Point {
     pub y: u32,
 }
 
-/// What is drawn so far. A refused growth is remembered and told at the end; what would stand after it is left out.
+/// What is drawn so far. A refused growth is remembered and told at the end; what lacked room is left out.
 #[derive(Drop)]
 pub struct Canvas {
     bytes: Vec<u8>,

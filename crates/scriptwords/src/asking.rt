@@ -1,7 +1,6 @@
 // The changes that can be asked for.
-ghost use Rattle.std.specs.Prelude.{◌≡◌, map, option_map, if◌then◌else◌, ◌<◌, length, None, IfOk, IfErr};
+ghost use Rattle.std.specs.Prelude.{◌≡◌, ◌≢◌, ◌∷◌, map, option_map, None, IfOk, IfErr};
 ghost use Rattle.userfile.specs.declared.change.Change.TheVariants.{SetChan, SetInfo, SetSticky};
-ghost use Rattle.scriptwords.specs.Words.{is_empty};
 ghost use Rattle.scriptwords.specs.Changes.{by_more_words, by_one_word, by_three_words, by_two_words, info_by_words, pair_of};
 ghost use Rattle.scriptwords.specs.Changes.{change_by_count, change_by_words, change_named, change_of, channel_of, comment_of, flags_of, mark_of};
 
@@ -47,10 +46,10 @@ fn change_by_words(alloc: Global, words: &[&[u8]]) -> Result<Option<Change>, NoM
 /// The change of this name and these words; none where they are no change.
 ///
 /// # Errors
-/// `NoMemory` where room is refused: never where no words follow the name.
+/// `NoMemory` where room is refused: never where they are no change.
 pub fn change_named(alloc: Global, name: &[u8], words: &[&[u8]]) -> Result<Option<Change>, NoMemory>
     ensures change { IfOk result (λ change. change ≡ change_named name.now (map (λ word. word.now) words.now)) }
-    ensures memory { IfErr result (λ _. 0 < length words.now) }
+    ensures memory { IfErr result (λ _. change_named name.now (map (λ word. word.now) words.now) ≢ None) }
 {
     if name == b"info".as_slice() {
         info_by_words(alloc, words)
@@ -62,23 +61,24 @@ pub fn change_named(alloc: Global, name: &[u8], words: &[&[u8]]) -> Result<Optio
 // info H, and the text
 fn info_by_words(alloc: Global, words: &[&[u8]]) -> Result<Option<Change>, NoMemory>
     ensures change { IfOk result (λ change. change ≡ info_by_words (map (λ word. word.now) words.now)) }
-    ensures memory { IfErr result (λ _. 0 < length words.now) }
+    ensures memory { IfErr result (λ _. info_by_words (map (λ word. word.now) words.now) ≢ None) }
 {
     match words {
         [] => Ok(None),
-        [h, words @ ..] => set_info(alloc, h, comment_of(alloc, words)?),
+        [h, words @ ..] => set_info(alloc, h, words),
     }
 }
 
-fn set_info(alloc: Global, h: &[u8], info: Option<Text>) -> Result<Option<Change>, NoMemory>
-    ensures { IfOk result (λ change. change ≡ (if is_empty h.now then None else option_map (SetInfo h.now) info)) }
+fn set_info(alloc: Global, h: &[u8], words: &[&[u8]]) -> Result<Option<Change>, NoMemory>
+    ensures change { IfOk result (λ change. change ≡ info_by_words (h.now ∷ map (λ word. word.now) words.now)) }
+    ensures memory { IfErr result (λ _. info_by_words (h.now ∷ map (λ word. word.now) words.now) ≢ None) }
 {
-    let Some(info) = info else {
-        return Ok(None);
-    };
     if h.is_empty() {
         return Ok(None);
     }
+    let Some(info) = comment_of(alloc, words)? else {
+        return Ok(None);
+    };
     let handle = Text::from_slice(alloc, h)?;
     Ok(Some(Change::SetInfo { handle, info }))
 }
@@ -86,7 +86,7 @@ fn set_info(alloc: Global, h: &[u8], info: Option<Text>) -> Result<Option<Change
 // The changes that have a count of words each.
 fn change_by_count(alloc: Global, name: &[u8], words: &[&[u8]]) -> Result<Option<Change>, NoMemory>
     ensures change { IfOk result (λ change. change ≡ change_by_count name.now (map (λ word. word.now) words.now)) }
-    ensures memory { IfErr result (λ _. 0 < length words.now) }
+    ensures memory { IfErr result (λ _. change_by_count name.now (map (λ word. word.now) words.now) ≢ None) }
 {
     match words {
         [] => Ok(None),
@@ -99,15 +99,17 @@ fn change_by_count(alloc: Global, name: &[u8], words: &[&[u8]]) -> Result<Option
 
 // NAME H
 fn by_one_word(alloc: Global, name: &[u8], h: &[u8]) -> Result<Option<Change>, NoMemory>
-    ensures { IfOk result (λ change. change ≡ by_one_word name.now h.now) }
+    ensures change { IfOk result (λ change. change ≡ by_one_word name.now h.now) }
+    ensures memory { IfErr result (λ _. by_one_word name.now h.now ≢ None) }
 {
     if h.is_empty() {
         return Ok(None);
     }
-    let handle = Text::from_slice(alloc, h)?;
     if name == b"adduser".as_slice() {
+        let handle = Text::from_slice(alloc, h)?;
         Ok(Some(Change::AddUser { handle }))
     } else if name == b"deluser".as_slice() {
+        let handle = Text::from_slice(alloc, h)?;
         Ok(Some(Change::DelUser { handle }))
     } else {
         Ok(None)
@@ -116,7 +118,8 @@ fn by_one_word(alloc: Global, name: &[u8], h: &[u8]) -> Result<Option<Change>, N
 
 // addhost H M, delhost H M, delban C M, global H F, bot H F
 fn by_two_words(alloc: Global, name: &[u8], a: &[u8], b: &[u8]) -> Result<Option<Change>, NoMemory>
-    ensures { IfOk result (λ change. change ≡ by_two_words name.now a.now b.now) }
+    ensures change { IfOk result (λ change. change ≡ by_two_words name.now a.now b.now) }
+    ensures memory { IfErr result (λ _. by_two_words name.now a.now b.now ≢ None) }
 {
     if a.is_empty() || b.is_empty() {
         return Ok(None);
@@ -175,7 +178,8 @@ fn del_ban(alloc: Global, c: &[u8], m: &[u8]) -> Result<Option<Change>, NoMemory
 }
 
 fn set_global(alloc: Global, h: &[u8], flags: Option<Flags>) -> Result<Option<Change>, NoMemory>
-    ensures { IfOk result (λ change. change ≡ option_map (λ f. Change.SetGlobal h.now f) flags) }
+    ensures change { IfOk result (λ change. change ≡ option_map (λ f. Change.SetGlobal h.now f) flags) }
+    ensures memory { IfErr result (λ _. flags ≢ None) }
 {
     let Some(flags) = flags else {
         return Ok(None);
@@ -185,7 +189,8 @@ fn set_global(alloc: Global, h: &[u8], flags: Option<Flags>) -> Result<Option<Ch
 }
 
 fn set_bot(alloc: Global, h: &[u8], flags: Option<Flags>) -> Result<Option<Change>, NoMemory>
-    ensures { IfOk result (λ change. change ≡ option_map (λ f. Change.SetBot h.now f) flags) }
+    ensures change { IfOk result (λ change. change ≡ option_map (λ f. Change.SetBot h.now f) flags) }
+    ensures memory { IfErr result (λ _. flags ≢ None) }
 {
     let Some(flags) = flags else {
         return Ok(None);
@@ -202,7 +207,8 @@ fn by_three_words(
     b: &[u8],
     c: &[u8],
 ) -> Result<Option<Change>, NoMemory>
-    ensures { IfOk result (λ change. change ≡ by_three_words name.now a.now b.now c.now) }
+    ensures change { IfOk result (λ change. change ≡ by_three_words name.now a.now b.now c.now) }
+    ensures memory { IfErr result (λ _. by_three_words name.now a.now b.now c.now ≢ None) }
 {
     if a.is_empty() || b.is_empty() || c.is_empty() {
         return Ok(None);
@@ -222,7 +228,8 @@ fn set_chan(
     c: &[u8],
     flags: Option<Flags>,
 ) -> Result<Option<Change>, NoMemory>
-    ensures { IfOk result (λ change. change ≡ option_map (SetChan h.now c.now) flags) }
+    ensures change { IfOk result (λ change. change ≡ option_map (SetChan h.now c.now) flags) }
+    ensures memory { IfErr result (λ _. flags ≢ None) }
 {
     let Some(flags) = flags else {
         return Ok(None);
@@ -242,7 +249,8 @@ fn set_sticky(
     m: &[u8],
     mark: Option<bool>,
 ) -> Result<Option<Change>, NoMemory>
-    ensures { IfOk result (λ change. change ≡ option_map (SetSticky (channel_of c.now) m.now) mark) }
+    ensures change { IfOk result (λ change. change ≡ option_map (SetSticky (channel_of c.now) m.now) mark) }
+    ensures memory { IfErr result (λ _. mark ≢ None) }
 {
     let Some(on) = mark else {
         return Ok(None);
@@ -262,8 +270,10 @@ fn by_more_words(
     e: &[u8],
     words: &[&[u8]],
 ) -> Result<Option<Change>, NoMemory>
-    ensures { IfOk result (λ change. change ≡ by_more_words name.now c.now m.now h.now e.now
+    ensures change { IfOk result (λ change. change ≡ by_more_words name.now c.now m.now h.now e.now
         (map (λ word. word.now) words.now)) }
+    ensures memory { IfErr result (λ _. by_more_words name.now c.now m.now h.now e.now
+        (map (λ word. word.now) words.now) ≢ None) }
 {
     if c.is_empty() || m.is_empty() || h.is_empty() || name != b"addban".as_slice() {
         return Ok(None);
@@ -310,7 +320,8 @@ fn mark_of(word: &[u8]) -> Option<bool>
 
 // A comment is the rest of the line, and not empty where there is one.
 fn comment_of(alloc: Global, words: &[&[u8]]) -> Result<Option<Text>, NoMemory>
-    ensures { IfOk result (λ comment. comment ≡ comment_of (map (λ word. word.now) words.now)) }
+    ensures comment { IfOk result (λ comment. comment ≡ comment_of (map (λ word. word.now) words.now)) }
+    ensures memory { IfErr result (λ _. comment_of (map (λ word. word.now) words.now) ≢ None) }
 {
     match words {
         [] => Ok(Some(Text::empty(alloc))),

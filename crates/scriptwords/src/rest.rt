@@ -1,5 +1,5 @@
 // The rest of a line: a word that takes all that follows, spaces and all.
-ghost use Rattle.std.specs.Prelude.{◌≡◌, ◌∷◌, ◌+◌, ◌<◌, length, map, IfOk, IfErr};
+ghost use Rattle.std.specs.Prelude.{◌≡◌, ◌≢◌, ◌∷◌, ◌+◌, ◌<◌, length, map, None, IfOk, IfErr};
 ghost use Rattle.scriptwords.specs.Words.{line_of, rest_of};
 
 use bytetext::{NoMemory, Text, bytes_of};
@@ -11,7 +11,7 @@ use std::alloc::Global;
 /// `NoMemory` where room is refused: never where it is empty.
 pub fn rest_of(alloc: Global, first: &[u8], rest: &[&[u8]]) -> Result<Option<Text>, NoMemory>
     ensures text { IfOk result (λ text. text ≡ rest_of (first.now ∷ map (λ word. word.now) rest.now)) }
-    ensures memory { IfErr result (λ _. 0 < length first.now + length rest.now) }
+    ensures memory { IfErr result (λ _. rest_of (first.now ∷ map (λ word. word.now) rest.now) ≢ None) }
 {
     let line = line_of(alloc, first, rest)?;
     if line.is_empty() {

@@ -1,5 +1,5 @@
 // The channels of a bot's configuration.
-ghost use Rattle.std.specs.Prelude.{◌<◌};
+ghost use Rattle.std.specs.Prelude.{◌<◌, length, IfErr};
 ghost use Rattle.bytetext.specs.declared.moment.TheConstants.{MOMENTS_END};
 
 use bytetext::{NoMemory, Text, TryCopy};
@@ -15,7 +15,9 @@ pub struct Channels {
 
 impl Channels {
     // The bot of this number is on none of these yet.
-    pub(crate) fn new(alloc: Global, names: &[Text], number: u16) -> Result<Channels, NoMemory> {
+    pub(crate) fn new(alloc: Global, names: &[Text], number: u16) -> Result<Channels, NoMemory>
+        ensures memory { IfErr result (λ _. 0 < length names.now) }
+    {
         let mut seats = Vec::new(alloc);
         for name in names {
             seats.push(Seat::new(name.copy(alloc)?, number))?;

@@ -1,5 +1,5 @@
 // What a server says, for the registration and the channels.
-ghost use Rattle.std.specs.Prelude.{◌<◌};
+ghost use Rattle.std.specs.Prelude.{◌≢◌, ◌<◌, None, OnErr};
 ghost use Rattle.bytetext.specs.declared.moment.TheConstants.{MOMENTS_END};
 
 use crate::entry::Entry;
@@ -16,7 +16,7 @@ impl Uplink {
     /// go. `bytes` are those of [`Uplink::take_heard`], each once, in order.
     ///
     /// # Errors
-    /// `NoMemory` where room is refused. Lines before may have been looked at.
+    /// `NoMemory` where room is refused: never without a connection. Lines before may have been looked at.
     pub fn look<R: AllocGlobal + Print>(
         &mut self,
         rt: &R,
@@ -25,6 +25,7 @@ impl Uplink {
         now: u64,
     ) -> Result<(), NoMemory>
         requires moment { now < MOMENTS_END }
+        ensures memory { OnErr result (self.old.session ≢ None) }
     {
         let lines = match &mut self.session {
             Some(session) => session.cues.feed(rt.alloc(), bytes)?,

@@ -1,5 +1,5 @@
 // What is due on a connection without a word of its server.
-ghost use Rattle.std.specs.Prelude.{◌<◌};
+ghost use Rattle.std.specs.Prelude.{◌≢◌, ◌<◌, None, OnErr};
 ghost use Rattle.bytetext.specs.declared.moment.TheConstants.{MOMENTS_END};
 
 use crate::entry::Entry;
@@ -15,7 +15,7 @@ impl Uplink {
     /// again, and tells lines of the process's own. It is to be called each second at least.
     ///
     /// # Errors
-    /// `NoMemory` where room is refused. What was told before is told.
+    /// `NoMemory` where room is refused: never without a connection. What was told before is told.
     pub fn keep<R: AllocGlobal + Print>(
         &mut self,
         rt: &R,
@@ -23,6 +23,7 @@ impl Uplink {
         now: u64,
     ) -> Result<(), NoMemory>
         requires moment { now < MOMENTS_END }
+        ensures memory { OnErr result (self.old.session ≢ None) }
     {
         let care = match &mut self.session {
             Some(session) => session.care(now),

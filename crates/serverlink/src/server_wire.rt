@@ -1,5 +1,5 @@
 // A connection that is told lines and nothing else.
-ghost use Rattle.std.specs.Prelude.{◌≡◌, IfOk, false};
+ghost use Rattle.std.specs.Prelude.{◌≡◌, IfOk, IfErr, OnErr, true, false};
 ghost use Rattle.upkeep.specs.Lines.{is_line};
 ghost use Rattle.serverlink.specs.Told.{ended};
 
@@ -78,9 +78,11 @@ impl<S: Stream + Drop> ServerWire<S> {
     /// Hears a piece of what has come, where it may have something to give and there is room. Whether a byte came.
     ///
     /// # Errors
-    /// `NoMemory` where room is refused. Nothing was heard then.
+    /// `NoMemory` where room is refused: never once it is over. Nothing was heard then.
     #[tactic(auto, using(crate::proofs::ToldLemmas::tells_on))]
-    pub fn read(&mut self) -> Result<bool, NoMemory> {
+    pub fn read(&mut self) -> Result<bool, NoMemory>
+        ensures memory { IfErr result (λ _. self.old.over ≡ false) }
+    {
         if !self.may_give || self.wire.is_over || self.wire.is_full() {
             return Ok(false);
         }
@@ -106,9 +108,10 @@ impl<S: Stream + Drop> ServerWire<S> {
     /// connection is over.
     ///
     /// # Errors
-    /// `NoMemory` where room is refused. Nothing is told then.
+    /// `NoMemory` where room is refused: never for bytes that are no line. Nothing is told then.
     pub fn tell(&mut self, alloc: Global, line: &[u8]) -> Result<(), NoMemory>
         ensures none { is_line line.now ≡ false → self.new ≡ self.old }
+        ensures memory { OnErr result (is_line line.now ≡ true) }
     {
         if !is_line(line) {
             return Ok(());

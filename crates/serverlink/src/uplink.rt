@@ -1,5 +1,5 @@
 // The bot's connection to its servers.
-ghost use Rattle.std.specs.Prelude.{◌<◌, length};
+ghost use Rattle.std.specs.Prelude.{◌≡◌, ◌≢◌, ◌<◌, length, None, IfErr, OnErr};
 ghost use Rattle.bytetext.specs.declared.moment.TheConstants.{MOMENTS_END};
 
 use crate::channels::Channels;
@@ -36,9 +36,10 @@ impl Uplink {
     /// No connection yet; a try is due at once.
     ///
     /// # Errors
-    /// `NoMemory` where room is refused.
+    /// `NoMemory` where room is refused: never where no channel is configured.
     pub fn new(alloc: Global, settings: &Settings) -> Result<Uplink, NoMemory>
         requires some { 0 < length settings.now.servers }
+        ensures memory { IfErr result (λ _. 0 < length settings.now.channels) }
     {
         let number = settings.station.number;
         Ok(Uplink {
@@ -70,7 +71,7 @@ impl Uplink {
     /// which is to be nobody else's.
     ///
     /// # Errors
-    /// `NoMemory` where room is refused. There is no connection then.
+    /// `NoMemory` where room is refused: never where there is a connection. There is none then.
     pub fn connect<R: AllocGlobal + Net + Print>(
         &mut self,
         rt: &R,
@@ -79,6 +80,7 @@ impl Uplink {
         now: u64,
     ) -> Result<bool, NoMemory>
         requires moment { now < MOMENTS_END }
+        ensures memory { IfErr result (λ _. self.old.session ≡ None) }
     {
         if self.session.is_some() || !self.dialling.is_due(now) {
             return Ok(false);
@@ -152,8 +154,10 @@ impl Uplink {
     /// Hears what has come by this second, up to 16 pieces. Whether there may be more at once: not where it has stalled.
     ///
     /// # Errors
-    /// `NoMemory` where room is refused. What was heard before stays.
-    pub fn read(&mut self, now: u64) -> Result<bool, NoMemory> {
+    /// `NoMemory` where room is refused: never without a connection. What was heard before stays.
+    pub fn read(&mut self, now: u64) -> Result<bool, NoMemory>
+        ensures memory { IfErr result (λ _. self.old.session ≢ None) }
+    {
         match &mut self.session {
             Some(session) => session.read(now),
             None => Ok(false),
@@ -172,14 +176,16 @@ impl Uplink {
     /// nowhere, and where more than 65,536 bytes would wait, the connection is over.
     ///
     /// # Errors
-    /// `NoMemory` where room is refused. Nothing is told then.
+    /// `NoMemory` where room is refused: never without a connection. Nothing is told then.
     pub fn tell<R: AllocGlobal + Print>(
         &mut self,
         rt: &R,
         settings: &Settings,
         line: &[u8],
         now: u64,
-    ) -> Result<(), NoMemory> {
+    ) -> Result<(), NoMemory>
+        ensures memory { OnErr result (self.old.session ≢ None) }
+    {
         let Some(session) = &mut self.session else {
             return Ok(());
         };

@@ -1,5 +1,5 @@
 // A whole stream, from the pieces that it came in.
-ghost use Rattle.std.specs.Prelude.{List, ℕ, IfOk};
+ghost use Rattle.std.specs.Prelude.{◌<◌, List, ℕ, length, IfOk, IfErr};
 ghost use Rattle.std.specs.List.{flat_map};
 ghost use Rattle.sharewire.specs.Streams.{Tells, ended};
 
@@ -12,10 +12,11 @@ use std::alloc::Global;
 /// the stream was cut.
 ///
 /// # Errors
-/// `NoMemory` where room for a piece or a packet is refused.
+/// `NoMemory` where room for a piece or a packet is refused: never where there are no pieces.
 pub fn read_pieces(alloc: Global, pieces: &[Text]) -> Result<Feed, NoMemory>
-    ensures { IfOk result (λ told. (begun : List ℕ)
+    ensures told { IfOk result (λ told. (begun : List ℕ)
         × Tells (flat_map (λ (piece : List ℕ). piece) pieces.now) told.packets (ended begun told.fault)) }
+    ensures memory { IfErr result (λ _. 0 < length pieces.now) }
 {
     let mut reader = WireReader::new(alloc);
     let mut packets = Vec::new(alloc);

@@ -1,5 +1,5 @@
 // A stream of bytes to packets, in whatever pieces it comes.
-ghost use Rattle.std.specs.Prelude.{◌≡◌, ◌≤◌, ◌+◌, ◌-◌, List, ℕ, [], ◌++◌, drop, length};
+ghost use Rattle.std.specs.Prelude.{◌≡◌, ◌<◌, ◌≤◌, ◌+◌, ◌-◌, List, ℕ, [], ◌++◌, drop, length};
 ghost use Rattle.std.specs.Prelude.{IfOk, OnErr, IsErr, IsOk};
 ghost use Rattle.sharewire.specs.declared.packet.Packet.{Packet};
 ghost use Rattle.sharewire.specs.declared.limits.TheConstants.{MAX_LENGTH};
@@ -58,8 +58,8 @@ impl WireReader {
     /// fault each further piece tells [`WireFault::Failed`] alone, and takes no memory.
     ///
     /// # Errors
-    /// `NoMemory` where room for the piece or a packet is refused. The reader is as before, and the piece can be fed
-    /// again.
+    /// `NoMemory` where room for the piece or a packet is refused: never where no bytes come. The reader is as before,
+    /// and the piece can be fed again.
     pub fn feed(&mut self, alloc: Global, piece: &[u8]) -> Result<Feed, NoMemory>
         // Of any stream that has told these packets so far, the packets go on with those of the answer.
         ensures told { (stream : List ℕ) (packets : List Packet) → Tells stream packets self.old
@@ -70,11 +70,18 @@ impl WireReader {
         ensures failed { IsErr self.old → IsOk result }
         ensures stays { IsErr self.old → self.new ≡ self.old }
         ensures unchanged { OnErr result (self.new ≡ self.old) }
+        ensures memory { OnErr result (0 < length piece.now) }
     {
         if self.fault.is_some() {
             return Ok(Feed {
                 packets: Seq::empty(alloc),
                 fault: Some(WireFault::Failed),
+            });
+        }
+        if piece.is_empty() {
+            return Ok(Feed {
+                packets: Seq::empty(alloc),
+                fault: None,
             });
         }
         let begun = self.held.len();

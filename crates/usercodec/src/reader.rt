@@ -41,7 +41,7 @@ impl<'a> Model for Reader<'a> {
 }
 
 impl<'a> Reader<'a> {
-    ghost use Rattle.std.specs.Prelude.{◌≡◌, ◌↔◌, [], length, IfOk, OnErr, IsTrue};
+    ghost use Rattle.std.specs.Prelude.{◌≡◌, ◌<◌, ◌↔◌, [], length, IfOk, IfErr, OnErr, IsTrue};
     ghost use Rattle.std.specs.Int.{w16, w32};
     ghost use Rattle.usercodec.specs.Answers.{Gives, Makes, Finds};
     ghost use Rattle.usercodec.specs.Fields.{byte_at, bytes_at, number_at};
@@ -181,9 +181,11 @@ impl<'a> Reader<'a> {
     ///
     /// # Errors
     /// `Refused` with the first fault of the bytes from the left. `NoMemory` where room for a record is refused: a fault
-    /// may then follow.
+    /// may then follow. Neither where none is asked for.
     pub fn records(&mut self, alloc: Global, count: usize) -> Result<Vec<Record>, CodecError>
         ensures value { Finds (λ records. (records.items, self.new)) result (so_many_records_at count self.old) }
+        // To read none takes no memory, and is never refused.
+        ensures memory { IfErr result (λ _. 0 < count) }
         ensures unchanged { OnErr result (self.new ≡ self.old) }
     {
         let mut ahead = Reader { rest: self.rest };
@@ -212,6 +214,7 @@ impl<'a> Reader<'a> {
     /// As of [`records`](Reader::records).
     pub fn records_old(&mut self, alloc: Global, count: usize) -> Result<Vec<Record>, CodecError>
         ensures value { Finds (λ records. (records.items, self.new)) result (so_many_records_at_old count self.old) }
+        ensures memory { IfErr result (λ _. 0 < count) }
         ensures unchanged { OnErr result (self.new ≡ self.old) }
     {
         let mut ahead = Reader { rest: self.rest };

@@ -1,5 +1,5 @@
 // Several records, one after the other.
-ghost use Rattle.std.specs.Prelude.{◌≡◌, ◌++◌, OnOk};
+ghost use Rattle.std.specs.Prelude.{◌≡◌, ◌≤◌, ◌<◌, ◌+◌, ◌++◌, length, OnOk, OnErr, IfErr, vec_capacity, vec_len};
 ghost use Rattle.std.specs.List.{AllByRecursion, flat_map};
 ghost use Rattle.usercodec.specs.Answers.{Finds};
 ghost use Rattle.usercodec.specs.Records.{record_bytes, HasShape, so_many_records_at};
@@ -15,10 +15,13 @@ use std::alloc::Global;
 /// Writes the one spelling of each record after some bytes, one after the other. How many there are is not written.
 ///
 /// # Errors
-/// `NoMemory` where room for them is refused; a part of them may then stand after the bytes.
+/// `NoMemory` where room for them is refused, never where the capacity is there; a part of them may then stand after
+/// the bytes.
 pub fn put_records(out: &mut Vec<u8>, records: &[Record]) -> Result<(), NoMemory>
     requires { AllByRecursion HasShape records.now }
-    ensures { OnOk result (out.new.items ≡ out.old.items ++ flat_map record_bytes records.now) }
+    ensures bytes { OnOk result (out.new.items ≡ out.old.items ++ flat_map record_bytes records.now) }
+    ensures memory { OnErr result (vec_capacity out.old < vec_len out.old + length (flat_map record_bytes records.now)) }
+    ensures capacity { vec_capacity out.old ≤ vec_capacity out.new }
 {
     for value in records {
         put_record(out, value)?;
@@ -31,7 +34,8 @@ pub(crate) fn tagged_records(
     reader: &mut Reader<'_>,
     count: usize,
 ) -> Result<Vec<Record>, CodecError>
-    ensures { Finds (λ records. (records.items, reader.new)) result (so_many_records_at count reader.old) }
+    ensures value { Finds (λ records. (records.items, reader.new)) result (so_many_records_at count reader.old) }
+    ensures memory { IfErr result (λ _. 0 < count) }
 {
     let mut records = Vec::new(alloc);
     for _ in 0..count {
@@ -49,7 +53,8 @@ pub(crate) fn tagged_records_old(
     reader: &mut Reader<'_>,
     count: usize,
 ) -> Result<Vec<Record>, CodecError>
-    ensures { Finds (λ records. (records.items, reader.new)) result (so_many_records_at_old count reader.old) }
+    ensures value { Finds (λ records. (records.items, reader.new)) result (so_many_records_at_old count reader.old) }
+    ensures memory { IfErr result (λ _. 0 < count) }
 {
     let mut records = Vec::new(alloc);
     for _ in 0..count {

@@ -14,7 +14,7 @@ loop-word-preserved c =
     record {
       keyed = c.in_ok-push_some.ensures.keyed;
       named = c.in_ok-push_some.ensures.pushed ∙ ap (λ ms. ms ++ option_to_list one) c.loop-word.invariant.named
-          ∙ ap (λ o. before ++ option_to_list o) c.in_ok-named_member.ensures
+          ∙ ap (λ o. before ++ option_to_list o) c.in_ok-named_member.ensures.named
           ∙ sym (named_more c.args.support.now c.loop-word.yielded c.in-Some.word);
     }
 

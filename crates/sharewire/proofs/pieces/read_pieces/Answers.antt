@@ -32,8 +32,8 @@ loop-piece-preserved c =
       ];
     }
 
-pub returns : goal.returns
-returns c =
+pub returns-clause-told : goal.returns-clause-told
+returns-clause-told c =
     let all : take c.loop-piece.piece-index c.args.pieces.now ≡ c.args.pieces.now = take_all c.loop-piece.piece-index c.args.pieces.now (omega arith) in
     let whole : Tells (flat_map (λ (piece : List ℕ). piece) c.args.pieces.now) c.loop-piece.packets.items c.loop-piece.reader =
     subst (λ (ps : List (List ℕ)). Tells (flat_map (λ (piece : List ℕ). piece) ps) c.loop-piece.packets.items c.loop-piece.reader) all

@@ -1,7 +1,12 @@
-use Rattle.std.proofs.Common.{◌++◌, ap, ◌∙◌}
-use Rattle.bindtable.specs.Calls.{numbers_of}
-use Rattle.bindtable.proofs.BehindLemmas.{next-number, next-shorter, none-left}
+use Rattle.std.proofs.Common.{◌++◌, ap, ◌∙◌, Result, Ok, Err, IfErr}
+use Rattle.bindtable.specs.Calls.{called, numbers_of, seen}
+use Rattle.bindtable.proofs.BehindLemmas.{next-number, next-shorter, none-left, some-called}
 use Rattle.bindtable.proofs.table.BindTable.find.Goals as goal
+
+-- what holds after each error
+at_err : {T E : Type 0} {P : Type 0} (result : Result T E) → P → IfErr result (λ _. P)
+at_err (Ok _) p = tt
+at_err (Err _) p = p
 
 pub loop-bind-init : goal.loop-bind-init
 loop-bind-init c =
@@ -15,5 +20,10 @@ loop-bind-preserved c =
     next-number c.loop-bind.called c.next.new.self c.in-Some.bind.now c.loop-bind.numbers c.push.new.self c.in-Some.ensures.first c.next.ensures.rest
     c.in_ok-push.ensures.ok ∙ c.loop-bind.invariant
 
-pub returns : goal.returns
-returns c = none-left c.loop-bind.called c.loop-bind.numbers c.in_default.ensures.first ∙ c.loop-bind.invariant
+pub returns-clause-numbers : goal.returns-clause-numbers
+returns-clause-numbers c = none-left c.loop-bind.called c.loop-bind.numbers c.in_default.ensures.first ∙ c.loop-bind.invariant
+
+pub returns-in_err-push-clause-memory : goal.returns-in_err-push-clause-memory
+returns-in_err-push-clause-memory c =
+    at_err c.from_residual.result (some-called c.loop-bind.called (called (seen c.args.event.now) c.args.self.now.binds) c.loop-bind.numbers c.in-Some.bind.now
+    c.in-Some.ensures.first c.loop-bind.invariant)

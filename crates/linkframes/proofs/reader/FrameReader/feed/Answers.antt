@@ -5,4 +5,7 @@ pub invariant_of-self : goal.invariant_of-self
 invariant_of-self c = fed_read c.args.bytes.now _ _ c.feed.result c.self.invariant c.feed.ensures.told c.feed.ensures.unchanged
 
 pub returns : goal.returns
-returns c = record { good = fed_good c.args.bytes.now _ _ c.feed.result c.self.invariant c.feed.ensures.told }
+returns c = record {
+  good = fed_good c.args.bytes.now _ _ c.feed.result c.self.invariant c.feed.ensures.told;
+  memory = c.feed.ensures.memory;
+}
