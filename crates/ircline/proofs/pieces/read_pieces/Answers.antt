@@ -1,16 +1,12 @@
-use Rattle.std.proofs.Common.{◌≡◌, ◌<◌, ℕ, List, ◌++◌, [], length, take, ap, ◌∙◌, sym, arith, Option, true, is_some, Result, Ok, Err, IfErr}
+use Rattle.std.proofs.Common.{◌≡◌, ◌<◌, ℕ, List, ◌++◌, [], length, take, ap, ◌∙◌, sym, arith, Option, true, is_some}
 use Rattle.std.specs.List.{flat_map}
 use Rattle.std.specs.Option.{option_to_list}
 use Rattle.std.proofs.lemmas.List.{take_all}
+use Rattle.bytetext.proofs.Errors.{at_err}
 use Rattle.ircline.specs.declared.line.Line.{Line}
 use Rattle.ircline.specs.Stream.{lines_of, begun, last_line}
 use Rattle.ircline.proofs.EndsLemmas.{piece_goes_on, piece_ends, run_held, run_last}
 use Rattle.ircline.proofs.pieces.read_pieces.Goals as goal
-
--- what holds after each error
-at_err : {T E : Type 0} {P : Type 0} (result : Result T E) → P → IfErr result (λ _. P)
-at_err (Ok _) p = tt
-at_err (Err _) p = p
 
 pub returns-in_err-ended-clause-memory : goal.returns-in_err-ended-clause-memory
 returns-in_err-ended-clause-memory c =

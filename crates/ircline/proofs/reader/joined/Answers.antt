@@ -1,12 +1,8 @@
-use Rattle.std.proofs.Common.{◌≡◌, ◌<◌, ℕ, List, ◌++◌, ◌-◌, length, length-take, take, ap, ◌∙◌, arith, Result, Ok, Err, IfErr}
+use Rattle.std.proofs.Common.{◌≡◌, ◌<◌, ℕ, List, ◌++◌, ◌-◌, length, length-take, take, ap, ◌∙◌, arith}
 use Rattle.std.proofs.Common.{length-append}
+use Rattle.bytetext.proofs.Errors.{at_err}
 use Rattle.ircline.proofs.StreamLemmas.{take_joined}
 use Rattle.ircline.proofs.reader.joined.Goals as goal
-
--- what holds after each error
-at_err : {T E : Type 0} {P : Type 0} (result : Result T E) → P → IfErr result (λ _. P)
-at_err (Ok _) p = tt
-at_err (Err _) p = p
 
 pub returns-in_err-run-clause-memory : goal.returns-in_err-run-clause-memory
 returns-in_err-run-clause-memory c =

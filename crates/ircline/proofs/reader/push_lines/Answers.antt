@@ -1,5 +1,6 @@
-use Rattle.std.proofs.Common.{◌≡◌, ◌≤◌, ◌-◌, ℕ, List, ◌++◌, [], length, drop, take, ap, ◌∙◌, sym, arith, length-drop, subst, Result, Ok, Err, IfErr}
+use Rattle.std.proofs.Common.{◌≡◌, ◌≤◌, ◌-◌, ℕ, List, ◌++◌, [], length, drop, take, ap, ◌∙◌, sym, arith, length-drop, subst}
 use Rattle.std.proofs.lemmas.List.{take_rest, nil_from_length, append-nil}
+use Rattle.bytetext.proofs.Errors.{at_err}
 use Rattle.ircline.specs.declared.line.Line.{Line}
 use Rattle.ircline.specs.Words.{from_first}
 use Rattle.ircline.specs.Classes.{is_end}
@@ -7,11 +8,6 @@ use Rattle.ircline.proofs.PlaceLemmas.{length-from_first}
 use Rattle.ircline.proofs.StreamLemmas.{no_more, step_lines, step_rest}
 use Rattle.ircline.proofs.EndsLemmas.{some_front, some_left}
 use Rattle.ircline.proofs.reader.push_lines.Goals as goal
-
--- what holds after each error
-at_err : {T E : Type 0} {P : Type 0} (result : Result T E) → P → IfErr result (λ _. P)
-at_err (Ok _) p = tt
-at_err (Err _) p = p
 
 pub returns-in_err-push_line-clause-memory : goal.returns-in_err-push_line-clause-memory
 returns-in_err-push_line-clause-memory c =

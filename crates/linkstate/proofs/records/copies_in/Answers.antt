@@ -1,13 +1,9 @@
-use Rattle.std.proofs.Common.{◌<◌, ◌++◌, List, [], ◌∷◌, length, Result, Ok, Err, IfErr, arith}
+use Rattle.std.proofs.Common.{◌<◌, ◌++◌, List, [], ◌∷◌, length, arith}
+use Rattle.bytetext.proofs.Errors.{at_err}
 use Rattle.userfile.specs.declared.user.User.{User}
 use Rattle.userfile.specs.declared.ban.Ban.{Ban}
 use Rattle.protocol.specs.Snapshots.{user_items, ban_items}
 use Rattle.linkstate.proofs.records.copies_in.Goals as goal
-
--- what holds after each error
-at_err : {T E : Type 0} {P : Type 0} (result : Result T E) → P → IfErr result (λ _. P)
-at_err (Ok _) p = tt
-at_err (Err _) p = p
 
 -- each user and each ban is an item
 some_users : (users : List User) (bans : List Ban) → 0 < length users → 0 < length (user_items users ++ ban_items bans)

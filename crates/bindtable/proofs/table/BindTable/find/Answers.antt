@@ -1,12 +1,8 @@
-use Rattle.std.proofs.Common.{◌++◌, ap, ◌∙◌, Result, Ok, Err, IfErr}
+use Rattle.std.proofs.Common.{◌++◌, ap, ◌∙◌}
+use Rattle.bytetext.proofs.Errors.{at_err}
 use Rattle.bindtable.specs.Calls.{called, numbers_of, seen}
 use Rattle.bindtable.proofs.BehindLemmas.{next-number, next-shorter, none-left, some-called}
 use Rattle.bindtable.proofs.table.BindTable.find.Goals as goal
-
--- what holds after each error
-at_err : {T E : Type 0} {P : Type 0} (result : Result T E) → P → IfErr result (λ _. P)
-at_err (Ok _) p = tt
-at_err (Err _) p = p
 
 pub loop-bind-init : goal.loop-bind-init
 loop-bind-init c =

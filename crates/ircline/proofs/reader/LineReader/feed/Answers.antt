@@ -1,6 +1,7 @@
-use Rattle.std.proofs.Common.{◌≡◌, ◌≢◌, ◌<◌, ℕ, List, ◌++◌, [], length, take, ap, ◌∙◌, sym, arith, refl, map, subst, Result, Ok, Err, OnErr}
+use Rattle.std.proofs.Common.{◌≡◌, ◌≢◌, ◌<◌, ℕ, List, ◌++◌, [], length, take, ap, ◌∙◌, sym, arith, refl, map, subst}
 use Rattle.std.proofs.lemmas.Bool.{eqb-true, eqb-false}
 use Rattle.std.proofs.lemmas.List.{nil_from_length, append-nil}
+use Rattle.bytetext.proofs.Errors.{at_err}
 use Rattle.ircline.specs.declared.line.Line.{Line}
 use Rattle.ircline.specs.Classes.{is_end}
 use Rattle.ircline.specs.Reading.{line_of}
@@ -8,11 +9,6 @@ use Rattle.ircline.specs.Stream.{lines_of, with_run}
 use Rattle.ircline.proofs.StreamLemmas.{piece_without, feed_with}
 use Rattle.ircline.proofs.EndsLemmas.{some_front, some_run, some_rest, some_begun}
 use Rattle.ircline.proofs.reader.LineReader.feed.Goals as goal
-
--- what holds after each error
-at_err : {T E : Type 0} {P : Type 0} (result : Result T E) → P → OnErr result P
-at_err (Ok _) p = tt
-at_err (Err _) p = p
 
 pub returns-in_err-run-clause-memory : goal.returns-in_err-run-clause-memory
 returns-in_err-run-clause-memory c = λ none.
