@@ -4,7 +4,7 @@ use bytetext::{NoMemory, Seq, Text, TryCopy};
 use std::alloc::Global;
 
 /// A bind: a proc, and the events that it is called for.
-#[derive(Debug, Drop)]
+#[derive(Debug)]
 pub struct Bind {
     /// From 1, rising in the order in which binds are made. A number is never used again.
     pub number: u32,
@@ -16,6 +16,19 @@ pub struct Bind {
     pub mask: Text,
     /// The name of the proc.
     pub proc: Text,
+}
+
+// By hand, so that this is proved once, and not in each function in which one ends.
+impl Drop for Bind {
+    fn drop(self) {
+        let Bind {
+            number: _,
+            kind: _,
+            flags: _,
+            mask: _,
+            proc: _,
+        } = self;
+    }
 }
 
 impl TryCopy for Bind {

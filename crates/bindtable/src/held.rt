@@ -14,11 +14,21 @@ use std::alloc::Global;
 use std::marker::Model;
 use wildmask::Signature;
 
-#[derive(Drop)]
 pub(crate) struct Held {
     bind: Bind,
     flags: FlagExpr,
     matcher: Matcher,
+}
+
+// By hand, so that this is proved once, and not in each function in which one ends.
+impl Drop for Held {
+    fn drop(self) {
+        let Held {
+            bind: _,
+            flags: _,
+            matcher: _,
+        } = self;
+    }
 }
 
 impl Model for Held {

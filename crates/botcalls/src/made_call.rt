@@ -4,7 +4,7 @@ use procstore::{Call, Reply};
 use std::alloc::Global;
 
 /// A call that was made, and what it answered.
-#[derive(Debug, Drop)]
+#[derive(Debug)]
 pub struct MadeCall {
     /// The number of the bind that it was made for; 0 where a timer was due.
     pub bind: u32,
@@ -14,6 +14,18 @@ pub struct MadeCall {
     pub call: Call,
     /// What it answered.
     pub reply: Reply,
+}
+
+// By hand, so that this is proved once, and not in each function in which one ends.
+impl Drop for MadeCall {
+    fn drop(self) {
+        let MadeCall {
+            bind: _,
+            proc: _,
+            call: _,
+            reply: _,
+        } = self;
+    }
 }
 
 /// The calls that were made, in order.
@@ -34,12 +46,19 @@ impl TryCopy for MadeCall {
 }
 
 /// A bind or a due timer that calls, whose proc is not in the store.
-#[derive(Debug, Drop)]
+#[derive(Debug)]
 pub struct Unbound {
     /// The number of the bind; 0 where a timer was due.
     pub bind: u32,
     /// The name of the proc.
     pub proc: Text,
+}
+
+// By hand, so that this is proved once, and not in each function in which one ends.
+impl Drop for Unbound {
+    fn drop(self) {
+        let Unbound { bind: _, proc: _ } = self;
+    }
 }
 
 impl TryCopy for Unbound {

@@ -14,7 +14,7 @@ use rfccase::is_channel_name;
 use std::alloc::Global;
 
 /// What a bot is told before it is made.
-#[derive(Debug, Drop)]
+#[derive(Debug)]
 pub struct Config {
     /// Its number among the bots: 0 is the hub, and the leaves are 1 to `leaves`.
     pub number: u16,
@@ -28,6 +28,20 @@ pub struct Config {
     pub exclusive: bool,
     /// How far its clock is ahead of UTC.
     pub zone: Zone,
+}
+
+// By hand, so that this is proved once, and not in each function in which one ends.
+impl Drop for Config {
+    fn drop(self) {
+        let Config {
+            number: _,
+            leaves: _,
+            nick: _,
+            channels: _,
+            exclusive: _,
+            zone: _,
+        } = self;
+    }
 }
 
 impl Config {

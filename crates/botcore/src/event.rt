@@ -49,7 +49,6 @@ impl TryCopy for Event {
 }
 
 /// A bind that is asked for. See [`BindTable::bind`](bindtable::BindTable::bind) for what each field may be.
-#[derive(Drop)]
 pub struct NewBind {
     /// The kind of event.
     pub kind: BindKind,
@@ -59,6 +58,18 @@ pub struct NewBind {
     pub mask: Text,
     /// The name of the proc.
     pub proc: Text,
+}
+
+// By hand, so that this is proved once, and not in each function in which one ends.
+impl Drop for NewBind {
+    fn drop(self) {
+        let NewBind {
+            kind: _,
+            flags: _,
+            mask: _,
+            proc: _,
+        } = self;
+    }
 }
 
 impl TryCopy for NewBind {
@@ -76,7 +87,6 @@ impl TryCopy for NewBind {
 }
 
 /// The bind that is to go: the one of this kind, of this mask by casemapping and of this proc byte for byte.
-#[derive(Drop)]
 pub struct OldBind {
     /// The kind of event.
     pub kind: BindKind,
@@ -84,6 +94,17 @@ pub struct OldBind {
     pub mask: Text,
     /// The name of the proc.
     pub proc: Text,
+}
+
+// By hand, so that this is proved once, and not in each function in which one ends.
+impl Drop for OldBind {
+    fn drop(self) {
+        let OldBind {
+            kind: _,
+            mask: _,
+            proc: _,
+        } = self;
+    }
 }
 
 impl TryCopy for OldBind {

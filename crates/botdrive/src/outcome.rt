@@ -4,7 +4,6 @@ use botcore::{Faults, Note};
 use bytetext::Seq;
 
 /// What came of a step, beside what it has to send.
-#[derive(Drop)]
 pub struct Outcome {
     /// Of a line that is no message, which rule it breaks. A message and a reading of the clock have none.
     pub note: Option<Note>,
@@ -12,6 +11,17 @@ pub struct Outcome {
     pub calls: MadeCalls,
     /// What was left out or refused, in the order of [`Report`](botcore::Report).
     pub faults: Faults,
+}
+
+// By hand, so that this is proved once, and not in each function in which one ends.
+impl Drop for Outcome {
+    fn drop(self) {
+        let Outcome {
+            note: _,
+            calls: _,
+            faults: _,
+        } = self;
+    }
 }
 
 impl Outcome {

@@ -5,7 +5,7 @@ use std::alloc::Global;
 
 /// How a timer stands, as Eggdrop's `timers` and `utimers` show it: what is left until it is due, and how often it will
 /// be.
-#[derive(Debug, Drop)]
+#[derive(Debug)]
 pub struct TimerStatus {
     /// What `left` counts.
     pub kind: TimerKind,
@@ -19,6 +19,20 @@ pub struct TimerStatus {
     pub id: u32,
     /// How many occurrences are to come, or 0 for ever.
     pub repeats: u32,
+}
+
+// By hand, so that this is proved once, and not in each function in which one ends.
+impl Drop for TimerStatus {
+    fn drop(self) {
+        let TimerStatus {
+            kind: _,
+            left: _,
+            proc: _,
+            text: _,
+            id: _,
+            repeats: _,
+        } = self;
+    }
 }
 
 impl TryCopy for TimerStatus {

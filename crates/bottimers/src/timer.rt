@@ -28,7 +28,7 @@ impl TimerKind {
 }
 
 /// A timer as it was made. It is due `interval` units after `made`, then every `interval` units, `count` times in all.
-#[derive(Debug, Drop)]
+#[derive(Debug)]
 pub struct Timer {
     /// Its number among the timers of one [`Timers`](crate::Timers), from 1 on.
     pub id: u32,
@@ -44,6 +44,21 @@ pub struct Timer {
     pub proc: Text,
     /// The argument of its calls.
     pub text: Text,
+}
+
+// By hand, so that this is proved once, and not in each function in which one ends.
+impl Drop for Timer {
+    fn drop(self) {
+        let Timer {
+            id: _,
+            kind: _,
+            made: _,
+            interval: _,
+            count: _,
+            proc: _,
+            text: _,
+        } = self;
+    }
 }
 
 impl Timer {

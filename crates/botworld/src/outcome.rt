@@ -99,12 +99,21 @@ impl TryCopy for Outcome {
 pub type Outcomes = Seq<Outcome>;
 
 /// What came of a list of steps.
-#[derive(Drop)]
 pub struct Transcript {
     /// An outcome for each step that was made.
     pub outcomes: Outcomes,
     /// Whether the run stopped early, since room for the next step was refused. The steps before it stand.
     pub cut: bool,
+}
+
+// By hand, so that this is proved once, and not in each function in which one ends.
+impl Drop for Transcript {
+    fn drop(self) {
+        let Transcript {
+            outcomes: _,
+            cut: _,
+        } = self;
+    }
 }
 
 impl TryCopy for Transcript {

@@ -27,13 +27,24 @@ pub struct Disks<D: Disk> {
 }
 
 /// What the disk that doesn't count holds where its gate stands open too: a base and entries of an earlier generation.
-#[derive(Drop)]
 pub struct Older {
     /// The layout by which its base and entries are spelled.
     pub layout: u8,
     pub generation: u32,
     pub base: Text,
     pub entries: Texts,
+}
+
+// By hand, so that this is proved once, and not in each function in which one ends.
+impl Drop for Older {
+    fn drop(self) {
+        let Older {
+            layout: _,
+            generation: _,
+            base: _,
+            entries: _,
+        } = self;
+    }
 }
 
 /// A journal that was opened, and what it holds.

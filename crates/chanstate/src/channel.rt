@@ -10,11 +10,22 @@ use bytetext::{NoMemory, Text, TryCopy};
 use std::alloc::Global;
 
 /// A channel that the bot is on.
-#[derive(Debug, Drop)]
+#[derive(Debug)]
 pub struct Channel {
     pub(crate) name: Text,
     pub(crate) topic: Text,
     pub(crate) members: Roster,
+}
+
+// By hand, so that this is proved once, and not in each function in which one ends.
+impl Drop for Channel {
+    fn drop(self) {
+        let Channel {
+            name: _,
+            topic: _,
+            members: _,
+        } = self;
+    }
 }
 
 impl Channel {

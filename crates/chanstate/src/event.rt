@@ -38,7 +38,7 @@ pub enum Kind {
 }
 
 /// An event of a message.
-#[derive(Debug, Drop)]
+#[derive(Debug)]
 pub struct Event {
     /// Its kind.
     pub kind: Kind,
@@ -49,6 +49,18 @@ pub struct Event {
     /// What a proc is given. In all kinds but `Raw` these begin with nick and `user@host`, and the person's handle, which
     /// isn't among them, would follow. Where a server acts, the nick is empty, and its name stands for `user@host`.
     pub arguments: Texts,
+}
+
+// By hand, so that this is proved once, and not in each function in which one ends.
+impl Drop for Event {
+    fn drop(self) {
+        let Event {
+            kind: _,
+            subject: _,
+            channel: _,
+            arguments: _,
+        } = self;
+    }
 }
 
 impl Event {

@@ -27,11 +27,21 @@ use storage::{Disk, DiskFault};
 ///
 /// After a fault of the file each read, write and sync refuses, also after `reopen`: what a failed write left in the
 /// file is known to a new program alone, which reads it.
-#[derive(Drop)]
 pub struct FileDisk {
     file: ToldFile,
     mirror: MemDisk,
     broken: bool,
+}
+
+// By hand, so that this is proved once, and not in each function in which one ends.
+impl Drop for FileDisk {
+    fn drop(self) {
+        let FileDisk {
+            file: _,
+            mirror: _,
+            broken: _,
+        } = self;
+    }
 }
 
 impl Model for FileDisk {

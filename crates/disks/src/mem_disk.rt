@@ -16,7 +16,6 @@ use std::mem;
 use storage::{Disk, DiskFault, History};
 
 /// A disk in memory. It fails where that is planned, and a crash leaves what is planned of the writes that weren't kept.
-#[derive(Drop)]
 pub struct MemDisk {
     /// What a read gives.
     content: Vec<u8>,
@@ -31,6 +30,22 @@ pub struct MemDisk {
     reads: Option<u64>,
     failures: u64,
     history: History,
+}
+
+// By hand, so that this is proved once, and not in each function in which one ends.
+impl Drop for MemDisk {
+    fn drop(self) {
+        let MemDisk {
+            content: _,
+            torn: _,
+            same: _,
+            tear: _,
+            works: _,
+            reads: _,
+            failures: _,
+            history: _,
+        } = self;
+    }
 }
 
 impl Model for MemDisk {

@@ -20,7 +20,6 @@ const FIRST_OWN: i32 = 3;
 ///
 /// The calls of the system stand here alone. A clause says what the system answered; that a file holds what was written
 /// to it, and keeps what was brought to its device, is assumed.
-#[derive(Drop)]
 pub(crate) struct ToldFile {
     file: File,
     /// What was found in it, for contracts alone.
@@ -29,6 +28,18 @@ pub(crate) struct ToldFile {
     written: History,
     /// Whether a sync came after the last write.
     kept: bool,
+}
+
+// By hand, so that this is proved once, and not in each function in which one ends.
+impl Drop for ToldFile {
+    fn drop(self) {
+        let ToldFile {
+            file: _,
+            found: _,
+            written: _,
+            kept: _,
+        } = self;
+    }
 }
 
 impl Model for ToldFile {

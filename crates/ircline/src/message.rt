@@ -3,7 +3,7 @@ use bytetext::{NoMemory, Text, Texts, TryCopy};
 use std::alloc::Global;
 
 /// A message (RFC 2812 section 2.3.1), as it was read or is to be printed.
-#[derive(Debug, Drop)]
+#[derive(Debug)]
 pub struct Message {
     /// Who sent it, as written, without the colon before it: empty where the line has none.
     /// [`crate::source`] splits it.
@@ -14,6 +14,18 @@ pub struct Message {
     pub params: Texts,
     /// The line after the command and the spaces that follow it, as written.
     pub rest: Text,
+}
+
+// By hand, so that this is proved once, and not in each function in which one ends.
+impl Drop for Message {
+    fn drop(self) {
+        let Message {
+            prefix: _,
+            command: _,
+            params: _,
+            rest: _,
+        } = self;
+    }
 }
 
 impl TryCopy for Message {

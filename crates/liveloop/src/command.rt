@@ -37,7 +37,6 @@ pub enum Command {
 }
 
 /// What a guest says, and to whom.
-#[derive(Drop)]
 pub struct Speech {
     /// The guest's nick.
     pub nick: Text,
@@ -45,6 +44,17 @@ pub struct Speech {
     pub target: Text,
     /// What is said.
     pub text: Text,
+}
+
+// By hand, so that this is proved once, and not in each function in which one ends.
+impl Drop for Speech {
+    fn drop(self) {
+        let Speech {
+            nick: _,
+            target: _,
+            text: _,
+        } = self;
+    }
 }
 
 /// Commands, in order.

@@ -26,7 +26,7 @@ impl TryCopy for Member {
 }
 
 /// A channel that somebody is on.
-#[derive(Debug, Drop)]
+#[derive(Debug)]
 pub struct Channel {
     /// The name, as the first member spelled it.
     pub name: Text,
@@ -36,6 +36,18 @@ pub struct Channel {
     pub members: Seq<Member>,
     /// The bans, hostmasks of those who may not join, in the order in which they were set.
     pub bans: Seq<Mask>,
+}
+
+// By hand, so that this is proved once, and not in each function in which one ends.
+impl Drop for Channel {
+    fn drop(self) {
+        let Channel {
+            name: _,
+            topic: _,
+            members: _,
+            bans: _,
+        } = self;
+    }
 }
 
 impl TryCopy for Channel {

@@ -46,12 +46,23 @@ pub struct Counts {
 /// queues.put_reserved(Queue::Server, join)        // takes none
 /// queues.put_reserved(Queue::Server, part)        // takes none
 /// ```
-#[derive(Drop)]
 pub struct Queues {
     mode: Lane,
     server: Lane,
     help: Lane,
     timer: u64,
+}
+
+// By hand, so that this is proved once, and not in each function in which one ends.
+impl Drop for Queues {
+    fn drop(self) {
+        let Queues {
+            mode: _,
+            server: _,
+            help: _,
+            timer: _,
+        } = self;
+    }
 }
 
 impl Model for Queues {

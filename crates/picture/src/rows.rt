@@ -25,7 +25,6 @@ const LABEL_STYLE: &[u8] = b"class=\"label\"";
 const COUNT_STYLE: &[u8] = b"class=\"count\"";
 
 /// What is drawn so far, but for the bots' own lines.
-#[derive(Drop)]
 pub struct Sheet {
     /// The arrows, which lie under the rest.
     pub arrows: Canvas,
@@ -37,6 +36,19 @@ pub struct Sheet {
     pub y: u32,
     /// How many rows there are.
     pub rows: u32,
+}
+
+// By hand, so that this is proved once, and not in each function in which one ends.
+impl Drop for Sheet {
+    fn drop(self) {
+        let Sheet {
+            arrows: _,
+            marks: _,
+            flights: _,
+            y: _,
+            rows: _,
+        } = self;
+    }
 }
 
 impl Sheet {

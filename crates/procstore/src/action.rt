@@ -35,7 +35,7 @@ impl TryCopy for Action {
 }
 
 /// A timer or utimer that is asked for. It counts from the last second that the bot's clock has seen.
-#[derive(Debug, Drop)]
+#[derive(Debug)]
 pub struct TimerWish {
     /// Minutes, or seconds of a utimer, from one call to the next.
     pub interval: u32,
@@ -45,6 +45,18 @@ pub struct TimerWish {
     pub proc: Text,
     /// The argument of its calls.
     pub text: Text,
+}
+
+// By hand, so that this is proved once, and not in each function in which one ends.
+impl Drop for TimerWish {
+    fn drop(self) {
+        let TimerWish {
+            interval: _,
+            count: _,
+            proc: _,
+            text: _,
+        } = self;
+    }
 }
 
 impl TryCopy for TimerWish {
@@ -61,12 +73,19 @@ impl TryCopy for TimerWish {
 }
 
 /// Which timer is meant: one that calls this proc with this text.
-#[derive(Debug, Drop)]
+#[derive(Debug)]
 pub struct TimerName {
     /// The name of the proc that it calls.
     pub proc: Text,
     /// The argument of its calls.
     pub text: Text,
+}
+
+// By hand, so that this is proved once, and not in each function in which one ends.
+impl Drop for TimerName {
+    fn drop(self) {
+        let TimerName { proc: _, text: _ } = self;
+    }
 }
 
 impl TryCopy for TimerName {

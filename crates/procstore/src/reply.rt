@@ -15,12 +15,22 @@ pub enum Code {
 }
 
 /// What a proc answers.
-#[derive(Debug, Drop)]
+#[derive(Debug)]
 pub struct Reply {
     /// The code.
     pub code: Code,
     /// What the proc asks its bot to do, in order.
     pub actions: Actions,
+}
+
+// By hand, so that this is proved once, and not in each function in which one ends.
+impl Drop for Reply {
+    fn drop(self) {
+        let Reply {
+            code: _,
+            actions: _,
+        } = self;
+    }
 }
 
 impl TryCopy for Reply {

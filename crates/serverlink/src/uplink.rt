@@ -22,7 +22,6 @@ const TOKEN: usize = 1;
 const LONGEST_WAIT: u16 = 300;
 
 /// The connection to a server, if there is one, and what is kept over all of them.
-#[derive(Drop)]
 pub struct Uplink {
     pub(crate) session: Option<Session>,
     pub(crate) dialling: Dialling,
@@ -30,6 +29,18 @@ pub struct Uplink {
     pub channels: Channels,
     /// The lines of the process's own that wait. They are forgotten where the server is lost.
     pub own: OwnLines,
+}
+
+// By hand, so that this is proved once, and not in each function in which one ends.
+impl Drop for Uplink {
+    fn drop(self) {
+        let Uplink {
+            session: _,
+            dialling: _,
+            channels: _,
+            own: _,
+        } = self;
+    }
 }
 
 impl Uplink {

@@ -1,17 +1,18 @@
 // What the lines so far say.
-ghost use Rattle.std.specs.Prelude.{◌≡◌, OnOk};
-ghost use Rattle.settings.specs.Drafts.{added, no_line, once, refusal_of};
+ghost use Rattle.std.specs.Prelude.{◌≡◌, None};
+ghost use Rattle.settings.specs.Drafts.{no_line, once, refusal_of};
+ghost use Rattle.settings.specs.Reading.{lack_of, settings_of};
 
 use crate::advice::Advice;
+use crate::reading::{ALONE, utc};
 use crate::saying::Saying;
-use crate::settings::{Account, Address, BindLine, BindLines, Servers, Station};
+use crate::settings::{Account, Address, BindLines, Servers, Settings, Station};
 use crate::word::Word;
 use bottimers::Zone;
 use bytetext::{NoMemory, Text, Texts};
 use std::alloc::Global;
 
 /// What the lines so far say; `None` and `false` where there is no such line.
-#[derive(Drop)]
 pub struct Draft {
     /// The bot's own folder.
     pub folder: Option<Text>,
@@ -41,6 +42,28 @@ pub struct Draft {
     pub performs: Texts,
     /// The binds, in order.
     pub binds: BindLines,
+}
+
+// By hand, so that this is proved once, and not in each function in which one ends.
+impl Drop for Draft {
+    fn drop(self) {
+        let Draft {
+            folder: _,
+            station: _,
+            nick: _,
+            channels: _,
+            servers: _,
+            hub: _,
+            listen: _,
+            secret: _,
+            account: _,
+            zone: _,
+            exclusive: _,
+            log_lines: _,
+            performs: _,
+            binds: _,
+        } = self;
+    }
 }
 
 impl Draft {
@@ -90,28 +113,43 @@ impl Draft {
         }
     }
 
-    /// Adds what the line of this number says.
-    pub fn add(&mut self, line: u64, saying: Saying) -> Result<(), NoMemory>
-        ensures { OnOk result (self.new ≡ added line self.old saying) }
+    /// The settings of lines that lack nothing.
+    pub fn into_settings(self) -> Settings
+        requires { lack_of self ≡ None }
+        ensures { result ≡ settings_of self }
     {
-        match saying {
-            Saying::Nothing | Saying::Wrong(_) => {}
-            Saying::Account(account) => self.account = Some(account),
-            Saying::Bind(words) => self.binds.push(BindLine { line, words })?,
-            Saying::Bot(station) => self.station = Some(station),
-            Saying::Channel(name) => self.channels.push(name)?,
-            Saying::Data(folder) => self.folder = Some(folder),
-            Saying::Exclusive => self.exclusive = true,
-            Saying::Hub(address) => self.hub = Some(address),
-            Saying::Listen(address) => self.listen = Some(address),
-            Saying::LogLines => self.log_lines = true,
-            Saying::Nick(nick) => self.nick = Some(nick),
-            Saying::Perform(text) => self.performs.push(text)?,
-            Saying::Secret(file) => self.secret = Some(file),
-            Saying::Server(server) => self.servers.push(server)?,
-            Saying::Zone(zone) => self.zone = Some(zone),
+        let Draft {
+            folder,
+            station,
+            nick,
+            channels,
+            servers,
+            hub,
+            listen,
+            secret,
+            account,
+            zone,
+            exclusive,
+            log_lines,
+            performs,
+            binds,
+        } = self;
+        Settings {
+            folder: folder.unwrap(),
+            station: station.unwrap_or(ALONE),
+            nick: nick.unwrap(),
+            channels,
+            servers,
+            hub,
+            listen,
+            secret,
+            account,
+            zone: zone.unwrap_or(utc()),
+            exclusive,
+            log_lines,
+            performs,
+            binds,
         }
-        Ok(())
     }
 }
 

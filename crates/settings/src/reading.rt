@@ -1,7 +1,7 @@
 // A whole file.
 ghost use Rattle.std.specs.Prelude.{◌≡◌, ◌==◌, None, map, IfOk};
 ghost use Rattle.std.specs.List.{slice_split};
-ghost use Rattle.settings.specs.Reading.{Answers, completed, lack_of, lines_read, role_lack, settings_of, utc};
+ghost use Rattle.settings.specs.Reading.{Answers, completed, lack_of, lines_read, role_lack, utc};
 
 use crate::MAX_FILE;
 use crate::draft::Draft;
@@ -13,7 +13,7 @@ use bytetext::{Failure, NoMemory};
 use std::alloc::{AllocError, Global};
 
 // A hub without leaves.
-const ALONE: Station = Station {
+pub(crate) const ALONE: Station = Station {
     number: 0,
     leaves: 0,
 };
@@ -60,7 +60,7 @@ fn draft_of(alloc: Global, lines: &[&[u8]]) -> Result<Draft, SettingsError>
         let saying = saying_of(alloc, bytes)?;
         match draft.refusal(&saying) {
             Some(advice) => return Err(Failure::Refused(SettingsFault::Line { line, advice })),
-            None => draft.add(line, saying)?,
+            None => saying.add_to(line, &mut draft)?,
         }
     }
     Ok(draft)
@@ -72,7 +72,7 @@ fn complete(draft: Draft) -> Result<Settings, SettingsError>
 {
     match lack_of(&draft) {
         Some(lack) => Err(Failure::Refused(SettingsFault::Lacks(lack))),
-        None => Ok(settings_of(draft)),
+        None => Ok(draft.into_settings()),
     }
 }
 
@@ -120,31 +120,8 @@ fn role_lack(station: Station, hub: bool, listen: bool, secret: bool) -> Option<
     None
 }
 
-// The settings of lines that lack nothing.
-fn settings_of(draft: Draft) -> Settings
-    requires { lack_of draft ≡ None }
-    ensures { result ≡ settings_of draft }
-{
-    Settings {
-        folder: draft.folder.unwrap(),
-        station: draft.station.unwrap_or(ALONE),
-        nick: draft.nick.unwrap(),
-        channels: draft.channels,
-        servers: draft.servers,
-        hub: draft.hub,
-        listen: draft.listen,
-        secret: draft.secret,
-        account: draft.account,
-        zone: draft.zone.unwrap_or(utc()),
-        exclusive: draft.exclusive,
-        log_lines: draft.log_lines,
-        performs: draft.performs,
-        binds: draft.binds,
-    }
-}
-
 // A clock that shows UTC.
-fn utc() -> Zone
+pub(crate) fn utc() -> Zone
     ensures { result ≡ utc }
 {
     Zone::fixed(0).unwrap()

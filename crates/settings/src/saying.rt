@@ -7,9 +7,10 @@ ghost use Rattle.settings.specs.Grammar.{pass_of, perform_said, said_of, saying_
 
 use crate::advice::Advice;
 use crate::cutting::{after_spaces, cut_word};
+use crate::draft::Draft;
 use crate::names::is_nick;
 use crate::numeral::{number, port};
-use crate::settings::{Account, Address, BindWords, Server, Station};
+use crate::settings::{Account, Address, BindLine, BindWords, Server, Station};
 use crate::word::Word;
 use crate::{MAX_LEAVES, MAX_LINE};
 use bottimers::Zone;
@@ -18,7 +19,6 @@ use rfccase::is_channel_name;
 use std::alloc::Global;
 
 /// What a line says by itself, whatever stands before it.
-#[derive(Drop)]
 pub enum Saying {
     /// Nothing: it is empty or begins with `#`.
     Nothing,
@@ -52,6 +52,59 @@ pub enum Saying {
     Server(Server),
     /// How far its clock is ahead of UTC at each moment.
     Zone(Zone),
+}
+
+// By hand, so that this is proved once, and not in each function in which one ends.
+impl Drop for Saying {
+    fn drop(self) {
+        match self {
+            Saying::Nothing
+            | Saying::Wrong(_)
+            | Saying::Account(_)
+            | Saying::Bind(_)
+            | Saying::Bot(_)
+            | Saying::Channel(_)
+            | Saying::Data(_)
+            | Saying::Exclusive
+            | Saying::Hub(_)
+            | Saying::Listen(_)
+            | Saying::LogLines
+            | Saying::Nick(_)
+            | Saying::Perform(_)
+            | Saying::Secret(_)
+            | Saying::Server(_)
+            | Saying::Zone(_) => {}
+        }
+    }
+}
+
+impl Saying {
+    ghost use Rattle.std.specs.Prelude.{◌≡◌, OnOk};
+    ghost use Rattle.settings.specs.Drafts.{added};
+
+    /// Adds to a draft what the line of this number says.
+    pub fn add_to(self, line: u64, draft: &mut Draft) -> Result<(), NoMemory>
+        ensures { OnOk result (draft.new ≡ added line draft.old self) }
+    {
+        match self {
+            Saying::Nothing | Saying::Wrong(_) => {}
+            Saying::Account(account) => draft.account = Some(account),
+            Saying::Bind(words) => draft.binds.push(BindLine { line, words })?,
+            Saying::Bot(station) => draft.station = Some(station),
+            Saying::Channel(name) => draft.channels.push(name)?,
+            Saying::Data(folder) => draft.folder = Some(folder),
+            Saying::Exclusive => draft.exclusive = true,
+            Saying::Hub(address) => draft.hub = Some(address),
+            Saying::Listen(address) => draft.listen = Some(address),
+            Saying::LogLines => draft.log_lines = true,
+            Saying::Nick(nick) => draft.nick = Some(nick),
+            Saying::Perform(text) => draft.performs.push(text)?,
+            Saying::Secret(file) => draft.secret = Some(file),
+            Saying::Server(server) => draft.servers.push(server)?,
+            Saying::Zone(zone) => draft.zone = Some(zone),
+        }
+        Ok(())
+    }
 }
 
 /// What a line says.

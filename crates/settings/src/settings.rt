@@ -3,7 +3,7 @@ use bottimers::Zone;
 use bytetext::{Seq, Text, Texts};
 
 /// What a configuration file says.
-#[derive(Debug, Drop)]
+#[derive(Debug)]
 pub struct Settings {
     /// The bot's own folder.
     pub folder: Text,
@@ -35,6 +35,28 @@ pub struct Settings {
     pub binds: BindLines,
 }
 
+// By hand, so that this is proved once, and not in each function in which one ends.
+impl Drop for Settings {
+    fn drop(self) {
+        let Settings {
+            folder: _,
+            station: _,
+            nick: _,
+            channels: _,
+            servers: _,
+            hub: _,
+            listen: _,
+            secret: _,
+            account: _,
+            zone: _,
+            exclusive: _,
+            log_lines: _,
+            performs: _,
+            binds: _,
+        } = self;
+    }
+}
+
 /// A bot's number among all, and how many leaves there are.
 #[derive(Clone, Copy, Debug, PartialEq, Eq)]
 pub struct Station {
@@ -45,7 +67,7 @@ pub struct Station {
 }
 
 /// A host and a port.
-#[derive(Debug, Drop)]
+#[derive(Debug)]
 pub struct Address {
     /// A name or an address, one word.
     pub host: Text,
@@ -53,8 +75,15 @@ pub struct Address {
     pub port: u16,
 }
 
+// By hand, so that this is proved once, and not in each function in which one ends.
+impl Drop for Address {
+    fn drop(self) {
+        let Address { host: _, port: _ } = self;
+    }
+}
+
 /// A server to try.
-#[derive(Debug, Drop)]
+#[derive(Debug)]
 pub struct Server {
     /// Where it is.
     pub address: Address,
@@ -62,16 +91,33 @@ pub struct Server {
     pub pass: Option<Text>,
 }
 
+// By hand, so that this is proved once, and not in each function in which one ends.
+impl Drop for Server {
+    fn drop(self) {
+        let Server {
+            address: _,
+            pass: _,
+        } = self;
+    }
+}
+
 /// Servers, in order.
 pub type Servers = Seq<Server>;
 
 /// Whom a bot authenticates as.
-#[derive(Debug, Drop)]
+#[derive(Debug)]
 pub struct Account {
     /// The account's name.
     pub name: Text,
     /// The file of its password.
     pub file: Text,
+}
+
+// By hand, so that this is proved once, and not in each function in which one ends.
+impl Drop for Account {
+    fn drop(self) {
+        let Account { name: _, file: _ } = self;
+    }
 }
 
 /// The words of a bind. None is empty; whether there is such a kind, and whether flags and mask are of a good shape, is
@@ -89,12 +135,19 @@ pub struct BindWords {
 }
 
 /// A bind, and the line that has it.
-#[derive(Debug, Drop)]
+#[derive(Debug)]
 pub struct BindLine {
     /// The line's number, from 1.
     pub line: u64,
     /// The bind's words.
     pub words: BindWords,
+}
+
+// By hand, so that this is proved once, and not in each function in which one ends.
+impl Drop for BindLine {
+    fn drop(self) {
+        let BindLine { line: _, words: _ } = self;
+    }
 }
 
 /// Binds, in order.

@@ -44,12 +44,18 @@ pub enum TurnEnd {
 }
 
 /// What a turn tells.
-#[derive(Drop)]
 pub struct Told {
     /// How it ended.
     pub end: TurnEnd,
     /// What its steps report, in order.
     pub reports: Seq<Report>,
+}
+
+// By hand, so that this is proved once, and not in each function in which one ends.
+impl Drop for Told {
+    fn drop(self) {
+        let Told { end: _, reports: _ } = self;
+    }
 }
 
 /// Makes the steps of a turn, in this order: a connection that began, each line that its bytes end, the reading, each

@@ -13,4 +13,3 @@ pub mod OldLaws
 pub mod TagLaws
 pub mod ReaderLaws
 pub mod RecordLengths
-mod WriterLaws

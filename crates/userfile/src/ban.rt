@@ -7,7 +7,7 @@ use bytetext::{NoMemory, Text, TryCopy};
 use std::alloc::Global;
 
 /// A ban of the persons whom a hostmask matches, on one channel or on all.
-#[derive(Debug, Drop)]
+#[derive(Debug)]
 pub struct Ban {
     /// The channel as it was given; the empty text for a ban of all channels.
     pub channel: Text,
@@ -21,6 +21,20 @@ pub struct Ban {
     pub comment: Text,
     /// Whether the ban is sticky: it is to come back where somebody takes it off a channel. No ban is at first.
     pub sticky: bool,
+}
+
+// By hand, so that this is proved once, and not in each function in which one ends.
+impl Drop for Ban {
+    fn drop(self) {
+        let Ban {
+            channel: _,
+            mask: _,
+            creator: _,
+            expires: _,
+            comment: _,
+            sticky: _,
+        } = self;
+    }
 }
 
 impl Ban {

@@ -8,7 +8,7 @@ use flagexpr::Flags;
 use std::alloc::Global;
 
 /// A user of the userfile.
-#[derive(Debug, Drop)]
+#[derive(Debug)]
 pub struct User {
     /// The handle as it was given.
     pub handle: Text,
@@ -22,6 +22,20 @@ pub struct User {
     pub bot: Flags,
     /// What the user or others say of the user: 0 to 80 bytes on one line, none at first.
     pub info: Text,
+}
+
+// By hand, so that this is proved once, and not in each function in which one ends.
+impl Drop for User {
+    fn drop(self) {
+        let User {
+            handle: _,
+            masks: _,
+            global: _,
+            channels: _,
+            bot: _,
+            info: _,
+        } = self;
+    }
 }
 
 impl User {
