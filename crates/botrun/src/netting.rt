@@ -164,10 +164,13 @@ pub(crate) fn count_out<P: Promise, B: Run>(
 pub(crate) fn requests_in(packets: &[Outgoing]) -> usize
     ensures { result ≡ count_by is_request packets.now }
 {
-    packets
-        .iter()
-        .filter(|outgoing| is_request(outgoing))
-        .count()
+    let mut count = 0;
+    for outgoing in packets {
+        if is_request(outgoing) {
+            count += 1;
+        }
+    }
+    count
 }
 
 fn is_request(outgoing: &Outgoing) -> bool
