@@ -1,5 +1,5 @@
 // The hub's connections to its leaves.
-ghost use Rattle.std.specs.Prelude.{◌<◌, IfOk, IfSome, length};
+ghost use Rattle.std.specs.Prelude.{◌<◌, IfOk, IfSome, OnErr, length, vec_len};
 ghost use Rattle.std.specs.List.{AllByRecursion};
 ghost use Rattle.linkcalls.specs.Shapes.{HasGoodRecords};
 
@@ -232,9 +232,10 @@ impl HubLinks {
     /// Leaves a packet for a leaf. Where it is not linked, the packet is lost.
     ///
     /// # Errors
-    /// `NoMemory` where a growth is refused.
+    /// `NoMemory` where a growth is refused: never for a number that no seat has.
     pub fn tell(&mut self, alloc: Global, leaf: u16, packet: &Packet) -> Result<(), NoMemory>
         requires good { HasGoodRecords packet.now }
+        ensures memory { OnErr result (leaf < vec_len self.old.seats) }
     {
         match self.seats.get_mut(usize::from(leaf)) {
             Some(Some(seat)) => seat.tell(alloc, packet),

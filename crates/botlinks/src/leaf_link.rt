@@ -1,5 +1,5 @@
 // A leaf's connection to its hub.
-ghost use Rattle.std.specs.Prelude.{◌<◌, IfOk};
+ghost use Rattle.std.specs.Prelude.{◌≢◌, ◌<◌, None, IfOk, IfErr, OnErr};
 ghost use Rattle.std.specs.List.{AllByRecursion};
 ghost use Rattle.bytetext.specs.declared.moment.TheConstants.{MOMENTS_END};
 ghost use Rattle.linkcalls.specs.Shapes.{HasGoodRecords};
@@ -85,20 +85,17 @@ impl LeafLink {
     }
 
     /// Begins to connect where there is no connection and a try is due at this second. Whether a connection began.
-    ///
-    /// # Errors
-    /// `NoMemory` where a growth is refused.
     pub fn connect<R: AllocGlobal + Net + Print + RandomSource>(
         &mut self,
         rt: &R,
         registry: &Registry,
         address: &Address,
         now: u64,
-    ) -> Result<bool, NoMemory>
+    ) -> bool
         requires moment { now < MOMENTS_END }
     {
         if self.hub.is_some() || !self.dialling.is_due(now) {
-            return Ok(false);
+            return false;
         }
         let host = address.host.as_bytes();
         match self
@@ -107,7 +104,7 @@ impl LeafLink {
         {
             Ok(dialled) => {
                 log(rt, now, &Entry::Dialled(host, dialled.address));
-                Ok(self.begin(rt, dialled, now))
+                self.begin(rt, dialled, now)
             }
             Err(fault) => {
                 self.dialling.lost(now);
@@ -116,7 +113,7 @@ impl LeafLink {
                     now,
                     &Entry::NotDialled(host, fault, self.dialling.due()),
                 );
-                Ok(false)
+                false
             }
         }
     }
@@ -139,8 +136,10 @@ impl LeafLink {
     /// Hears the hub. Whether there may be more at once.
     ///
     /// # Errors
-    /// `NoMemory` where a growth is refused.
-    pub fn read<R: AllocGlobal + Print>(&mut self, rt: &R, now: u64) -> Result<bool, NoMemory> {
+    /// `NoMemory` where a growth is refused: never without a connection.
+    pub fn read<R: AllocGlobal + Print>(&mut self, rt: &R, now: u64) -> Result<bool, NoMemory>
+        ensures memory { IfErr result (λ _. self.old.hub ≢ None) }
+    {
         let net = self.net;
         let Some(hub) = &mut self.hub else {
             return Ok(false);
@@ -250,9 +249,10 @@ impl LeafLink {
     /// Leaves a packet for the hub. Where it is not linked, the packet is lost. A hello is noted.
     ///
     /// # Errors
-    /// `NoMemory` where a growth is refused.
+    /// `NoMemory` where a growth is refused: never without a connection.
     pub fn tell(&mut self, alloc: Global, packet: &Packet, now: u64) -> Result<(), NoMemory>
         requires good { HasGoodRecords packet.now }
+        ensures memory { OnErr result (self.old.hub ≢ None) }
     {
         if let Packet::Hello { version, .. } = packet {
             self.pumps.say(*version, now);

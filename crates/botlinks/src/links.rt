@@ -1,5 +1,5 @@
 // A bot's connections to the others of its net.
-ghost use Rattle.std.specs.Prelude.{◌≡◌, ◌≢◌, ◌<◌, IfOk, IfErr, option_map};
+ghost use Rattle.std.specs.Prelude.{◌≡◌, ◌≢◌, ◌<◌, IfOk, IfErr, OnErr, option_map};
 ghost use Rattle.std.specs.List.{AllByRecursion};
 ghost use Rattle.bytetext.specs.declared.moment.TheConstants.{MOMENTS_END};
 ghost use Rattle.botlinks.specs.Hellos.{asked, noted, pumps_of};
@@ -65,7 +65,7 @@ impl Links {
     /// Lets in who waits, or connects what is lost and due. Whether a connection to the hub began.
     ///
     /// # Errors
-    /// `NoMemory` where a growth is refused.
+    /// `NoMemory` where a growth is refused: never for a bot that is alone.
     pub fn connect<R: AllocGlobal + Net + Print + RandomSource>(
         &mut self,
         rt: &R,
@@ -74,6 +74,7 @@ impl Links {
         now: u64,
     ) -> Result<bool, NoMemory>
         requires moment { now < MOMENTS_END }
+        ensures memory { IfErr result (λ _. self.old ≢ Alone) }
     {
         match self {
             Links::Alone => Ok(false),
@@ -82,7 +83,7 @@ impl Links {
                 Ok(false)
             }
             Links::Leaf(leaf) => match &settings.hub {
-                Some(address) => leaf.connect(rt, registry, address, now),
+                Some(address) => Ok(leaf.connect(rt, registry, address, now)),
                 None => Ok(false),
             },
         }
@@ -91,8 +92,10 @@ impl Links {
     /// Hears each. Whether there may be more at once.
     ///
     /// # Errors
-    /// `NoMemory` where a growth is refused.
-    pub fn read<R: AllocGlobal + Print>(&mut self, rt: &R, now: u64) -> Result<bool, NoMemory> {
+    /// `NoMemory` where a growth is refused: never for a bot that is alone.
+    pub fn read<R: AllocGlobal + Print>(&mut self, rt: &R, now: u64) -> Result<bool, NoMemory>
+        ensures memory { IfErr result (λ _. self.old ≢ Alone) }
+    {
         match self {
             Links::Alone => Ok(false),
             Links::Hub(hub) => hub.read(rt, now),
@@ -134,9 +137,10 @@ impl Links {
     /// Leaves a packet for who is to have it. Where that one is not linked, the packet is lost.
     ///
     /// # Errors
-    /// `NoMemory` where a growth is refused.
+    /// `NoMemory` where a growth is refused: never for a bot that is alone.
     pub fn tell(&mut self, alloc: Global, outgoing: &Outgoing, now: u64) -> Result<(), NoMemory>
         requires good { HasGoodRecords outgoing.now.packet }
+        ensures memory { OnErr result (self.old ≢ Alone) }
     {
         match self {
             Links::Alone => Ok(()),

@@ -14,18 +14,22 @@ use settings::BindWords;
 use std::alloc::Global;
 
 impl Command {
-    ghost use Rattle.std.specs.Prelude.{◌<◌, length, Err};
+    ghost use Rattle.std.specs.Prelude.{◌≡◌, ◌<◌, ◌≤◌, true, length, Err};
+    ghost use Rattle.std.specs.List.{list_any};
     ghost use Rattle.bytetext.specs.declared.failure.Failure.TheVariants as failure;
-    ghost use Rattle.control.specs.declared.advice.Advice.TheVariants.{TooLong};
-    ghost use Rattle.control.specs.Reading.{Answers, command_of};
+    ghost use Rattle.control.specs.declared.advice.Advice.TheVariants.{BareByte, TooLong};
+    ghost use Rattle.control.specs.Reading.{Answers, command_of, is_bare};
 
     /// What a line asks for, without its line feed.
     ///
     /// # Errors
-    /// `Refused` with what to say instead; `NoMemory` where room is refused before that is seen, which is not for the length.
+    /// `Refused` with what to say instead; `NoMemory` where room is refused before that is seen, which is not for the
+    /// length, nor for a byte that no line may have.
     pub fn read(alloc: Global, line: &[u8]) -> Result<Command, CommandError>
         ensures reads { Answers (command_of line.now) result }
         ensures too_long { MAX_COMMAND < length line.now → result ≡ Err (failure.Refused TooLong) }
+        ensures bare_byte { length line.now ≤ MAX_COMMAND → list_any is_bare line.now ≡ true
+            → result ≡ Err (failure.Refused BareByte) }
     {
         if line.len() > MAX_COMMAND {
             return Err(Failure::Refused(Advice::TooLong));

@@ -1,5 +1,5 @@
 // Packets that wait for a turn.
-ghost use Rattle.std.specs.Prelude.{◌≡◌, ◌≤◌, ◌-◌, [], length, replicate, IfOk, vec_len, vec_capacity};
+ghost use Rattle.std.specs.Prelude.{◌≡◌, ◌<◌, ◌≤◌, ◌-◌, [], length, replicate, IfOk, IfErr, vec_len, vec_capacity};
 ghost use Rattle.std.specs.List.{AllByRecursion};
 ghost use Rattle.linkcalls.specs.Shapes.{HasGoodRecords};
 ghost use Rattle.inbox.specs.declared.queue.TheConstants.{MAX_PACKETS};
@@ -54,7 +54,7 @@ impl Model for Inbox {
 }
 
 impl Inbox {
-    ghost use Rattle.std.specs.Prelude.{◌≡◌, ◌≤◌, ◌<◌, [], length, replicate, IfOk, OnOk, OnErr, vec_len};
+    ghost use Rattle.std.specs.Prelude.{◌≡◌, ◌≤◌, ◌<◌, [], length, replicate, IfOk, IfErr, OnOk, OnErr, vec_len};
     ghost use Rattle.std.specs.List.{AllByRecursion};
     ghost use Rattle.linkcalls.specs.Shapes.{HasGoodRecords};
     ghost use Rattle.inbox.specs.declared.queue.TheConstants.{MAX_PACKETS};
@@ -63,9 +63,10 @@ impl Inbox {
     /// Nothing waits of any of so many streams.
     ///
     /// # Errors
-    /// `NoMemory` where room for the queues is refused.
+    /// `NoMemory` where room for the queues is refused: never where there are no streams.
     pub fn new(alloc: Global, streams: usize) -> Result<Inbox, NoMemory>
-        ensures { IfOk result (λ inbox. inbox ≡ record { queues = replicate streams []; first = 0 }) }
+        ensures empty { IfOk result (λ inbox. inbox ≡ record { queues = replicate streams []; first = 0 }) }
+        ensures memory { IfErr result (λ _. 0 < streams) }
     {
         Ok(Inbox {
             queues: empty_queues(alloc, streams)?,
@@ -94,12 +95,13 @@ impl Inbox {
     /// read are.
     ///
     /// # Errors
-    /// `NoMemory` where room for them is refused; then none of them is put.
+    /// `NoMemory` where room for them is refused: never where there are none. Then none of them is put.
     pub fn put(&mut self, stream: usize, packets: Vec<Packet>) -> Result<(), NoMemory>
         requires within { stream < length self.old.queues }
         requires good { AllByRecursion HasGoodRecords packets.items }
         ensures ok { OnOk result (self.new ≡ with_more stream packets.items self.old) }
         ensures err { OnErr result (self.new ≡ self.old) }
+        ensures memory { OnErr result (0 < vec_len packets) }
     {
         self.queues[stream].put(packets)
     }
@@ -136,7 +138,8 @@ impl Inbox {
 
 // So many queues in which nothing waits.
 fn empty_queues(alloc: Global, streams: usize) -> Result<Vec<Queue>, NoMemory>
-    ensures { IfOk result (λ queues. queues.items ≡ replicate streams []) }
+    ensures queues { IfOk result (λ queues. queues.items ≡ replicate streams []) }
+    ensures memory { IfErr result (λ _. 0 < streams) }
 {
     let mut queues = Vec::with_capacity(alloc, streams)?;
     for _stream in 0..streams {

@@ -35,7 +35,7 @@ impl Model for Queue {
 }
 
 impl Queue {
-    ghost use Rattle.std.specs.Prelude.{◌≡◌, ◌≤◌, ◌++◌, [], length, take, drop, OnOk, OnErr, vec_len, vec_capacity};
+    ghost use Rattle.std.specs.Prelude.{◌≡◌, ◌<◌, ◌≤◌, ◌++◌, [], length, take, drop, OnOk, OnErr, vec_len, vec_capacity};
     ghost use Rattle.std.specs.List.{AllByRecursion};
     ghost use Rattle.linkcalls.specs.Shapes.{HasGoodRecords};
     ghost use Rattle.inbox.specs.declared.queue.TheConstants.{MAX_PACKETS};
@@ -62,7 +62,11 @@ impl Queue {
         requires good { AllByRecursion HasGoodRecords packets.items }
         ensures ok { OnOk result (self.new ≡ self.old ++ packets.items) }
         ensures err { OnErr result (self.new ≡ self.old) }
+        ensures memory { OnErr result (0 < vec_len packets) }
     {
+        if packets.is_empty() {
+            return Ok(());
+        }
         let mut packets = VecDeque::from(packets);
         self.packets.append(&mut packets)?;
         Ok(())

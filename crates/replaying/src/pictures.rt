@@ -1,6 +1,6 @@
 // Scripts, drawn.
+use crate::drawing::{DrawError, draw};
 use crate::statuses::{FAULT, STREAM_FAULT, not_read, out_of_memory};
-use picture::{DrawError, draw};
 use procstore::{ProcStore, Promise, Run};
 use std::fs::File;
 use std::io;

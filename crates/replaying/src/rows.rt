@@ -1,11 +1,10 @@
 // One row of a picture: a command of the script, and what came of its steps.
 use crate::canvas::{Anchor, Canvas, Point};
 use crate::flights::{Flight, put_arrow};
-use crate::notes::notes_of;
-use crate::places::{GAP, LABEL, LINE, NOTE, place_of};
-use botcore::{End, Note};
+use crate::notes::{REFUSAL_STYLE, is_refusal, put_notes};
+use crate::places::{GAP, LABEL, LINE, place_of};
+use botcore::Note;
 use botworld::{Outcome, Report, Step, World};
-use bytetext::{NoMemory, Text, Texts};
 use linkcalls::Note as LinkNote;
 use procstore::{Promise, Run};
 use replay::put_packet;
@@ -13,11 +12,7 @@ use std::alloc::Global;
 use std::slice;
 use storage::Disk;
 
-// What is drawn of a note, of a mark's number, and of a row's label.
-const NOTE_STYLE: &[u8] = b"class=\"note\"";
-
-const REFUSAL_STYLE: &[u8] = b"class=\"note refusal\"";
-
+// How the number in a mark looks, and how the label of a row and its number do.
 const VERSION_STYLE: &[u8] = b"class=\"version\"";
 
 const LABEL_STYLE: &[u8] = b"class=\"label\"";
@@ -71,15 +66,14 @@ pub fn put_row<P: Promise, D: Disk, B: Run>(
     world: &mut World<P, D, B>,
     line: &[u8],
     steps: &[Step],
-) -> Result<(), NoMemory> {
+) {
     sheet.rows = sheet.rows.saturating_add(1);
     put_label(alloc, sheet, world, line, steps);
     let mut y = sheet.y;
     for step in steps {
-        y = put_step(alloc, sheet, world, step, y)?;
+        y = put_step(alloc, sheet, world, step, y);
     }
     sheet.y = y.max(sheet.y.saturating_add(LINE)).saturating_add(GAP);
-    Ok(())
 }
 
 // The number of a row and its line of the script, and of a packet that comes what it is.
@@ -114,11 +108,9 @@ fn put_kind<P: Promise, D: Disk, B: Run>(
         return;
     };
     let mut kind = Vec::new(alloc);
-    if put_packet(&mut kind, &sent.packet).is_err() {
-        out.lack();
-    }
+    let refused = put_packet(&mut kind, &sent.packet).is_err();
     out.put(b" (");
-    out.put_text(kind.as_slice(), 16);
+    out.put_front(&Canvas::made(kind, refused), 16);
     out.put(b")");
 }
 
@@ -129,21 +121,22 @@ fn put_step<P: Promise, D: Disk, B: Run>(
     world: &mut World<P, D, B>,
     step: &Step,
     y: u32,
-) -> Result<u32, NoMemory> {
+) -> u32 {
     let before = version_of(world, step);
     let transcript = world.run(alloc, slice::from_ref(step));
     let [outcome] = transcript.outcomes.as_slice() else {
-        return Err(NoMemory);
+        sheet.marks.lack();
+        return y;
     };
     match outcome {
         Outcome::Report(report) => {
             land(sheet, step, y);
-            send(sheet, world, report, y)?;
+            send(sheet, world, report, y);
             let is_changed = world.version(report.bot) != before;
             put_report(alloc, sheet, world, report, is_changed, y)
         }
-        Outcome::NoSuchBot => Ok(put_none(sheet, b"there is no such bot", y)),
-        Outcome::NoSuchPacket => Ok(put_none(sheet, b"there is no such packet", y)),
+        Outcome::NoSuchBot => put_none(sheet, b"there is no such bot", y),
+        Outcome::NoSuchPacket => put_none(sheet, b"there is no such packet", y),
     }
 }
 
@@ -185,24 +178,24 @@ fn send<P: Promise, D: Disk, B: Run>(
     world: &World<P, D, B>,
     report: &Report,
     y: u32,
-) -> Result<(), NoMemory> {
-    let Some(after) = report.first.checked_add(report.count as u64) else {
-        return Err(NoMemory);
-    };
+) {
+    let after = report.first.saturating_add(report.count as u64);
     let mut place: u32 = 0;
     for number in report.first..after {
         if let Some(sent) = world.packet(number) {
-            sheet.flights.push(Flight {
+            let flight = Flight {
                 from: sent.from,
                 to: sent.to,
                 y,
                 place,
                 has_come: false,
-            })?;
+            };
+            if sheet.flights.push(flight).is_err() {
+                sheet.marks.lack();
+            }
         }
         place = place.saturating_add(1);
     }
-    Ok(())
 }
 
 // Draws a bot's mark and its notes. Where the next are.
@@ -213,11 +206,10 @@ fn put_report<P: Promise, D: Disk, B: Run>(
     report: &Report,
     is_changed: bool,
     y: u32,
-) -> Result<u32, NoMemory> {
+) -> u32 {
     let version = world.version(report.bot).unwrap_or(0);
     put_mark(&mut sheet.marks, report, is_changed, version, y);
-    let notes = notes_of(alloc, report)?;
-    Ok(put_notes(&mut sheet.marks, report, &notes, y))
+    put_notes(alloc, &mut sheet.marks, report, y)
 }
 
 // A step's mark, with the version in it where that has changed or was found.
@@ -255,48 +247,4 @@ fn is_restart(note: &Option<Note>) -> bool {
         Some(Note::Link(LinkNote::Restarted(_))) => true,
         Some(_) | None => false,
     }
-}
-
-// Whether a step was refused, or a change was.
-fn is_refusal(report: &Report) -> bool {
-    match (report.end, &report.note) {
-        (End::Refused(_), _) | (End::Done, Some(Note::Link(LinkNote::Refused(_)))) => true,
-        (End::Done, Some(_) | None) | (End::NoMemory, _) => false,
-    }
-}
-
-// The notes of a step, one under the other. Where the next are.
-fn put_notes(out: &mut Canvas, report: &Report, notes: &Texts, y: u32) -> u32 {
-    let mut y = y;
-    let is_refusal = is_refusal(report);
-    for (place, note) in notes.as_slice().iter().enumerate() {
-        let style = if is_refusal && place == 0 {
-            REFUSAL_STYLE
-        } else {
-            NOTE_STYLE
-        };
-        put_note_at(out, report.bot, note, style, y);
-        y = y.saturating_add(LINE);
-    }
-    y
-}
-
-// A note of a bot: at the left of the hub's line, and at the right of a leaf's.
-fn put_note_at(out: &mut Canvas, bot: u16, note: &Text, style: &[u8], y: u32) {
-    let x = place_of(bot);
-    if bot == 0 {
-        let at = Point {
-            x: x.saturating_sub(15),
-            y,
-        };
-        out.begin_text(at, Anchor::End, style);
-    } else {
-        let at = Point {
-            x: x.saturating_add(15),
-            y,
-        };
-        out.begin_text(at, Anchor::Start, style);
-    }
-    out.put_text(note.as_bytes(), NOTE);
-    out.end_text();
 }

@@ -1,5 +1,5 @@
 // From what a stream gives to what it takes.
-use crate::error::PictureFault;
+use crate::faults::PictureFault;
 use crate::painting::picture;
 use bytetext::Failure;
 use procstore::{ProcStore, Promise, Run};

@@ -3,11 +3,10 @@ ghost use Rattle.std.specs.Prelude.{◌≤◌};
 ghost use Rattle.linkcalls.specs.declared.TheConstants.{MAX_LEAVES as most_leaves};
 
 use crate::canvas::{Anchor, Canvas, Point};
-use crate::error::{PictureError, PictureFault};
+use crate::faults::{PictureError, PictureFault};
 use crate::flights::{put_cross, put_lost};
 use crate::places::{FIRST_ROW, LINE, place_of, width_of};
 use crate::rows::{Sheet, put_row};
-use crate::{MAX_LEAVES, MAX_STEPS};
 use botworld::World;
 use bytetext::{Failure, NoMemory};
 use procstore::{ProcStore, Promise, Run};
@@ -15,6 +14,12 @@ use replay::{new_world, zone_or_utc};
 use script::{Command, Commands, Saying, Script, pieces_of, saying_of};
 use std::alloc::Global;
 use storage::Disk;
+
+/// The most leaves of a script whose run is drawn.
+pub const MAX_LEAVES: u16 = 8;
+
+/// The most steps of a script whose run is drawn.
+pub const MAX_STEPS: usize = 200;
 
 /// The picture of the script that these bytes spell, where its binds call the procs of this store.
 ///
@@ -82,7 +87,7 @@ fn put_rows<P: Promise, D: Disk, B: Run>(
     let lines = pieces_of(alloc, bytes, b'\n')?;
     for line in lines.as_slice() {
         if let Saying::Told(Command::Steps(steps)) = saying_of(alloc, line)? {
-            put_row(alloc, sheet, world, line, steps.as_slice())?;
+            put_row(alloc, sheet, world, line, steps.as_slice());
         }
     }
     Ok(())

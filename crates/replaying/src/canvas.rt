@@ -44,6 +44,11 @@ impl Canvas {
         canvas
     }
 
+    /// What was written apart, and whether a growth was refused then. Takes no memory.
+    pub fn made(bytes: Vec<u8>, refused: bool) -> Canvas {
+        Canvas { bytes, refused }
+    }
+
     /// All that is drawn.
     ///
     /// # Errors
@@ -92,6 +97,12 @@ impl Canvas {
         if text.len() > most {
             self.put(b"..");
         }
+    }
+
+    /// Adds all that another has, at most so many bytes, as text of XML.
+    pub fn put_front(&mut self, other: &Canvas, most: usize) {
+        self.put_text(other.bytes.as_slice(), most);
+        self.refused = self.refused || other.refused;
     }
 
     /// Adds ` NAME="NUMBER"`.
