@@ -71,6 +71,22 @@ pub fn is_full(channel: Option<&Channel>, text: &[u8]) -> bool
     }
 }
 
+// Each of these bans goes to one who asks.
+fn tell_each(
+    alloc: Global,
+    post: &mut Post<'_>,
+    me: &Sender<'_>,
+    name: &[u8],
+    bans: &[Mask],
+) -> Result<(), NoMemory>
+    ensures { OnOk result (readers post.new ≡ readers post.old) }
+{
+    for ban in bans {
+        tell_of(alloc, post, me, b"367", name, ban.text())?;
+    }
+    Ok(())
+}
+
 /// The bans of a channel, if there is one, go to one who asks.
 ///
 /// # Errors
@@ -84,11 +100,11 @@ pub fn tell_bans(
 ) -> Result<(), NoMemory>
     ensures { OnOk result (readers post.new ≡ readers post.old) }
 {
-    let Some(channel) = channel_of(channels, name) else {
-        return Ok(());
-    };
-    for ban in channel.bans.as_slice() {
-        tell_of(alloc, post, me, b"367", name, ban.text())?;
+    match channel_of(channels, name) {
+        Some(channel) => {
+            tell_each(alloc, post, me, name, channel.bans.as_slice())?;
+            tell_of(alloc, post, me, b"368", name, b"End of channel ban list")
+        }
+        None => Ok(()),
     }
-    tell_of(alloc, post, me, b"368", name, b"End of channel ban list")
 }

@@ -1,5 +1,5 @@
 // How commands leave channels.
-ghost use Rattle.std.specs.Prelude.{◌≡◌, ◌++◌, ◌∷◌, [], IfOk, map, filter, not};
+ghost use Rattle.std.specs.Prelude.{◌≡◌, ◌++◌, ◌∷◌, [], IfOk, OnOk, map, filter, not};
 ghost use Rattle.std.specs.Option.{option_copied};
 ghost use Rattle.miniircd.specs.Rooms.{seen, is_client, plain, marked, members_after, topic_after, edited, edited_if, is_used, concerns, rooms_after, bans_after};
 
@@ -172,6 +172,24 @@ fn is_used(channel: &Channel) -> bool
     channel.members.len() > 0
 }
 
+// A channel after an edit goes to others, unless nobody is on it.
+fn push_edited(
+    alloc: Global,
+    after: &mut Vec<Channel>,
+    name: Option<&[u8]>,
+    edit: Edit<'_>,
+    channel: &Channel,
+) -> Result<(), NoMemory>
+    ensures { OnOk result (after.new.items ≡ after.old.items
+        ++ filter is_used (edited_if (option_copied name.entry) (seen edit.entry) channel.now ∷ [])) }
+{
+    let channel = edited_if(alloc, name, edit, channel)?;
+    if is_used(&channel) {
+        after.push(channel)?;
+    }
+    Ok(())
+}
+
 /// The channels after an edit of the one of a name, or without a name of each. One that nobody is on is forgotten.
 ///
 /// # Errors
@@ -187,10 +205,7 @@ pub fn rooms_after(
 {
     let mut after = Vec::with_capacity(alloc, channels.len())?;
     for channel in channels {
-        let channel = edited_if(alloc, name, edit, channel)?;
-        if is_used(&channel) {
-            after.push(channel)?;
-        }
+        push_edited(alloc, &mut after, name, edit, channel)?;
     }
     Ok(after)
 }

@@ -126,14 +126,11 @@ fn after_space(text: &[u8]) -> &[u8] {
     }
 }
 
-// What USERHOST tells of a client goes to others, with a space before it.
-fn push_userhost(told: &mut Vec<u8>, person: &Person) -> Result<(), NoMemory> {
-    told.push(b' ')?;
-    told.extend_from_slice(person.nick.as_bytes())?;
-    told.extend_from_slice(b"=+")?;
-    told.extend_from_slice(person.user.as_bytes())?;
-    told.extend_from_slice(b"@local")?;
-    Ok(())
+// What USERHOST tells of a client, with a space before it.
+fn userhost_of(alloc: Global, person: &Person) -> Result<Vec<u8>, NoMemory> {
+    let (nick, user) = (person.nick.as_bytes(), person.user.as_bytes());
+    let words: [&[u8]; 5] = [b" ", nick, b"=+", user, b"@local"];
+    Ok(words.concat(alloc)?)
 }
 
 // USERHOST: who registered clients of at most five nicks are. Nobody is away, and nobody an operator of the server.
@@ -149,7 +146,7 @@ fn userhost(
     let mut told = Vec::new(alloc);
     for nick in &params[..MAX_ASKED.min(params.len())] {
         if let Some(person) = person_of(clients, nick.as_bytes()) {
-            push_userhost(&mut told, person)?;
+            told.append(&mut userhost_of(alloc, person)?)?;
         }
     }
     tell(alloc, post, me, b"302", b"", after_space(told.as_slice()))
@@ -170,10 +167,10 @@ fn tell_channel(
 ) -> Result<(), NoMemory>
     ensures { OnOk result (readers post.new ≡ readers post.old) }
 {
-    let mut words = repeated(alloc, channel.name.as_bytes())?;
+    let name = repeated(alloc, channel.name.as_bytes())?;
     let mut buffer = Buffer::new();
-    words.push(b' ')?;
-    words.extend_from_slice(buffer.format(channel.members.len()).as_bytes())?;
+    let count = buffer.format(channel.members.len()).as_bytes();
+    let words = [name.as_slice(), b" ", count].concat(alloc)?;
     let topic = channel.topic.as_bytes();
     tell(alloc, post, me, b"322", words.as_slice(), topic)
 }

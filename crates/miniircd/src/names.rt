@@ -1,9 +1,9 @@
 // Who is on a channel (RFC 2812 section 5.1, replies 353 and 366).
-ghost use Rattle.std.specs.Prelude.{◌≡◌, ◌<◌, ◌+◌, ◌-◌, ◌*◌, ◌/◌, ◌++◌, ◌∷◌, [], length, take, drop, IfOk, OnOk};
+ghost use Rattle.std.specs.Prelude.{◌≡◌, ◌<◌, ◌+◌, ◌-◌, ◌*◌, ◌/◌, ◌++◌, ◌∷◌, [], length, take, drop, IfOk, OnOk, codes};
 ghost use Rattle.std.specs.List.{flat_map};
 ghost use Rattle.std.specs.Option.{option_copied};
 ghost use Rattle.miniircd.specs.Mail.{posted, readers};
-ghost use Rattle.miniircd.specs.Lines.{marks, name_of, names_of, listed, listing};
+ghost use Rattle.miniircd.specs.Lines.{marks, name_of, names_of, repeated, listed, listing};
 
 use crate::lines::repeated;
 use crate::member::Member;
@@ -30,13 +30,16 @@ pub fn marks(member: &Member) -> &'static [u8]
     }
 }
 
-// A nick with the marks of its member.
-fn marked_nick(alloc: Global, member: &Member, nick: &[u8]) -> Result<Text, NoMemory>
-    ensures { IfOk result (λ name. name ≡ marks member.now ++ nick.now) }
+/// A name, be it a nick or that of a channel, after the marks of a member.
+///
+/// # Errors
+/// `NoMemory` where room for it is refused.
+pub fn marked_name(alloc: Global, member: &Member, name: &[u8]) -> Result<Text, NoMemory>
+    ensures { IfOk result (λ marked. marked ≡ marks member.now ++ name.now) }
 {
-    let mut name = Vec::from_slice(alloc, marks(member))?;
-    name.extend_from_slice(nick)?;
-    Ok(Text::new(name))
+    let mut marked = Vec::from_slice(alloc, marks(member))?;
+    marked.extend_from_slice(name)?;
+    Ok(Text::new(marked))
 }
 
 // The name of a member goes to others.
@@ -49,7 +52,7 @@ fn push_name(
     ensures { OnOk result (names.new.items ≡ names.old.items ++ name_of (option_copied person.entry) member.now) }
 {
     if let Some(person) = person {
-        names.push(marked_nick(alloc, member, person.nick.as_bytes())?)?;
+        names.push(marked_name(alloc, member, person.nick.as_bytes())?)?;
     }
     Ok(())
 }
@@ -90,6 +93,15 @@ fn names_at(names: &[Text], i: usize) -> &[Text]
     &rest[..NAMES_IN_A_LINE.min(rest.len())]
 }
 
+// The words of a line of names, with a space before each.
+fn words_of(alloc: Global, name: &[u8]) -> Result<Vec<u8>, NoMemory>
+    ensures { IfOk result (λ words. words.items ≡ codes " =" ++ repeated name.now) }
+{
+    let mut words = Vec::from_slice(alloc, b" =")?;
+    words.extend_from_slice(repeated(alloc, name)?.as_slice())?;
+    Ok(words)
+}
+
 // One line of names.
 fn list_line(
     alloc: Global,
@@ -102,8 +114,7 @@ fn list_line(
     requires { i < (length names.now + 10 - 1) / 10 }
     ensures { OnOk result (post.new ≡ posted (listed me.now.key me.now.person.now name.now names.now i ∷ []) post.old) }
 {
-    let mut words = Vec::from_slice(alloc, b" =")?;
-    words.extend_from_slice(repeated(alloc, name)?.as_slice())?;
+    let words = words_of(alloc, name)?;
     let text = spaced(alloc, names_at(names, i))?;
     let row = match text.as_slice() {
         [] => b"",

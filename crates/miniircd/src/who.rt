@@ -45,12 +45,17 @@ fn words_of(
     member: &Member,
     person: &Person,
 ) -> Result<Vec<u8>, NoMemory> {
-    let mut words = repeated(alloc, name)?;
-    words.push(b' ')?;
-    words.extend_from_slice(person.user.as_bytes())?;
-    words.extend_from_slice(b" local irc.test ")?;
-    words.extend_from_slice(person.nick.as_bytes())?;
-    words.extend_from_slice(b" H")?;
+    let name = repeated(alloc, name)?;
+    let (nick, user) = (person.nick.as_bytes(), person.user.as_bytes());
+    let words = [
+        name.as_slice(),
+        b" ",
+        user,
+        b" local irc.test ",
+        nick,
+        b" H",
+    ];
+    let mut words = words.concat(alloc)?;
     words.extend_from_slice(marks(member))?;
     Ok(words)
 }
@@ -70,8 +75,7 @@ fn tell_member(
         return Ok(());
     };
     let words = words_of(alloc, name, member, person)?;
-    let mut last = Vec::from_slice(alloc, b"0 ")?;
-    last.extend_from_slice(person.nick.as_bytes())?;
+    let last = [b"0 ", person.nick.as_bytes()].concat(alloc)?;
     tell(alloc, post, me, b"352", words.as_slice(), last.as_slice())
 }
 

@@ -4,7 +4,7 @@ ghost use Rattle.miniircd.specs.Mail.{readers};
 
 use crate::lines::repeated;
 use crate::member::{Channel, member_of};
-use crate::names::marks;
+use crate::names::marked_name;
 use crate::people::holder;
 use crate::person::Person;
 use crate::post::Post;
@@ -70,6 +70,18 @@ fn tell_client(
     let words = words_of(alloc, person)?;
     tell(alloc, post, me, b"311", words.as_slice(), nick)?;
     tell_channels(alloc, post, channels, me, client, nick)?;
+    tell_server(alloc, post, me, nick)
+}
+
+// Which server a client is on: this one.
+fn tell_server(
+    alloc: Global,
+    post: &mut Post<'_>,
+    me: &Sender<'_>,
+    nick: &[u8],
+) -> Result<(), NoMemory>
+    ensures { OnOk result (readers post.new ≡ readers post.old) }
+{
     let mut words = repeated(alloc, nick)?;
     words.extend_from_slice(b" irc.test")?;
     tell(alloc, post, me, b"312", words.as_slice(), b"A small server")
@@ -77,11 +89,9 @@ fn tell_client(
 
 // The words of the reply about a client, with a space before each.
 fn words_of(alloc: Global, person: &Person) -> Result<Vec<u8>, NoMemory> {
-    let mut words = repeated(alloc, person.nick.as_bytes())?;
-    words.push(b' ')?;
-    words.extend_from_slice(person.user.as_bytes())?;
-    words.extend_from_slice(b" local *")?;
-    Ok(words)
+    let nick = repeated(alloc, person.nick.as_bytes())?;
+    let words = [nick.as_slice(), b" ", person.user.as_bytes(), b" local *"];
+    Ok(words.concat(alloc)?)
 }
 
 // The channels that a client is on, each in a reply of its own.
@@ -97,9 +107,8 @@ fn tell_channels(
 {
     for channel in channels {
         if let Some(member) = member_of(channel.members.as_slice(), client) {
-            let mut name = Vec::from_slice(alloc, marks(member))?;
-            name.extend_from_slice(channel.name.as_bytes())?;
-            tell_of(alloc, post, me, b"319", nick, name.as_slice())?;
+            let name = marked_name(alloc, member, channel.name.as_bytes())?;
+            tell_of(alloc, post, me, b"319", nick, name.as_bytes())?;
         }
     }
     Ok(())

@@ -15,74 +15,99 @@ pub(crate) enum Entry<'a> {
     NotDialled(&'a [u8], DialFault, u64),
     // The server is let go, and the next one is due at this second.
     Lost(Why, u64),
-    // The server welcomed the bot under this nick.
-    Welcomed(&'a [u8]),
-    // The bot has this nick now.
-    Renamed(&'a [u8]),
-    // The server does not take a nick, and this one is asked for.
-    OtherNick(&'a [u8]),
-    // The server takes no nick that the bot asks for.
-    NoNick,
-    // The bot is on this channel.
-    Joined(&'a [u8]),
-    // The bot has left this channel.
-    Parted(&'a [u8]),
-    // The bot was kicked off this channel.
-    Kicked(&'a [u8]),
-    // The bot was not let onto this channel.
-    Barred(&'a [u8]),
     // The server refuses something, or ends the connection: the command and what it says.
     Refused(&'a [u8], &'a [u8]),
     // The server compares nicks otherwise than the bot.
     OtherCase(&'a [u8]),
     // A message came: who sent it, its command and what follows it.
     Heard(&'a [u8], &'a [u8], &'a [u8]),
-    // A line of the bot's is left for the server.
-    Told(&'a [u8]),
+    // A fact of this nick, channel or line.
+    Plain(Fact, &'a [u8]),
+    // The server takes no nick that the bot asks for.
+    NoNick,
     // A line of the configuration or of an operator, or an answer to a person, is left for the server. It may hold a password.
     ToldOwn,
+}
+
+// A fact of one nick, channel or line.
+#[derive(Clone, Copy)]
+pub(crate) enum Fact {
+    // The server welcomed the bot under this nick.
+    Welcomed,
+    // The bot has this nick now.
+    Renamed,
+    // The server does not take a nick, and this one is asked for.
+    OtherNick,
+    // The bot is on this channel.
+    Joined,
+    // The bot has left this channel.
+    Parted,
+    // The bot was kicked off this channel.
+    Kicked,
+    // The bot was not let onto this channel.
+    Barred,
+    // A line of the bot's is left for the server.
+    Told,
+}
+
+// What the log says before the nick, the channel or the line.
+fn words_of(fact: Fact) -> &'static str {
+    match fact {
+        Fact::Welcomed => "welcome as ",
+        Fact::Renamed => "nick is ",
+        Fact::OtherNick => "nick refused: asking for ",
+        Fact::Joined => "on ",
+        Fact::Parted => "left ",
+        Fact::Kicked => "kicked off ",
+        Fact::Barred => "not let onto ",
+        Fact::Told => "> ",
+    }
 }
 
 impl Display for Entry<'_> {
     fn fmt<W: fmt::Write>(&self, f: &mut fmt::Formatter<W>) -> fmt::Result {
         match *self {
-            Entry::Dialled(host, address) => write!(
-                f,
-                "connecting to {} at {address}",
-                Shown(host)
-            ),
+            Entry::Dialled(host, address) => {
+                put(f, "connecting to ", &Shown(host))?;
+                put(f, " at ", &address)
+            }
             Entry::NotDialled(host, fault, due) => {
-                write!(
-                    f,
-                    "not connecting to {}: {fault}; next try at {due}",
-                    Shown(host)
-                )
+                put(f, "not connecting to ", &Shown(host))?;
+                put(f, ": ", &fault)?;
+                put(f, "; next try at ", &due)
             }
-            Entry::Lost(why, due) => write!(f, "server lost: {}; next try at {due}", why_text(why)),
-            Entry::Welcomed(nick) => write!(f, "welcome as {}", Shown(nick)),
-            Entry::Renamed(nick) => write!(f, "nick is {}", Shown(nick)),
-            Entry::OtherNick(nick) => write!(f, "nick refused: asking for {}", Shown(nick)),
-            Entry::NoNick => write!(f, "nick refused: no other is left to ask for"),
-            Entry::Joined(channel) => write!(f, "on {}", Shown(channel)),
-            Entry::Parted(channel) => write!(f, "left {}", Shown(channel)),
-            Entry::Kicked(channel) => write!(f, "kicked off {}", Shown(channel)),
-            Entry::Barred(channel) => write!(f, "not let onto {}", Shown(channel)),
+            Entry::Lost(why, due) => {
+                put(f, "server lost: ", &why_text(why))?;
+                put(f, "; next try at ", &due)
+            }
             Entry::Refused(command, text) => {
-                write!(f, "server says {} {}", Shown(command), Shown(text))
+                put(f, "server says ", &Shown(command))?;
+                put(f, " ", &Shown(text))
             }
-            Entry::OtherCase(name) => write!(
-                f,
-                "server compares by {}, this bot by rfc1459: {{ and [ are one there",
-                Shown(name)
-            ),
+            Entry::OtherCase(name) => {
+                put(f, "server compares by ", &Shown(name))?;
+                f.write_str(", this bot by rfc1459: { and [ are one there")
+            }
             Entry::Heard(source, command, rest) => {
-                write!(f, "< {} {} {}", Shown(source), Shown(command), Shown(rest))
+                put(f, "< ", &Shown(source))?;
+                put(f, " ", &Shown(command))?;
+                put(f, " ", &Shown(rest))
             }
-            Entry::ToldOwn => write!(
-                f,
-                "> a line of the configuration or of an operator, or an answer"
-            ),
-            Entry::Told(line) => write!(f, "> {}", Shown(line)),
+            Entry::Plain(fact, shown) => put(f, words_of(fact), &Shown(shown)),
+            Entry::NoNick => f.write_str("nick refused: no other is left to ask for"),
+            Entry::ToldOwn => {
+                f.write_str("> a line of the configuration or of an operator, or an answer")
+            }
         }
     }
+}
+
+// Writes words, and what follows them.
+fn put<W: fmt::Write, D: Display>(
+    f: &mut fmt::Formatter<W>,
+    words: &str,
+    shown: &D,
+) -> fmt::Result {
+    f.write_str(words)?;
+    shown.fmt(f)
 }

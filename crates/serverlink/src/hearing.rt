@@ -2,7 +2,7 @@
 ghost use Rattle.std.specs.Prelude.{◌≢◌, ◌<◌, None, OnErr};
 ghost use Rattle.bytetext.specs.declared.moment.TheConstants.{MOMENTS_END};
 
-use crate::entry::Entry;
+use crate::entry::{Entry, Fact};
 use crate::log::log;
 use crate::uplink::{Uplink, joined};
 use bytetext::{NoMemory, Text, TryCopy};
@@ -73,7 +73,7 @@ impl Uplink {
         nick: &[u8],
         now: u64,
     ) -> Result<(), NoMemory> {
-        log(rt, now, &Entry::Welcomed(nick));
+        log(rt, now, &Entry::Plain(Fact::Welcomed, nick));
         let Some(session) = &mut self.session else {
             return Ok(());
         };
@@ -95,7 +95,7 @@ impl Uplink {
         nick: &[u8],
         now: u64,
     ) -> Result<(), NoMemory> {
-        log(rt, now, &Entry::Renamed(nick));
+        log(rt, now, &Entry::Plain(Fact::Renamed, nick));
         if let Some(session) = &mut self.session {
             session.nick = Text::from_slice(rt.alloc(), nick)?;
         }
@@ -119,7 +119,7 @@ impl Uplink {
         match other_nick(alloc, settings.nick.as_bytes(), session.tried)? {
             Some(nick) => {
                 session.tried = session.tried.saturating_add(1);
-                log(rt, now, &Entry::OtherNick(nick.as_bytes()));
+                log(rt, now, &Entry::Plain(Fact::OtherNick, nick.as_bytes()));
                 let line = joined(alloc, b"NICK ", nick.as_bytes())?;
                 session.tell(alloc, line.as_slice(), now)
             }
@@ -139,19 +139,19 @@ impl Uplink {
         match cue {
             Cue::Joined => {
                 self.channels.join(first, now);
-                log(rt, now, &Entry::Joined(first));
+                log(rt, now, &Entry::Plain(Fact::Joined, first));
             }
             Cue::Parted => {
                 self.channels.part(first);
-                log(rt, now, &Entry::Parted(first));
+                log(rt, now, &Entry::Plain(Fact::Parted, first));
             }
             Cue::Kicked => {
                 self.channels.kick(first, now);
-                log(rt, now, &Entry::Kicked(first));
+                log(rt, now, &Entry::Plain(Fact::Kicked, first));
             }
             Cue::Barred => {
                 self.channels.bar(second, now);
-                log(rt, now, &Entry::Barred(second));
+                log(rt, now, &Entry::Plain(Fact::Barred, second));
             }
             Cue::Refused => log(
                 rt,

@@ -15,9 +15,9 @@ impl Display for Shown<'_> {
     fn fmt<W: fmt::Write>(&self, f: &mut fmt::Formatter<W>) -> fmt::Result {
         for (place, word) in self.0.split_str(b" ").enumerate() {
             if place > 0 {
-                write!(f, " ")?;
+                f.write_str(" ")?;
             }
-            write!(f, "{}", word.escape_bytes())?;
+            word.escape_bytes().fmt(f)?;
         }
         Ok(())
     }

@@ -3,7 +3,7 @@ ghost use Rattle.std.specs.Prelude.{◌≡◌, ◌≢◌, ◌<◌, length, None,
 ghost use Rattle.bytetext.specs.declared.moment.TheConstants.{MOMENTS_END};
 
 use crate::channels::Channels;
-use crate::entry::Entry;
+use crate::entry::{Entry, Fact};
 use crate::log::log;
 use crate::own_lines::OwnLines;
 use crate::session::Session;
@@ -202,7 +202,7 @@ impl Uplink {
         };
         session.tell(rt.alloc(), line, now)?;
         if settings.log_lines {
-            log(rt, now, &Entry::Told(line));
+            log(rt, now, &Entry::Plain(Fact::Told, line));
         }
         Ok(())
     }

@@ -26,23 +26,26 @@ pub enum Advice {
 
 impl Display for Advice {
     fn fmt<W: fmt::Write>(&self, f: &mut fmt::Formatter<W>) -> fmt::Result {
-        match *self {
-            Advice::Once(word) => {
-                let spelling = word.spelling();
-                write!(f, "say {spelling} once: a line above has it")
-            }
-            Advice::Form(word) => write!(f, "{}", form_of(word)),
-            Advice::Leaves => write!(f, "say a number of at most LEAVES, and at most 1000 leaves"),
-            Advice::Port => write!(f, "say a port of 1 to 65535"),
-            Advice::Unknown => write!(
-                f,
-                "begin with account, bind, bot, channel, data, exclusive, hub, listen, log, nick, perform, secret, server, \
-                 zone or #"
-            ),
-            Advice::CarriageReturn => write!(f, "end lines with a line feed alone"),
-            Advice::Control => write!(f, "write spaces for tabs, and no other control bytes"),
-            Advice::ByteOrderMark => write!(f, "save the file without a byte order mark"),
+        if let Advice::Once(word) = *self {
+            f.write_str("say ")?;
+            f.write_str(word.spelling())?;
         }
+        f.write_str(words_of(*self))
+    }
+}
+
+// What is said, without the word that is to stand once.
+fn words_of(advice: Advice) -> &'static str {
+    match advice {
+        Advice::Once(_) => " once: a line above has it",
+        Advice::Form(word) => form_of(word),
+        Advice::Leaves => "say a number of at most LEAVES, and at most 1000 leaves",
+        Advice::Port => "say a port of 1 to 65535",
+        Advice::Unknown =>
+            "begin with account, bind, bot, channel, data, exclusive, hub, listen, log, nick, perform, secret, server, zone or #",
+        Advice::CarriageReturn => "end lines with a line feed alone",
+        Advice::Control => "write spaces for tabs, and no other control bytes",
+        Advice::ByteOrderMark => "save the file without a byte order mark",
     }
 }
 

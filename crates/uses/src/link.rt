@@ -12,6 +12,15 @@ use userfile::Change;
 pub fn share(alloc: Global) -> Result<(u32, u32), Error> {
     let mut hub = end(alloc, 0)?;
     let mut leaf = end(alloc, 1)?;
+    told(alloc, &mut hub, &mut leaf)
+}
+
+// The same of a hub and its leaf that are there.
+fn told(
+    alloc: Global,
+    hub: &mut BotLink<MemDisk>,
+    leaf: &mut BotLink<MemDisk>,
+) -> Result<(u32, u32), Error> {
     let handle = Text::from_slice(alloc, b"alice")?;
     hub.ask(alloc, Change::AddUser { handle })?;
     let answer = hub.pump(alloc)?;
