@@ -15,10 +15,11 @@ TOP = os.path.dirname(os.path.dirname(os.path.realpath(__file__)))
 CHECK = 3_600_000_000
 
 
-def load():
+def load(name="rt"):
+    """Returns a file of the toolchain's commands as a module."""
     file = os.path.realpath(shutil.which("rt") or sys.exit("the toolchain's command rt is not on the path"))
-    loader = importlib.machinery.SourceFileLoader("rt", file)
-    made = importlib.util.module_from_spec(importlib.util.spec_from_loader("rt", loader))
+    loader = importlib.machinery.SourceFileLoader(name, f"{os.path.dirname(file)}/{name}")
+    made = importlib.util.module_from_spec(importlib.util.spec_from_loader(name, loader))
     loader.exec_module(made)
     return made
 
