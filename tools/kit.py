@@ -57,6 +57,17 @@ def crates(names=()):
     return sorted(found, key=lambda it: len(it.below()))
 
 
+def proved_libraries(names=()):
+    """Returns the libraries of these names, or all, lowest first, once ./prove has proved them; or ends, with what to say."""
+    found = [it for it in crates(names) if it.makes_rlib() and (it.name in names or not names)]
+    programs = {*names} - {it.name for it in found}
+    if programs:
+        sys.exit(f"no library: {' '.join(sorted(programs))}")
+    if os.system(f"{TOP}/prove {' '.join(it.name for it in found)}"):
+        sys.exit(1)
+    return found
+
+
 def take_kept(found):
     """Gives crates, lowest first, what `rt ci` proved of the same text on this machine, and yields for each whether it could."""
     rt.Crate.allowed = rt.handles_of(TOP)

@@ -50,7 +50,6 @@ impl TryCopy for Note {
 pub type Faults = Seq<Fault>;
 
 /// What a step tells.
-#[derive(Drop)]
 pub struct Report {
     /// How it ended.
     pub end: End,
@@ -69,6 +68,21 @@ pub struct Report {
     /// Whether the line is logged: false where a raw, `msgm`, `pubm` or `notc` proc has answered 1, and true for any
     /// other event.
     pub logged: bool,
+}
+
+// By hand, so that this is proved once, and not in each function in which one ends.
+impl Drop for Report {
+    fn drop(self) {
+        let Report {
+            end: _,
+            note: _,
+            calls: _,
+            packets: _,
+            lines: _,
+            faults: _,
+            logged: _,
+        } = self;
+    }
 }
 
 impl Report {
@@ -184,6 +198,28 @@ impl Report {
             faults: Seq::empty(alloc),
             logged,
         }
+    }
+}
+
+impl Report {
+    /// What it tells of the step beside its end: the note, the calls, the packets, the lines and the faults. Takes no memory.
+    pub fn into_parts(self) -> (Option<Note>, MadeCalls, Outgoings, Texts, Faults)
+        ensures note { result.0 ≡ self.note }
+        ensures calls { result.1 ≡ self.calls }
+        ensures packets { result.2 ≡ self.packets }
+        ensures lines { result.3 ≡ self.lines }
+        ensures faults { result.4 ≡ self.faults }
+    {
+        let Report {
+            end: _,
+            note,
+            calls,
+            packets,
+            lines,
+            faults,
+            logged: _,
+        } = self;
+        (note, calls, packets, lines, faults)
     }
 }
 

@@ -92,12 +92,13 @@ impl Outbox {
         match report.end {
             End::NoMemory => Err(NoMemory),
             End::Done | End::Refused(_) => {
+                let (note, calls, packets, lines, faults) = report.into_parts();
                 let outcome = Outcome {
-                    note: report.note,
-                    calls: report.calls,
-                    faults: report.faults,
+                    note,
+                    calls,
+                    faults,
                 };
-                self.put(report.packets, report.lines, outcome);
+                self.put(packets, lines, outcome);
                 Ok(())
             }
         }

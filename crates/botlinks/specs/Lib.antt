@@ -1,3 +1,4 @@
 pub mod Hellos
 pub mod Joining
+pub mod Linked
 pub mod Speakers

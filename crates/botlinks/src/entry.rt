@@ -45,7 +45,7 @@ impl Display for Entry<'_> {
                     host.escape_bytes()
                 )
             }
-            Entry::Linked => write!(f, "linked to the hub"),
+            Entry::Linked => f.write_str("linked to the hub"),
             Entry::HubGone(gone, due) => write!(f, "hub lost: {gone}; next try at {due}"),
         }
     }

@@ -44,7 +44,7 @@ impl Display for Gone {
             Gone::Handshake(fault) => write!(f, "{fault}"),
             Gone::NoFrames(fault) => write!(f, "it sends no frames: {fault}"),
             Gone::Ended | Gone::TooSlow | Gone::OtherSpeaker | Gone::Replaced | Gone::Crowded =>
-                write!(f, "{}", sentence(*self)),
+                f.write_str(sentence(*self)),
         }
     }
 }

@@ -1,6 +1,7 @@
 // A leaf's connection to its hub.
-ghost use Rattle.std.specs.Prelude.{◌≢◌, ◌<◌, None, IfOk, IfErr, OnErr};
+ghost use Rattle.std.specs.Prelude.{◌<◌, IfOk, IfErr, OnErr};
 ghost use Rattle.std.specs.List.{AllByRecursion};
+ghost use Rattle.botlinks.specs.Linked.{IsHeard, IsLinked};
 ghost use Rattle.bytetext.specs.declared.moment.TheConstants.{MOMENTS_END};
 ghost use Rattle.linkcalls.specs.Shapes.{HasGoodRecords};
 
@@ -136,9 +137,10 @@ impl LeafLink {
     /// Hears the hub. Whether there may be more at once.
     ///
     /// # Errors
-    /// `NoMemory` where a growth is refused: never without a connection.
+    /// `NoMemory` where a growth is refused: never without a connection, nor where the number of the hub's net is to be
+    /// kept first.
     pub fn read<R: AllocGlobal + Print>(&mut self, rt: &R, now: u64) -> Result<bool, NoMemory>
-        ensures memory { IfErr result (λ _. self.old.hub ≢ None) }
+        ensures memory { IfErr result (λ _. IsHeard self.old.hub) }
     {
         let net = self.net;
         let Some(hub) = &mut self.hub else {
@@ -249,10 +251,10 @@ impl LeafLink {
     /// Leaves a packet for the hub. Where it is not linked, the packet is lost. A hello is noted.
     ///
     /// # Errors
-    /// `NoMemory` where a growth is refused: never without a connection.
+    /// `NoMemory` where a growth is refused: never where the hub is not linked.
     pub fn tell(&mut self, alloc: Global, packet: &Packet, now: u64) -> Result<(), NoMemory>
         requires good { HasGoodRecords packet.now }
-        ensures memory { OnErr result (self.old.hub ≢ None) }
+        ensures memory { OnErr result (IsLinked self.old.hub) }
     {
         if let Packet::Hello { version, .. } = packet {
             self.pumps.say(*version, now);

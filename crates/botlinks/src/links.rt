@@ -3,6 +3,7 @@ ghost use Rattle.std.specs.Prelude.{◌≡◌, ◌≢◌, ◌<◌, IfOk, IfErr, 
 ghost use Rattle.std.specs.List.{AllByRecursion};
 ghost use Rattle.bytetext.specs.declared.moment.TheConstants.{MOMENTS_END};
 ghost use Rattle.botlinks.specs.Hellos.{asked, noted, pumps_of};
+ghost use Rattle.botlinks.specs.Linked.{Hears, IsHub, Reaches};
 ghost use Rattle.botlinks.specs.declared.links.Links.TheVariants.{Alone};
 ghost use Rattle.linkcalls.specs.Shapes.{HasGoodRecords};
 
@@ -65,7 +66,7 @@ impl Links {
     /// Lets in who waits, or connects what is lost and due. Whether a connection to the hub began.
     ///
     /// # Errors
-    /// `NoMemory` where a growth is refused: never for a bot that is alone.
+    /// `NoMemory` where a growth is refused: at a hub alone.
     pub fn connect<R: AllocGlobal + Net + Print + RandomSource>(
         &mut self,
         rt: &R,
@@ -74,7 +75,7 @@ impl Links {
         now: u64,
     ) -> Result<bool, NoMemory>
         requires moment { now < MOMENTS_END }
-        ensures memory { IfErr result (λ _. self.old ≢ Alone) }
+        ensures memory { IfErr result (λ _. IsHub self.old) }
     {
         match self {
             Links::Alone => Ok(false),
@@ -92,9 +93,9 @@ impl Links {
     /// Hears each. Whether there may be more at once.
     ///
     /// # Errors
-    /// `NoMemory` where a growth is refused: never for a bot that is alone.
+    /// `NoMemory` where a growth is refused: never for a bot that is alone, nor for a leaf without a connection.
     pub fn read<R: AllocGlobal + Print>(&mut self, rt: &R, now: u64) -> Result<bool, NoMemory>
-        ensures memory { IfErr result (λ _. self.old ≢ Alone) }
+        ensures memory { IfErr result (λ _. Hears self.old) }
     {
         match self {
             Links::Alone => Ok(false),
@@ -137,10 +138,10 @@ impl Links {
     /// Leaves a packet for who is to have it. Where that one is not linked, the packet is lost.
     ///
     /// # Errors
-    /// `NoMemory` where a growth is refused: never for a bot that is alone.
+    /// `NoMemory` where a growth is refused: never where that one is not linked.
     pub fn tell(&mut self, alloc: Global, outgoing: &Outgoing, now: u64) -> Result<(), NoMemory>
         requires good { HasGoodRecords outgoing.now.packet }
-        ensures memory { OnErr result (self.old ≢ Alone) }
+        ensures memory { OnErr result (Reaches outgoing.now.to self.old) }
     {
         match self {
             Links::Alone => Ok(()),

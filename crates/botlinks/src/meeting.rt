@@ -1,6 +1,7 @@
 // One connection of a leaf to its hub.
-ghost use Rattle.std.specs.Prelude.{IfOk};
+ghost use Rattle.std.specs.Prelude.{◌≡◌, IfOk, OnErr};
 ghost use Rattle.std.specs.List.{AllByRecursion};
+ghost use Rattle.botlinks.specs.declared.meeting.Stage.TheVariants.{Linked};
 ghost use Rattle.linkcalls.specs.Shapes.{HasGoodRecords};
 
 use crate::gone::Gone;
@@ -118,6 +119,7 @@ impl Hub {
     // Leaves a packet for the hub, as its frame, where packets go. One that has no frame is lost.
     pub(crate) fn tell(&mut self, alloc: Global, packet: &Packet) -> Result<(), NoMemory>
         requires good { HasGoodRecords packet.now }
+        ensures memory { OnErr result (self.old.stage ≡ Linked) }
     {
         match self.stage {
             Stage::Linked => {}

@@ -8,6 +8,7 @@ use botfolder::{FolderError, FolderFault};
 use botlinks::SecretFault;
 use bytejournal::JournalFault;
 use bytetext::{Failure, NoMemory};
+use serverlink::put;
 use sockets::DoorFault;
 use std::alloc::{AllocError, AllocFailed};
 use std::error::Error;
@@ -131,20 +132,31 @@ impl RunError {
 impl Display for RunError {
     fn fmt<W: fmt::Write>(&self, f: &mut fmt::Formatter<W>) -> fmt::Result {
         match *self {
-            RunError::BindKind { line } => write!(f, "line {line}: {KIND}"),
-            RunError::BindProc { line } => write!(f, "line {line}: {PROC}"),
-            RunError::Bind { line, fault } => {
-                let code = fault.code();
-                write!(f, "line {line}: {code}: {fault}")
+            RunError::BindKind { line } => {
+                put(f, "line ", &line)?;
+                put(f, ": ", &KIND)
             }
-            RunError::Folder(fault) => write!(f, "{fault}"),
-            RunError::Control(fault) => write!(f, "{fault}"),
-            RunError::Secret(fault) => write!(f, "the file of the line secret {fault}"),
-            RunError::Listen(fault) => write!(f, "the address of the line listen {fault}"),
-            RunError::DiskFailed { change } => write!(
-                f,
-                "lies on a disk that failed: free space or mend it, then run again; change {change} may count or not"
-            ),
+            RunError::BindProc { line } => {
+                put(f, "line ", &line)?;
+                put(f, ": ", &PROC)
+            }
+            RunError::Bind { line, fault } => {
+                put(f, "line ", &line)?;
+                put(f, ": ", &fault.code())?;
+                put(f, ": ", &fault)
+            }
+            RunError::Folder(fault) => fault.fmt(f),
+            RunError::Control(fault) => fault.fmt(f),
+            RunError::Secret(fault) => put(f, "the file of the line secret ", &fault),
+            RunError::Listen(fault) => put(f, "the address of the line listen ", &fault),
+            RunError::DiskFailed { change } => {
+                put(
+                    f,
+                    "lies on a disk that failed: free space or mend it, then run again; change ",
+                    &change,
+                )?;
+                f.write_str(" may count or not")
+            }
             RunError::Account
             | RunError::NoServer
             | RunError::Config
@@ -152,7 +164,7 @@ impl Display for RunError {
             | RunError::OtherJournal
             | RunError::GenerationsSpent
             | RunError::System
-            | RunError::NoMemory => write!(f, "{}", sentence(*self)),
+            | RunError::NoMemory => f.write_str(sentence(*self)),
         }
     }
 }

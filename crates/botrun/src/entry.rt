@@ -1,5 +1,5 @@
 // What the log says, but of the server.
-use serverlink::Shown;
+use serverlink::{Shown, put};
 use std::fmt;
 use std::fmt::Display;
 
@@ -31,21 +31,27 @@ pub(crate) enum Entry<'a> {
 impl Display for Entry<'_> {
     fn fmt<W: fmt::Write>(&self, f: &mut fmt::Formatter<W>) -> fmt::Result {
         match *self {
-            Entry::Up(version) => write!(f, "up at version {version}"),
+            Entry::Up(version) => put(f, "up at version ", &version),
             Entry::Records(version, sum) => {
-                write!(f, "records at version {version}: {}", Shown(sum))
+                put(f, "records at version ", &version)?;
+                put(f, ": ", &Shown(sum))
             }
-            Entry::Accepted(number) => write!(f, "change {number} accepted"),
-            Entry::NotDone(code) => write!(f, "refused: {code}"),
-            Entry::LeftOut(word, proc) => write!(f, "left out: {word} {}", Shown(proc)),
-            Entry::Asked(line) => write!(f, "operator: {}", Shown(line)),
-            Entry::GaveWay => write!(f, "operator gone: it was silent, and another waited"),
-            Entry::OtherLayout => write!(
-                f,
-                "a leaf has another layout: run one version of the program on all bots"
-            ),
-            Entry::Compacted => write!(f, "journal written anew"),
-            Entry::Ended => write!(f, "ended"),
+            Entry::Accepted(number) => {
+                put(f, "change ", &number)?;
+                f.write_str(" accepted")
+            }
+            Entry::NotDone(code) => put(f, "refused: ", &code),
+            Entry::LeftOut(word, proc) => {
+                put(f, "left out: ", &word)?;
+                put(f, " ", &Shown(proc))
+            }
+            Entry::Asked(line) => put(f, "operator: ", &Shown(line)),
+            Entry::GaveWay => f.write_str("operator gone: it was silent, and another waited"),
+            Entry::OtherLayout => {
+                f.write_str("a leaf has another layout: run one version of the program on all bots")
+            }
+            Entry::Compacted => f.write_str("journal written anew"),
+            Entry::Ended => f.write_str("ended"),
         }
     }
 }

@@ -341,18 +341,20 @@ fn post(packets: &mut Vec<Sent>, bot: u16, report: BotReport) -> Outcome
     ensures sent { packets.new.items ≡ packets.old.items ++ posted bot report.packets }
 {
     let first = packets.len() as u64 + 1;
-    let count = report.packets.len();
-    send_all(packets, bot, report.packets.into_vec());
+    let (end, logged) = (report.end, report.logged);
+    let (note, calls, outgoing, lines, faults) = report.into_parts();
+    let count = outgoing.len();
+    send_all(packets, bot, outgoing.into_vec());
     Outcome::Report(Report {
         bot,
-        end: report.end,
-        note: report.note,
-        calls: report.calls,
+        end,
+        note,
+        calls,
         first,
         count,
-        lines: report.lines,
-        faults: report.faults,
-        logged: report.logged,
+        lines,
+        faults,
+        logged,
     })
 }
 

@@ -1,5 +1,5 @@
 // A list of values, and copies that can be refused.
-ghost use Rattle.std.specs.Prelude.{◌≡◌, ◌↔◌, ◌++◌, ◌∷◌, [], IsTrue, IfOk, OnOk, OnErr, length};
+ghost use Rattle.std.specs.Prelude.{◌≡◌, ◌<◌, ◌↔◌, ◌++◌, ◌∷◌, [], IsTrue, IfOk, MatchResult, OnOk, OnErr, length};
 
 use crate::memory::NoMemory;
 use std::alloc::Global;
@@ -97,9 +97,9 @@ impl<T: TryCopy> TryCopy for Seq<T> {
 /// A copy of each item, in order.
 ///
 /// # Errors
-/// `NoMemory` where room for a copy is refused.
+/// `NoMemory` where room for a copy is refused: never where there is no item.
 pub fn copies_of<T: TryCopy>(alloc: Global, items: &[T]) -> Result<Vec<T>, NoMemory>
-    ensures { IfOk result (λ copies. copies.items ≡ items.now) }
+    ensures { MatchResult result (λ copies. copies.items ≡ items.now) (λ _. 0 < length items.now) }
 {
     let mut copies = Vec::with_capacity(alloc, items.len())?;
     for item in items {

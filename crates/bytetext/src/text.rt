@@ -1,5 +1,5 @@
 // One text.
-ghost use Rattle.std.specs.Prelude.{◌≡◌, ◌<◌, ◌↔◌, [], IsTrue, IfOk, MatchResult, length};
+ghost use Rattle.std.specs.Prelude.{◌≡◌, ◌<◌, ◌↔◌, [], IsTrue, MatchResult, length};
 
 use crate::memory::NoMemory;
 use crate::seq::{Seq, TryCopy};
@@ -38,9 +38,9 @@ impl Text {
     /// A copy of these bytes.
     ///
     /// # Errors
-    /// `NoMemory` where room for the copy is refused.
+    /// `NoMemory` where room for the copy is refused: never where there is no byte.
     pub fn from_slice(alloc: Global, bytes: &[u8]) -> Result<Text, NoMemory>
-        ensures { IfOk result (λ t. t ≡ bytes.now) }
+        ensures { MatchResult result (λ t. t ≡ bytes.now) (λ _. 0 < length bytes.now) }
     {
         let bytes = bytes_of(alloc, bytes)?;
         Ok(Text { bytes })

@@ -1,4 +1,4 @@
-//! Cases as lines of text: what the programs `vectors`, `botcases` and `edgecases` have in common.
+//! Cases as lines of text: what the programs `vectors` and `botcases` have in common.
 //!
 //! A line of standard input is a case, and the line of standard output for it is its answer. A case is words separated by
 //! spaces. A word is bare, or text between single quotes (which may hold spaces, or nothing), or `x:` and bytes in

@@ -1,5 +1,5 @@
 // One member of a channel.
-ghost use Rattle.std.specs.Prelude.{◌≡◌, IfOk};
+ghost use Rattle.std.specs.Prelude.{◌≡◌, ◌<◌, ◌+◌, length, IfOk, IfErr};
 ghost use Rattle.chanstate.specs.Members.{unmarked, with_mark, edited};
 
 use crate::edit::Edit;
@@ -38,9 +38,10 @@ impl Member {
     /// One without marks, of this nick and address.
     ///
     /// # Errors
-    /// `NoMemory` where room for a copy is refused.
+    /// `NoMemory` where room for a copy is refused: never where the nick, the user name and the host are all empty.
     pub fn new(alloc: Global, nick: &[u8], user: &[u8], host: &[u8]) -> Result<Member, NoMemory>
-        ensures { IfOk result (λ m. m ≡ unmarked nick.now user.now host.now) }
+        ensures member { IfOk result (λ m. m ≡ unmarked nick.now user.now host.now) }
+        ensures memory { IfErr result (λ _. 0 < length nick.now + length user.now + length host.now) }
     {
         Ok(Member {
             nick: Text::from_slice(alloc, nick)?,

@@ -31,9 +31,10 @@ impl ChanState {
     /// announced nothing.
     ///
     /// # Errors
-    /// `NoMemory` where room for the nick is refused.
+    /// `NoMemory` where room for the nick is refused: never where it is empty.
     pub fn new(alloc: Global, nick: &[u8]) -> Result<ChanState, NoMemory>
-        ensures { IfOk result (λ s. s ≡ connected nick.now) }
+        ensures state { IfOk result (λ s. s ≡ connected nick.now) }
+        ensures memory { IfErr result (λ _. 0 < length nick.now) }
     {
         let nick = Text::from_slice(alloc, nick)?;
         Ok(ChanState {

@@ -23,14 +23,13 @@ pub type CommandError = Failure<Advice>;
 impl Display for Advice {
     fn fmt<W: fmt::Write>(&self, f: &mut fmt::Formatter<W>) -> fmt::Result {
         match *self {
-            Advice::TooLong => write!(f, "say at most 600 bytes"),
-            Advice::BareByte => write!(f, "say it in one line, without a carriage return or NUL"),
-            Advice::Unknown => write!(
-                f,
+            Advice::TooLong => f.write_str("say at most 600 bytes"),
+            Advice::BareByte => f.write_str("say it in one line, without a carriage return or NUL"),
+            Advice::Unknown => f.write_str(
                 "begin with addban, addhost, adduser, bind, bot, chan, compact, delban, delhost, deluser, die, global, \
-                 info, jump, say, show, status, sticky or unbind"
+                 info, jump, say, show, status, sticky or unbind",
             ),
-            Advice::Form(word) => write!(f, "{}", form_of(word)),
+            Advice::Form(word) => f.write_str(form_of(word)),
         }
     }
 }

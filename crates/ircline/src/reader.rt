@@ -49,8 +49,8 @@ impl LineReader {
     /// The lines that this piece of the stream ends, in order.
     ///
     /// # Errors
-    /// `NoMemory` where room for the lines, or for the run that is begun, is refused. The reader is as before, and the
-    /// piece can be fed again.
+    /// `NoMemory` where room for the lines, or for the run that is begun, is refused: never where the piece is empty. The
+    /// reader is as before, and the piece can be fed again.
     pub fn feed(&mut self, alloc: Global, piece: &[u8]) -> Result<Vec<Line>, NoMemory>
         // Of any stream whose begun run is held, the lines go on with these.
         ensures lines { (stream : List ℕ) → self.old ≡ held_of stream
@@ -60,10 +60,15 @@ impl LineReader {
         ensures few { length self.new ≤ 511 }
         // Where no run is begun, CR and LF alone take no memory.
         ensures memory { self.old ≡ [] → OnErr result (list_all is_end piece.now ≡ false) }
+        ensures some { OnErr result (0 < length piece.now) }
         ensures err { OnErr result (self.new ≡ self.old) }
     {
+        let held = self.held.as_slice();
+        if piece.is_empty() {
+            return Ok(Vec::new(alloc));
+        }
         let (front, rest) = parted(piece, first_end(piece));
-        let run = joined(alloc, self.held.as_slice(), front)?;
+        let run = joined(alloc, held, front)?;
         let mut lines = Vec::new(alloc);
         if rest.is_empty() {
             self.held = run;

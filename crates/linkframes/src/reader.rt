@@ -28,7 +28,7 @@ impl Model for FrameReader {
 }
 
 impl FrameReader {
-    ghost use Rattle.std.specs.Prelude.{◌<◌, length, IfOk, OnErr};
+    ghost use Rattle.std.specs.Prelude.{◌<◌, length, IfOk, IsErr, IsOk, OnErr};
     ghost use Rattle.std.specs.List.{AllByRecursion};
     ghost use Rattle.linkcalls.specs.Shapes.{HasGoodRecords};
 
@@ -42,10 +42,11 @@ impl FrameReader {
     /// The packets whose frames end in these bytes, and the fault after them if there is one.
     ///
     /// # Errors
-    /// `NoMemory` where a growth is refused: never where no bytes come. The reader is then as before.
+    /// `NoMemory` where a growth is refused: never where no bytes come, nor after a fault. The reader is then as before.
     pub fn feed(&mut self, alloc: Global, bytes: &[u8]) -> Result<Feed, NoMemory>
         ensures good { IfOk result (λ feed. AllByRecursion HasGoodRecords feed.packets) }
         ensures memory { OnErr result (0 < length bytes.now) }
+        ensures failed { IsErr self.old → IsOk result }
     {
         self.reader.feed(alloc, bytes)
     }

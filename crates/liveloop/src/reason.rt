@@ -71,7 +71,7 @@ impl LiveReason {
 
 impl Display for LiveReason {
     fn fmt<W: fmt::Write>(&self, f: &mut fmt::Formatter<W>) -> fmt::Result {
-        write!(f, "{}", self.sentence())
+        f.write_str(self.sentence())
     }
 }
 

@@ -2,7 +2,7 @@
 ghost use Rattle.std.specs.Prelude.{◌≡◌, ◌<◌, ◌≤◌, [], ◌∷◌, ◌++◌, ℕ, Err, length, map, IfOk, OnOk};
 ghost use Rattle.script.specs.Reading.{HasFault};
 ghost use Rattle.script.specs.Reasons.{TellsWhy};
-ghost use Rattle.scriptfaults.specs.declared.reason.Reason.TheVariants as why;
+ghost use Rattle.script.specs.declared.reason.Reason.TheVariants as why;
 ghost use Rattle.script.specs.declared.TheConstants.{MAX_SCRIPT};
 ghost use Rattle.linkcalls.specs.declared.TheConstants.{MAX_LEAVES};
 ghost use Rattle.botworld.specs.Standing.{Past, Stands};

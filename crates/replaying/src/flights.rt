@@ -13,7 +13,7 @@ const HUB_STUB: u32 = 10;
 const LEAF_STUB: u32 = 5;
 
 /// A packet that was sent.
-#[derive(Clone, Copy, Drop)]
+#[derive(Drop)]
 pub struct Flight {
     /// The sender's number.
     pub from: u16,

@@ -21,7 +21,6 @@
 #![tactic(auto)]
 
 mod canvas;
-mod drawing;
 mod faults;
 mod flights;
 mod notes;
@@ -33,7 +32,6 @@ mod scripts;
 mod statuses;
 mod words;
 
-pub use crate::drawing::{DrawError, draw};
 pub use crate::faults::{PictureError, PictureFault};
 pub use crate::painting::{MAX_LEAVES, MAX_STEPS, picture};
 pub use crate::pictures::picture_script;

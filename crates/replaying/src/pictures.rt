@@ -1,7 +1,10 @@
 // Scripts, drawn.
-use crate::drawing::{DrawError, draw};
-use crate::statuses::{FAULT, STREAM_FAULT, not_read, out_of_memory};
+use crate::painting::picture;
+use crate::scripts::replay_told;
+use crate::statuses::{FAULT, not_read, out_of_memory};
+use bytetext::Failure;
 use procstore::{ProcStore, Promise, Run};
+use replay::{script_bytes, write_text};
 use std::fs::File;
 use std::io;
 use std::rt::Files;
@@ -29,15 +32,23 @@ fn drawn<R: Eprint + AllocGlobal, P: Promise, B: Run, S: Stream>(
     store: ProcStore<P, B>,
     stream: &mut S,
 ) -> u8 {
-    let error = match draw(rt.alloc(), store, stream) {
-        Ok(()) => return 0,
-        Err(error) => error,
+    let script = match script_bytes(rt.alloc(), stream) {
+        Ok(script) => script,
+        Err(error) => return replay_told(rt, error),
     };
-    let status = match error {
-        DrawError::Picture(_) => FAULT,
-        DrawError::Read | DrawError::Write => STREAM_FAULT,
-        DrawError::NoMemory => return out_of_memory(rt),
-    };
-    let _told = eprintln!(rt; "eggnet: {error}");
-    status
+    match picture(rt.alloc(), store, script.as_slice()) {
+        Ok(svg) => written(rt, stream, svg.as_slice()),
+        Err(Failure::Refused(fault)) => {
+            let _told = eprintln!(rt; "eggnet: {fault}");
+            FAULT
+        }
+        Err(Failure::NoMemory) => out_of_memory(rt),
+    }
+}
+
+fn written<R: Eprint, S: Stream>(rt: &R, stream: &mut S, svg: &[u8]) -> u8 {
+    match write_text(stream, svg) {
+        Ok(()) => 0,
+        Err(error) => replay_told(rt, error),
+    }
 }

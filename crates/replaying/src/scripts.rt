@@ -5,7 +5,7 @@ use replay::{ReplayError, replay};
 use std::fs::File;
 use std::io;
 use std::rt::Files;
-use streams::Duplex;
+use streams::{Duplex, Stream};
 
 /// Replays the script on standard input, with its transcript on standard output. Standard error says why where it ends
 /// early; the status says it too.
@@ -13,11 +13,7 @@ pub fn replay_input<R: Input + Print + Eprint + AllocGlobal, P: Promise, B: Run>
     rt: &R,
     store: ProcStore<P, B>,
 ) -> u8 {
-    let mut stream = Duplex::new(rt.reader(), io::writer(rt));
-    match replay(rt.alloc(), store, &mut stream) {
-        Ok(()) => 0,
-        Err(error) => replay_told(rt, error),
-    }
+    replayed(rt, store, &mut Duplex::new(rt.reader(), io::writer(rt)))
 }
 
 /// Replays the script in a file, as [`replay_input`] does that on standard input.
@@ -26,18 +22,26 @@ pub fn replay_file<R: Print + Eprint + AllocGlobal + Files<File = File>, P: Prom
     store: ProcStore<P, B>,
     file: &str,
 ) -> u8 {
-    let Ok(script) = File::open(rt, file) else {
-        return not_read(rt, file);
-    };
-    let mut stream = Duplex::new(script, io::writer(rt));
-    match replay(rt.alloc(), store, &mut stream) {
+    match File::open(rt, file) {
+        Ok(script) => replayed(rt, store, &mut Duplex::new(script, io::writer(rt))),
+        Err(_) => not_read(rt, file),
+    }
+}
+
+// Replays the script that a stream gives.
+fn replayed<R: Eprint + AllocGlobal, P: Promise, B: Run, S: Stream>(
+    rt: &R,
+    store: ProcStore<P, B>,
+    stream: &mut S,
+) -> u8 {
+    match replay(rt.alloc(), store, stream) {
         Ok(()) => 0,
         Err(error) => replay_told(rt, error),
     }
 }
 
-// Tells why a replay ended early.
-fn replay_told<R: Eprint>(rt: &R, error: ReplayError) -> u8 {
+// Tells why a script's run was not told, or not drawn.
+pub(crate) fn replay_told<R: Eprint>(rt: &R, error: ReplayError) -> u8 {
     let status = match error {
         ReplayError::Script(_) => FAULT,
         ReplayError::Read | ReplayError::Write => STREAM_FAULT,

@@ -6,14 +6,14 @@ use Rattle.linkcalls.specs.declared.TheConstants.{MAX_LEAVES}
 use Rattle.script.specs.declared.command.Command.{Command}
 use Rattle.script.specs.declared.saying.Saying.{Saying}
 use Rattle.script.specs.declared.saying.Saying.TheVariants.{Nothing, Leaves, Zone, Told, Wrong}
-use Rattle.scriptfaults.specs.declared.verb.Verb.{Verb}
-use Rattle.scriptfaults.specs.declared.verb.Verb.TheVariants.{Leaves as leaves_verb, Ask as ask_verb, Pump as pump_verb, Connect as connect_verb}
-use Rattle.scriptfaults.specs.declared.verb.Verb.TheVariants.{Compact as compact_verb, Restart as restart_verb}
-use Rattle.scriptfaults.specs.declared.verb.Verb.TheVariants.{Line as line_verb, Clock as clock_verb, Bind as bind_verb, Unbind as unbind_verb}
-use Rattle.scriptfaults.specs.declared.verb.Verb.TheVariants.{Deliver as deliver_verb, Show as show_verb, Zone as zone_verb}
+use Rattle.script.specs.declared.verb.Verb.{Verb}
+use Rattle.script.specs.declared.verb.Verb.TheVariants.{Leaves as leaves_verb, Ask as ask_verb, Pump as pump_verb, Connect as connect_verb}
+use Rattle.script.specs.declared.verb.Verb.TheVariants.{Compact as compact_verb, Restart as restart_verb}
+use Rattle.script.specs.declared.verb.Verb.TheVariants.{Line as line_verb, Clock as clock_verb, Bind as bind_verb, Unbind as unbind_verb}
+use Rattle.script.specs.declared.verb.Verb.TheVariants.{Deliver as deliver_verb, Show as show_verb, Zone as zone_verb}
 use Rattle.script.specs.Grammar.{few_leaves, counted, zoned, told, two_words, more_words, saying_by_words, saying_of, bot_of}
 use Rattle.bottimers.specs.Zones.{TzText}
-use Rattle.scriptfaults.specs.Vocabulary.{verb_named}
+use Rattle.script.specs.Vocabulary.{verb_named}
 use Rattle.scriptwords.specs.Words.{words_of}
 use Rattle.script.specs.Reading.{said, onto_said}
 use Rattle.script.specs.Outcomes.{LinesReadAs}

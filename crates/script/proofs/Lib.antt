@@ -1,3 +1,4 @@
+pub mod Gaps
 pub mod Sayings
 pub mod Faults
 pub mod Fewness

@@ -11,7 +11,7 @@ use Rattle.script.specs.declared.saying.Saying.TheVariants.{Nothing, Leaves, Zon
 use Rattle.script.specs.declared.reading.Script.{Script}
 use Rattle.script.specs.Grammar.{saying_of, saying_by_words, more_words}
 use Rattle.bottimers.specs.Zones.{TzText}
-use Rattle.scriptfaults.specs.Vocabulary.{verb_named}
+use Rattle.script.specs.Vocabulary.{verb_named}
 use Rattle.script.specs.Reading.{said, onto_said, are_told, are_told_in_zone, begins_script, zone_said, BreaksAt}
 use Rattle.script.specs.Outcomes.{so_far, GoesOn, HasLineFault}
 

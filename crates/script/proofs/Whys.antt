@@ -6,9 +6,9 @@ use Rattle.std.specs.Borrow.{Bor}
 use Rattle.std.proofs.lemmas.List.{get_or-map}
 use Rattle.bytetext.specs.declared.failure.Failure.{Failure}
 use Rattle.bytetext.specs.declared.failure.Failure.TheVariants.{Refused, NoMemory}
-use Rattle.scriptfaults.specs.declared.reason.Reason.{Reason}
-use Rattle.scriptfaults.specs.declared.reason.Reason.TheVariants.{TooLong}
-use Rattle.scriptfaults.specs.Lines.{line_reason}
+use Rattle.script.specs.declared.reason.Reason.{Reason}
+use Rattle.script.specs.declared.reason.Reason.TheVariants.{TooLong}
+use Rattle.script.specs.LineReasons.{line_reason}
 use Rattle.script.specs.declared.TheConstants.{MAX_SCRIPT}
 use Rattle.script.specs.declared.error.ScriptFault.{ScriptFault}
 use Rattle.script.specs.declared.saying.Saying.{Saying}

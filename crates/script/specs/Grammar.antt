@@ -8,12 +8,12 @@ use Rattle.botcore.specs.declared.event.Event.{Event}
 use Rattle.botcore.specs.declared.event.Event.TheVariants.{Ask, Pump, Compact, Restart, Connect, Bind, Unbind, Clock}
 use Rattle.botworld.specs.declared.step.Step.{Step}
 use Rattle.botworld.specs.declared.step.Step.TheVariants.{At, Deliver}
-use Rattle.scriptfaults.specs.declared.verb.Verb.{Verb}
-use Rattle.scriptfaults.specs.declared.verb.Verb.TheVariants.{Leaves as leaves_verb, Ask as ask_verb, Pump as pump_verb, Connect as connect_verb}
-use Rattle.scriptfaults.specs.declared.verb.Verb.TheVariants.{Compact as compact_verb, Restart as restart_verb}
-use Rattle.scriptfaults.specs.declared.verb.Verb.TheVariants.{Line as line_verb, Clock as clock_verb, Bind as bind_verb, Unbind as unbind_verb}
-use Rattle.scriptfaults.specs.declared.verb.Verb.TheVariants.{Deliver as deliver_verb, Show as show_verb, Zone as zone_verb}
-use Rattle.scriptfaults.specs.Vocabulary.{verb_named}
+use Rattle.script.specs.declared.verb.Verb.{Verb}
+use Rattle.script.specs.declared.verb.Verb.TheVariants.{Leaves as leaves_verb, Ask as ask_verb, Pump as pump_verb, Connect as connect_verb}
+use Rattle.script.specs.declared.verb.Verb.TheVariants.{Compact as compact_verb, Restart as restart_verb}
+use Rattle.script.specs.declared.verb.Verb.TheVariants.{Line as line_verb, Clock as clock_verb, Bind as bind_verb, Unbind as unbind_verb}
+use Rattle.script.specs.declared.verb.Verb.TheVariants.{Deliver as deliver_verb, Show as show_verb, Zone as zone_verb}
+use Rattle.script.specs.Vocabulary.{verb_named}
 use Rattle.script.specs.declared.saying.Saying.{Saying}
 use Rattle.script.specs.declared.saying.Saying.TheVariants.{Nothing, Leaves, Zone, Told, Wrong}
 use Rattle.bottimers.specs.Zones.{TzText, rule_in}

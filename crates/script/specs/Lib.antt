@@ -1,5 +1,10 @@
 pub use Rattle.scriptwords.specs.Words
 pub use Rattle.scriptwords.specs.Changes
+pub mod Vocabulary
+pub mod Spacing
+pub mod ChangeDoubts
+pub mod Doubts
+pub mod LineReasons
 pub mod Binds
 pub mod Lines
 pub mod Grammar

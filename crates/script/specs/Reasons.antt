@@ -2,9 +2,9 @@
 use Rattle.std.specs.Prelude.{◌≡◌, ℕ, zero, suc, Bool, true, false, List, [], ◌∷◌, length, take, get_or, nat_lt, Result, Ok, Err, unwrap_or, if◌then◌else◌}
 use Rattle.bytetext.specs.declared.failure.Failure.{Failure}
 use Rattle.bytetext.specs.declared.failure.Failure.TheVariants.{Refused, NoMemory}
-use Rattle.scriptfaults.specs.declared.reason.Reason.{Reason}
-use Rattle.scriptfaults.specs.declared.reason.Reason.TheVariants.{TooLong, NoCommand, LeavesFirst, LeavesAgain, ZoneLate}
-use Rattle.scriptfaults.specs.Lines.{line_reason}
+use Rattle.script.specs.declared.reason.Reason.{Reason}
+use Rattle.script.specs.declared.reason.Reason.TheVariants.{TooLong, NoCommand, LeavesFirst, LeavesAgain, ZoneLate}
+use Rattle.script.specs.LineReasons.{line_reason}
 use Rattle.script.specs.declared.TheConstants.{MAX_SCRIPT}
 use Rattle.script.specs.declared.error.ScriptFault.{ScriptFault}
 use Rattle.script.specs.declared.saying.Saying.{Saying}

@@ -1,6 +1,6 @@
 // Why a script is not read.
+use crate::reason::Reason;
 use bytetext::Failure;
-use scriptfaults::Reason;
 use thiserror::Error;
 
 /// Where a script breaks a rule, and why. It prints as `line N: script fault`, and the reason on a line of its own.

@@ -22,22 +22,44 @@
 //! let change = change_of(alloc, b"adduser alice")?;      // as after `ask 0 `
 //! ```
 //!
+//! [`line_reason`] answers why a line is wrong by itself, or none where it is right or says nothing. A [`Reason`] prints as
+//! a sentence that names the word by its place, and says what was expected there. Where a line is wrong and ends in a
+//! carriage return, begins with a byte order mark, or has a space or a tab too many, that is told in the place of the rest.
+//!
+//! ```text
+//! line_reason(alloc, b"pump 0")?;        // None
+//! line_reason(alloc, b"fly 1")?;         // word 1 is no command: say leaves, zone, ask, ..
+//! line_reason(alloc, b"pump 0 ")?;       // the line ends in a space: ..
+//! line_reason(alloc, b"pump x")?;        // word 2 is no number of a bot: ..
+//! ```
+//!
 //! A reader of other scripts takes the same pieces: the words of a line by [`pieces_of`], a [`number`], a last word that
 //! takes the rest by [`rest_of`], and what a line says by [`saying_of`].
 #![tactic(auto)]
 
 mod binding;
+mod change_doubts;
+mod change_word;
 mod command;
+mod doubts;
 mod error;
 mod lines;
 mod reading;
+mod reason;
 mod saying;
+mod spacing;
+mod verb;
+mod wrong_line;
 
+pub use crate::change_word::ChangeWord;
 pub use crate::command::{Command, Commands, Steps};
 pub use crate::error::{ScriptError, ScriptFault};
 pub use crate::reading::Script;
+pub use crate::reason::Reason;
 pub use crate::saying::{Saying, saying_of};
-pub use scriptfaults::{Reason, Verb, line_reason, spacing_reason};
+pub use crate::spacing::spacing_reason;
+pub use crate::verb::Verb;
+pub use crate::wrong_line::line_reason;
 pub use scriptwords::{change_of, number, pieces_of, rest_of};
 
 /// The most bytes that a script has.

@@ -1,6 +1,6 @@
 // A whole script.
 ghost use Rattle.std.specs.Prelude.{◌≡◌, IfOk, map, unwrap_or};
-ghost use Rattle.scriptfaults.specs.Lines.{line_reason};
+ghost use Rattle.script.specs.LineReasons.{line_reason};
 ghost use Rattle.script.specs.Outcomes.{GoesOn, LinesReadAs, so_far};
 ghost use Rattle.script.specs.Reasons.{LinesTellWhy, TellsReason, order_reason};
 ghost use Rattle.script.specs.declared.saying.Saying.TheVariants.{Leaves, Told};
@@ -8,11 +8,12 @@ ghost use Rattle.script.specs.declared.saying.Saying.TheVariants.{Leaves, Told};
 use crate::MAX_SCRIPT;
 use crate::command::{Command, Commands};
 use crate::error::{ScriptError, ScriptFault};
+use crate::reason::Reason;
 use crate::saying::{Saying, saying_of};
+use crate::wrong_line::line_reason;
 use bottimers::Zone;
 use bytetext::{Failure, NoMemory, TryCopy};
 use linkcalls::MAX_LEAVES;
-use scriptfaults::{Reason, line_reason};
 use scriptwords::pieces_of;
 use std::alloc::Global;
 
@@ -29,7 +30,7 @@ pub struct Script {
 
 impl Script {
     ghost use Rattle.std.specs.Prelude.{◌≡◌, ◌<◌, ◌≤◌, length, IfOk};
-    ghost use Rattle.scriptfaults.specs.declared.reason.Reason.TheVariants as why;
+    ghost use Rattle.script.specs.declared.reason.Reason.TheVariants as why;
     ghost use Rattle.script.specs.Outcomes.{ReadsAs};
     ghost use Rattle.script.specs.Reasons.{TellsWhy};
 

@@ -1,20 +1,20 @@
 // What one line says.
 ghost use Rattle.std.specs.Prelude.{◌≡◌, ◌∷◌, map, option_and_then, IfOk};
 ghost use Rattle.bottimers.specs.Zones.{rule_in};
-ghost use Rattle.scriptfaults.specs.Vocabulary.{verb_named};
+ghost use Rattle.script.specs.Vocabulary.{verb_named};
 ghost use Rattle.script.specs.Grammar.{counted, zoned, few_leaves, told, one_step, event_at, told_to, asked, read, clocked, bound, unbound};
 ghost use Rattle.script.specs.Grammar.{two_words, more_words, saying_by_words, saying_of};
 
 use crate::binding::{new_bind, old_bind};
 use crate::command::{Command, Steps};
 use crate::lines::line_steps;
+use crate::verb::Verb;
 use bindtable::BindKind;
 use botcore::Event;
 use bottimers::Zone;
 use botworld::Step;
 use bytetext::NoMemory;
 use linkcalls::MAX_LEAVES;
-use scriptfaults::Verb;
 use scriptwords::{bot_number, change_named, number, pieces_of, rest_of};
 use std::alloc::Global;
 

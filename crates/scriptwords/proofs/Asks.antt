@@ -1,15 +1,18 @@
 -- A change that is asked for, word by word.
-use Rattle.std.proofs.Common.{◌≡◌, ℕ, ◌+◌, ◌≤◌, List, [], ◌∷◌, length, take, drop, get_or, map, ap, arith}
-use Rattle.std.proofs.lemmas.List.{take_all}
-use Rattle.std.specs.Borrow.{Bor}
-use Rattle.scriptwords.specs.Changes.{change_named, change_by_words}
+use Rattle.std.proofs.Common.{◌≡◌, ◌==◌, ℕ, ◌≤◌, List, [], ◌∷◌, length, ap, ◌∙◌, sym, arith}
+use Rattle.std.proofs.lemmas.List.Splits.{join_with_byte-slice_split, length-slice_split}
+use Rattle.scriptwords.specs.Changes.{change_named, change_by_words, change_of}
+use Rattle.scriptwords.specs.Words.{words_of, line_of}
 
--- words that are lent
-abbrev pub now_of : List (Bor (List ℕ)) → List (List ℕ)
-now_of words = map (λ word. word.now) words
+-- after four words a change takes the rest of the line
+module _ (name a b c d rest : List ℕ) where
+  change_named-line : (words : List (List ℕ)) → line_of words ≡ rest → 1 ≤ length words
+      → change_named name (a ∷ b ∷ c ∷ d ∷ rest ∷ []) ≡ change_named name (a ∷ b ∷ c ∷ d ∷ words)
+  change_named-line [] is some = absurd (omega (arith, some))
+  change_named-line (word ∷ words) is some = ap (λ line. change_named name (a ∷ b ∷ c ∷ d ∷ line ∷ [])) (sym is)
 
--- the first is the name
-pub change_named-at : (words : List (Bor (List ℕ))) (d : Bor (List ℕ)) (n : ℕ) → 1 ≤ length words → length words ≤ n + 1
-    → change_named (get_or words 0 d).now (now_of (take n (drop 1 words))) ≡ change_by_words (now_of words)
-change_named-at [] d n most all = absurd (omega arith)
-change_named-at (x ∷ rest) d n most all = ap (λ ws. change_named x.now (now_of ws)) (take_all n rest (omega arith))
+  pub change_of-rest : (line : List ℕ) → words_of line ≡ name ∷ a ∷ b ∷ c ∷ d ∷ words_of rest
+      → change_named name (a ∷ b ∷ c ∷ d ∷ rest ∷ []) ≡ change_of line
+  change_of-rest line is =
+      change_named-line (words_of rest) (join_with_byte-slice_split 32 rest) (omega (arith, length-slice_split (λ b. b == 32) rest))
+      ∙ ap change_by_words (sym is)

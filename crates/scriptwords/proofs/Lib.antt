@@ -1,3 +1,4 @@
 pub mod Values
 pub mod Rests
 pub mod Asks
+pub mod Cuts

@@ -7,6 +7,11 @@ use Rattle.std.specs.List.{list_all, slice_split, join_with_byte}
 abbrev pub words_of : List ℕ → List (List ℕ)
 words_of line = slice_split (λ b. b == 32) line
 
+-- the words of a rest, which may be none
+abbrev pub words_in : Option (List ℕ) → List (List ℕ)
+words_in None = []
+words_in (Some rest) = words_of rest
+
 -- the words from one on as a line of their own again: the rest of the line, spaces and all
 abbrev pub line_of : List (List ℕ) → List ℕ
 line_of words = join_with_byte 32 words

@@ -2,10 +2,10 @@
 ghost use Rattle.std.specs.Prelude.{◌≡◌, ◌≢◌, ◌∷◌, map, option_map, None, IfOk, IfErr};
 ghost use Rattle.userfile.specs.declared.change.Change.TheVariants.{SetChan, SetInfo, SetSticky};
 ghost use Rattle.scriptwords.specs.Changes.{by_more_words, by_one_word, by_three_words, by_two_words, info_by_words, pair_of};
-ghost use Rattle.scriptwords.specs.Changes.{change_by_count, change_by_words, change_named, change_of, channel_of, comment_of, flags_of, mark_of};
+ghost use Rattle.scriptwords.specs.Changes.{change_by_count, change_named, change_of, channel_of, comment_of, flags_of, mark_of};
 
 use crate::numeral::number;
-use crate::pieces::pieces_of;
+use crate::pieces::first_word;
 use crate::rest::rest_of;
 use bytetext::{NoMemory, Text};
 use flagexpr::Flags;
@@ -25,22 +25,33 @@ pub enum Pair {
 /// The change that these words spell, with one space between each two; none where they are no change.
 ///
 /// # Errors
-/// `NoMemory` where room is refused.
+/// `NoMemory` where room is refused: never where they are no change.
 pub fn change_of(alloc: Global, words: &[u8]) -> Result<Option<Change>, NoMemory>
-    ensures { IfOk result (λ change. change ≡ change_of words.now) }
+    ensures change { IfOk result (λ change. change ≡ change_of words.now) }
+    ensures memory { IfErr result (λ _. change_of words.now ≢ None) }
 {
-    let words = pieces_of(alloc, words, b' ')?;
-    change_by_words(alloc, words.as_slice())
-}
-
-// The first word is the name.
-fn change_by_words(alloc: Global, words: &[&[u8]]) -> Result<Option<Change>, NoMemory>
-    ensures { IfOk result (λ change. change ≡ change_by_words (map (λ word. word.now) words.now)) }
-{
-    match words {
-        [] => Ok(None),
-        [name, words @ ..] => change_named(alloc, name, words),
-    }
+    let (name, rest) = first_word(words);
+    let Some(rest) = rest else {
+        return change_named(alloc, name, &[]);
+    };
+    let (a, rest) = first_word(rest);
+    let Some(rest) = rest else {
+        return change_named(alloc, name, &[a]);
+    };
+    let (b, rest) = first_word(rest);
+    let Some(rest) = rest else {
+        return change_named(alloc, name, &[a, b]);
+    };
+    let (c, rest) = first_word(rest);
+    let Some(rest) = rest else {
+        return change_named(alloc, name, &[a, b, c]);
+    };
+    let (d, rest) = first_word(rest);
+    let Some(rest) = rest else {
+        return change_named(alloc, name, &[a, b, c, d]);
+    };
+    // After four words only a text follows, which takes the rest of the line.
+    change_named(alloc, name, &[a, b, c, d, rest])
 }
 
 /// The change of this name and these words; none where they are no change.

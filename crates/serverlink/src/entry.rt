@@ -1,5 +1,5 @@
 // What the log says of the server.
-use crate::shown::Shown;
+use crate::shown::{Shown, put};
 use crate::why::{Why, why_text};
 use dialling::DialFault;
 use std::fmt;
@@ -100,14 +100,4 @@ impl Display for Entry<'_> {
             }
         }
     }
-}
-
-// Writes words, and what follows them.
-fn put<W: fmt::Write, D: Display>(
-    f: &mut fmt::Formatter<W>,
-    words: &str,
-    shown: &D,
-) -> fmt::Result {
-    f.write_str(words)?;
-    shown.fmt(f)
 }

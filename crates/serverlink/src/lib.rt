@@ -43,6 +43,6 @@ pub use crate::channels::Channels;
 pub use crate::own_lines::OwnLines;
 pub use crate::server_wire::ServerWire;
 pub use crate::session::Session;
-pub use crate::shown::Shown;
+pub use crate::shown::{Shown, put};
 pub use crate::uplink::Uplink;
 pub use crate::why::Why;

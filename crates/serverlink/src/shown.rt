@@ -22,3 +22,16 @@ impl Display for Shown<'_> {
         Ok(())
     }
 }
+
+/// Writes words, and what follows them.
+///
+/// # Errors
+/// The formatter's.
+pub fn put<W: fmt::Write, D: Display>(
+    f: &mut fmt::Formatter<W>,
+    words: &str,
+    shown: &D,
+) -> fmt::Result {
+    f.write_str(words)?;
+    shown.fmt(f)
+}

@@ -13,3 +13,4 @@ pub mod OldLaws
 pub mod TagLaws
 pub mod ReaderLaws
 pub mod RecordLengths
+mod WriterLaws

@@ -1,5 +1,5 @@
 // The fields of a ban, as a change adds it and as a record holds it.
-ghost use Rattle.std.specs.Prelude.{◌≡◌, ◌++◌, ◌∷◌, OnOk, true};
+ghost use Rattle.std.specs.Prelude.{◌≡◌, ◌≤◌, ◌<◌, ◌+◌, ◌++◌, ◌∷◌, OnOk, OnErr, true, length, vec_capacity, vec_len};
 ghost use Rattle.userfile.specs.Together.{is_good_ban};
 ghost use Rattle.usercodec.specs.Bans.{ban_of};
 ghost use Rattle.usercodec.specs.Answers.{Gives};
@@ -28,10 +28,13 @@ pub(crate) struct BanFields<'a> {
 /// Writes the one spelling of a ban's record after some bytes.
 ///
 /// # Errors
-/// `NoMemory` where room for it is refused; a part of it may then stand after the bytes.
+/// `NoMemory` where room for it is refused, never where the capacity is there; a part of it may then stand after the
+/// bytes.
 pub fn put_ban(out: &mut Vec<u8>, ban: &Ban) -> Result<(), NoMemory>
     requires { is_good_ban ban.now ≡ true }
-    ensures { OnOk result (out.new.items ≡ out.old.items ++ 4 ∷ held_ban_bytes ban.now) }
+    ensures bytes { OnOk result (out.new.items ≡ out.old.items ++ 4 ∷ held_ban_bytes ban.now) }
+    ensures memory { OnErr result (vec_capacity out.old < vec_len out.old + length (4 ∷ held_ban_bytes ban.now)) }
+    ensures capacity { vec_capacity out.old ≤ vec_capacity out.new }
 {
     put_byte(out, 4)?;
     put_text(out, ban.channel.as_bytes())?;

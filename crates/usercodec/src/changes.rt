@@ -1,5 +1,6 @@
 // Changes as bytes.
 ghost use Rattle.std.specs.Prelude.{◌≡◌, ℕ, List, ◌++◌, ◌∷◌, length, take, None, IfOk, OnOk};
+ghost use Rattle.std.specs.Prelude.{◌≤◌, ◌<◌, ◌+◌, OnErr, vec_capacity, vec_len};
 ghost use Rattle.std.specs.Int.{w64};
 ghost use Rattle.userfile.specs.Apply.{bad_shape};
 ghost use Rattle.usercodec.specs.Fields.{number, text, flags};
@@ -34,10 +35,13 @@ pub fn write_change(alloc: Global, change: &Change) -> Result<Vec<u8>, NoMemory>
 /// Writes the one spelling of a change after some bytes.
 ///
 /// # Errors
-/// `NoMemory` where room for it is refused; a part of it may then stand after the bytes.
+/// `NoMemory` where room for it is refused, never where the capacity is there; a part of it may then stand after the
+/// bytes.
 pub fn put_change(out: &mut Vec<u8>, change: &Change) -> Result<(), NoMemory>
     requires { bad_shape change.now ≡ None }
-    ensures { OnOk result (out.new.items ≡ out.old.items ++ change_bytes change.now) }
+    ensures bytes { OnOk result (out.new.items ≡ out.old.items ++ change_bytes change.now) }
+    ensures memory { OnErr result (vec_capacity out.old < vec_len out.old + length (change_bytes change.now)) }
+    ensures capacity { vec_capacity out.old ≤ vec_capacity out.new }
 {
     put_fields(out, change)
 }
@@ -45,7 +49,9 @@ pub fn put_change(out: &mut Vec<u8>, change: &Change) -> Result<(), NoMemory>
 // The same for any change whose texts have lengths of one byte.
 fn put_fields(out: &mut Vec<u8>, change: &Change) -> Result<(), NoMemory>
     requires { ChangeIsShort change.now }
-    ensures { OnOk result (out.new.items ≡ out.old.items ++ change_bytes change.now) }
+    ensures bytes { OnOk result (out.new.items ≡ out.old.items ++ change_bytes change.now) }
+    ensures memory { OnErr result (vec_capacity out.old < vec_len out.old + length (change_bytes change.now)) }
+    ensures capacity { vec_capacity out.old ≤ vec_capacity out.new }
 {
     match change {
         Change::AddUser { handle } => put_one(out, 1, handle),
@@ -86,7 +92,9 @@ fn put_fields(out: &mut Vec<u8>, change: &Change) -> Result<(), NoMemory>
 // A tag and a text.
 fn put_one(out: &mut Vec<u8>, tag: u8, first: &Text) -> Result<(), NoMemory>
     requires { IsShort first.now }
-    ensures { OnOk result (out.new.items ≡ out.old.items ++ tag ∷ text first.now) }
+    ensures bytes { OnOk result (out.new.items ≡ out.old.items ++ tag ∷ text first.now) }
+    ensures memory { OnErr result (vec_capacity out.old < vec_len out.old + length (tag ∷ text first.now)) }
+    ensures capacity { vec_capacity out.old ≤ vec_capacity out.new }
 {
     put_byte(out, tag)?;
     put_text(out, first.as_bytes())
@@ -96,7 +104,9 @@ fn put_one(out: &mut Vec<u8>, tag: u8, first: &Text) -> Result<(), NoMemory>
 fn put_two(out: &mut Vec<u8>, tag: u8, first: &Text, second: &Text) -> Result<(), NoMemory>
     requires first { IsShort first.now }
     requires second { IsShort second.now }
-    ensures { OnOk result (out.new.items ≡ out.old.items ++ tag ∷ (text first.now ++ text second.now)) }
+    ensures bytes { OnOk result (out.new.items ≡ out.old.items ++ tag ∷ (text first.now ++ text second.now)) }
+    ensures memory { OnErr result (vec_capacity out.old < vec_len out.old + length (tag ∷ (text first.now ++ text second.now))) }
+    ensures capacity { vec_capacity out.old ≤ vec_capacity out.new }
 {
     put_one(out, tag, first)?;
     put_text(out, second.as_bytes())
@@ -105,7 +115,9 @@ fn put_two(out: &mut Vec<u8>, tag: u8, first: &Text, second: &Text) -> Result<()
 // A tag, a text and flags.
 fn put_set(out: &mut Vec<u8>, tag: u8, handle: &Text, letters: Flags) -> Result<(), NoMemory>
     requires { IsShort handle.now }
-    ensures { OnOk result (out.new.items ≡ out.old.items ++ tag ∷ (text handle.now ++ flags letters)) }
+    ensures bytes { OnOk result (out.new.items ≡ out.old.items ++ tag ∷ (text handle.now ++ flags letters)) }
+    ensures memory { OnErr result (vec_capacity out.old < vec_len out.old + length (tag ∷ (text handle.now ++ flags letters))) }
+    ensures capacity { vec_capacity out.old ≤ vec_capacity out.new }
 {
     put_one(out, tag, handle)?;
     put_flags(out, letters)

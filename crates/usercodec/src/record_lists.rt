@@ -1,5 +1,5 @@
 // Several records, one after the other.
-ghost use Rattle.std.specs.Prelude.{◌≡◌, ◌<◌, ◌++◌, OnOk, IfErr};
+ghost use Rattle.std.specs.Prelude.{◌≡◌, ◌≤◌, ◌<◌, ◌+◌, ◌++◌, length, OnOk, OnErr, IfErr, vec_capacity, vec_len};
 ghost use Rattle.std.specs.List.{AllByRecursion, flat_map};
 ghost use Rattle.usercodec.specs.Answers.{Finds};
 ghost use Rattle.usercodec.specs.Records.{record_bytes, HasShape, so_many_records_at};
@@ -15,10 +15,13 @@ use std::alloc::Global;
 /// Writes the one spelling of each record after some bytes, one after the other. How many there are is not written.
 ///
 /// # Errors
-/// `NoMemory` where room for them is refused; a part of them may then stand after the bytes.
+/// `NoMemory` where room for them is refused, never where the capacity is there; a part of them may then stand after
+/// the bytes.
 pub fn put_records(out: &mut Vec<u8>, records: &[Record]) -> Result<(), NoMemory>
     requires { AllByRecursion HasShape records.now }
-    ensures { OnOk result (out.new.items ≡ out.old.items ++ flat_map record_bytes records.now) }
+    ensures bytes { OnOk result (out.new.items ≡ out.old.items ++ flat_map record_bytes records.now) }
+    ensures memory { OnErr result (vec_capacity out.old < vec_len out.old + length (flat_map record_bytes records.now)) }
+    ensures capacity { vec_capacity out.old ≤ vec_capacity out.new }
 {
     for value in records {
         put_record(out, value)?;

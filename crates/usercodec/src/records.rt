@@ -1,5 +1,6 @@
 // Records as bytes.
 ghost use Rattle.std.specs.Prelude.{◌≡◌, ℕ, List, ◌++◌, ◌∷◌, length, take, IfOk, OnOk};
+ghost use Rattle.std.specs.Prelude.{◌≤◌, ◌<◌, ◌+◌, OnErr, vec_capacity, vec_len};
 ghost use Rattle.usercodec.specs.declared.records.Record.{Record};
 ghost use Rattle.usercodec.specs.Answers.{Makes, Decodes, Reads};
 ghost use Rattle.usercodec.specs.Records.{record_bytes, HasShape, IsGoodRecord, record_fields_at, record_at};
@@ -48,10 +49,13 @@ pub fn write_record(alloc: Global, value: &Record) -> Result<Vec<u8>, NoMemory>
 /// Writes the one spelling of a record after some bytes.
 ///
 /// # Errors
-/// `NoMemory` where room for it is refused; a part of it may then stand after the bytes.
+/// `NoMemory` where room for it is refused, never where the capacity is there; a part of it may then stand after the
+/// bytes.
 pub fn put_record(out: &mut Vec<u8>, value: &Record) -> Result<(), NoMemory>
     requires { HasShape value.now }
-    ensures { OnOk result (out.new.items ≡ out.old.items ++ record_bytes value.now) }
+    ensures bytes { OnOk result (out.new.items ≡ out.old.items ++ record_bytes value.now) }
+    ensures memory { OnErr result (vec_capacity out.old < vec_len out.old + length (record_bytes value.now)) }
+    ensures capacity { vec_capacity out.old ≤ vec_capacity out.new }
 {
     match value {
         Record::User(user) => put_user(out, user),

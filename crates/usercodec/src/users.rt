@@ -1,5 +1,6 @@
 // Users, written as records.
 ghost use Rattle.std.specs.Prelude.{◌≡◌, ◌≤◌, ◌++◌, ◌∷◌, length, OnOk, true, false};
+ghost use Rattle.std.specs.Prelude.{◌<◌, ◌+◌, OnErr, vec_capacity, vec_len};
 ghost use Rattle.std.specs.List.{flat_map, list_all};
 ghost use Rattle.userfile.specs.Together.{is_user, is_over, is_entry};
 ghost use Rattle.usercodec.specs.Fields.{text, counted};
@@ -12,11 +13,14 @@ use userfile::{ChannelFlags, Hostmask, User};
 /// Writes the one spelling of a user's record after some bytes.
 ///
 /// # Errors
-/// `NoMemory` where room for it is refused; a part of it may then stand after the bytes.
+/// `NoMemory` where room for it is refused, never where the capacity is there; a part of it may then stand after the
+/// bytes.
 pub fn put_user(out: &mut Vec<u8>, user: &User) -> Result<(), NoMemory>
     requires own { is_user user.now ≡ true }
     requires few { is_over user.now ≡ false }
-    ensures { OnOk result (out.new.items ≡ out.old.items ++ 3 ∷ user_bytes user.now) }
+    ensures bytes { OnOk result (out.new.items ≡ out.old.items ++ 3 ∷ user_bytes user.now) }
+    ensures memory { OnErr result (vec_capacity out.old < vec_len out.old + length (3 ∷ user_bytes user.now)) }
+    ensures capacity { vec_capacity out.old ≤ vec_capacity out.new }
 {
     put_byte(out, 3)?;
     put_text(out, user.handle.as_bytes())?;
@@ -29,7 +33,9 @@ pub fn put_user(out: &mut Vec<u8>, user: &User) -> Result<(), NoMemory>
 
 fn put_masks(out: &mut Vec<u8>, masks: &[Hostmask]) -> Result<(), NoMemory>
     requires { length masks.now ≤ 16 }
-    ensures { OnOk result (out.new.items ≡ out.old.items ++ counted text masks.now) }
+    ensures bytes { OnOk result (out.new.items ≡ out.old.items ++ counted text masks.now) }
+    ensures memory { OnErr result (vec_capacity out.old < vec_len out.old + length (counted text masks.now)) }
+    ensures capacity { vec_capacity out.old ≤ vec_capacity out.new }
 {
     put_byte(out, masks.len() as u8)?;
     for mask in masks {
@@ -39,7 +45,9 @@ fn put_masks(out: &mut Vec<u8>, masks: &[Hostmask]) -> Result<(), NoMemory>
 }
 
 fn put_mask(out: &mut Vec<u8>, mask: &Hostmask) -> Result<(), NoMemory>
-    ensures { OnOk result (out.new.items ≡ out.old.items ++ text mask.now) }
+    ensures bytes { OnOk result (out.new.items ≡ out.old.items ++ text mask.now) }
+    ensures memory { OnErr result (vec_capacity out.old < vec_len out.old + length (text mask.now)) }
+    ensures capacity { vec_capacity out.old ≤ vec_capacity out.new }
 {
     put_text(out, mask.as_bytes())
 }
@@ -47,7 +55,9 @@ fn put_mask(out: &mut Vec<u8>, mask: &Hostmask) -> Result<(), NoMemory>
 fn put_entries(out: &mut Vec<u8>, entries: &[ChannelFlags]) -> Result<(), NoMemory>
     requires few { length entries.now ≤ 16 }
     requires good { list_all is_entry entries.now ≡ true }
-    ensures { OnOk result (out.new.items ≡ out.old.items ++ counted entry_bytes entries.now) }
+    ensures bytes { OnOk result (out.new.items ≡ out.old.items ++ counted entry_bytes entries.now) }
+    ensures memory { OnErr result (vec_capacity out.old < vec_len out.old + length (counted entry_bytes entries.now)) }
+    ensures capacity { vec_capacity out.old ≤ vec_capacity out.new }
 {
     put_byte(out, entries.len() as u8)?;
     for entry in entries {
@@ -58,7 +68,9 @@ fn put_entries(out: &mut Vec<u8>, entries: &[ChannelFlags]) -> Result<(), NoMemo
 
 fn put_entry(out: &mut Vec<u8>, entry: &ChannelFlags) -> Result<(), NoMemory>
     requires { is_entry entry.now ≡ true }
-    ensures { OnOk result (out.new.items ≡ out.old.items ++ entry_bytes entry.now) }
+    ensures bytes { OnOk result (out.new.items ≡ out.old.items ++ entry_bytes entry.now) }
+    ensures memory { OnErr result (vec_capacity out.old < vec_len out.old + length (entry_bytes entry.now)) }
+    ensures capacity { vec_capacity out.old ≤ vec_capacity out.new }
 {
     put_text(out, entry.channel.as_bytes())?;
     put_flags(out, entry.flags)

@@ -1,5 +1,5 @@
 // Fields at the end of some bytes.
-ghost use Rattle.std.specs.Prelude.{◌≡◌, ◌++◌, ◌∷◌, [], ◌<◌, OnOk, length};
+ghost use Rattle.std.specs.Prelude.{◌≡◌, ◌++◌, ◌∷◌, [], ◌<◌, ◌≤◌, ◌+◌, OnOk, OnErr, length, vec_capacity, vec_len};
 ghost use Rattle.std.specs.Int.{w16, w32, w64};
 ghost use Rattle.usercodec.specs.Fields.{number, text, flags, mark};
 
@@ -7,7 +7,9 @@ use bytetext::NoMemory;
 use flagexpr::Flags;
 
 pub(crate) fn put_byte(out: &mut Vec<u8>, byte: u8) -> Result<(), NoMemory>
-    ensures { OnOk result (out.new.items ≡ out.old.items ++ byte ∷ []) }
+    ensures bytes { OnOk result (out.new.items ≡ out.old.items ++ byte ∷ []) }
+    ensures memory { OnErr result (vec_capacity out.old < vec_len out.old + 1) }
+    ensures capacity { vec_capacity out.old ≤ vec_capacity out.new }
 {
     out.push(byte)?;
     Ok(())
@@ -16,9 +18,11 @@ pub(crate) fn put_byte(out: &mut Vec<u8>, byte: u8) -> Result<(), NoMemory>
 /// Puts a number after some bytes, its most significant byte first.
 ///
 /// # Errors
-/// `NoMemory` where room for it is refused.
+/// `NoMemory` where room for it is refused, never where the capacity is there.
 pub fn put_u16(out: &mut Vec<u8>, n: u16) -> Result<(), NoMemory>
-    ensures { OnOk result (out.new.items ≡ out.old.items ++ number w16 n) }
+    ensures bytes { OnOk result (out.new.items ≡ out.old.items ++ number w16 n) }
+    ensures memory { OnErr result (vec_capacity out.old < vec_len out.old + 2) }
+    ensures capacity { vec_capacity out.old ≤ vec_capacity out.new }
 {
     out.extend_from_slice(&n.to_be_bytes())?;
     Ok(())
@@ -27,29 +31,37 @@ pub fn put_u16(out: &mut Vec<u8>, n: u16) -> Result<(), NoMemory>
 /// Puts a number after some bytes, its most significant byte first.
 ///
 /// # Errors
-/// `NoMemory` where room for it is refused.
+/// `NoMemory` where room for it is refused, never where the capacity is there.
 pub fn put_u32(out: &mut Vec<u8>, n: u32) -> Result<(), NoMemory>
-    ensures { OnOk result (out.new.items ≡ out.old.items ++ number w32 n) }
+    ensures bytes { OnOk result (out.new.items ≡ out.old.items ++ number w32 n) }
+    ensures memory { OnErr result (vec_capacity out.old < vec_len out.old + 4) }
+    ensures capacity { vec_capacity out.old ≤ vec_capacity out.new }
 {
     out.extend_from_slice(&n.to_be_bytes())?;
     Ok(())
 }
 
 pub(crate) fn put_u64(out: &mut Vec<u8>, n: u64) -> Result<(), NoMemory>
-    ensures { OnOk result (out.new.items ≡ out.old.items ++ number w64 n) }
+    ensures bytes { OnOk result (out.new.items ≡ out.old.items ++ number w64 n) }
+    ensures memory { OnErr result (vec_capacity out.old < vec_len out.old + 8) }
+    ensures capacity { vec_capacity out.old ≤ vec_capacity out.new }
 {
     out.extend_from_slice(&n.to_be_bytes())?;
     Ok(())
 }
 
 pub(crate) fn put_flags(out: &mut Vec<u8>, letters: Flags) -> Result<(), NoMemory>
-    ensures { OnOk result (out.new.items ≡ out.old.items ++ flags letters) }
+    ensures bytes { OnOk result (out.new.items ≡ out.old.items ++ flags letters) }
+    ensures memory { OnErr result (vec_capacity out.old < vec_len out.old + 8) }
+    ensures capacity { vec_capacity out.old ≤ vec_capacity out.new }
 {
     put_u64(out, letters.bits())
 }
 
 pub(crate) fn put_mark(out: &mut Vec<u8>, on: bool) -> Result<(), NoMemory>
-    ensures { OnOk result (out.new.items ≡ out.old.items ++ mark on) }
+    ensures bytes { OnOk result (out.new.items ≡ out.old.items ++ mark on) }
+    ensures memory { OnErr result (vec_capacity out.old < vec_len out.old + 1) }
+    ensures capacity { vec_capacity out.old ≤ vec_capacity out.new }
 {
     put_byte(out, if on { 1 } else { 0 })
 }
@@ -57,7 +69,9 @@ pub(crate) fn put_mark(out: &mut Vec<u8>, on: bool) -> Result<(), NoMemory>
 // No text of a change or a record has more than 120 bytes.
 pub(crate) fn put_text(out: &mut Vec<u8>, bytes: &[u8]) -> Result<(), NoMemory>
     requires { length bytes.now < 256 }
-    ensures { OnOk result (out.new.items ≡ out.old.items ++ text bytes.now) }
+    ensures bytes { OnOk result (out.new.items ≡ out.old.items ++ text bytes.now) }
+    ensures memory { OnErr result (vec_capacity out.old < vec_len out.old + length (text bytes.now)) }
+    ensures capacity { vec_capacity out.old ≤ vec_capacity out.new }
 {
     out.push(bytes.len() as u8)?;
     out.extend_from_slice(bytes)?;

@@ -1,5 +1,5 @@
 // A map of users, made of their list.
-ghost use Rattle.std.specs.Prelude.{◌≡◌, false, IsTrue, IfOk};
+ghost use Rattle.std.specs.Prelude.{◌≡◌, ◌<◌, false, length, IsTrue, IfErr, IfOk};
 ghost use Rattle.std.specs.List.{list_all};
 ghost use Rattle.userfile.specs.Keys.{IsKeyed};
 ghost use Rattle.userfile.specs.Together.{is_user, repeats_handle};
@@ -17,6 +17,7 @@ pub(crate) fn map_of(alloc: Global, users: Vec<User>) -> Result<IndexMap<Vec<u8>
     requires apart { repeats_handle users.items ≡ false }
     ensures keyed { IfOk result (λ map. IsKeyed map.entries) }
     ensures users { IfOk result (λ map. values map ≡ users.items) }
+    ensures memory { IfErr result (λ _. 0 < length users.items) }
 {
     let mut map = IndexMap::new(alloc);
     for user in users {

@@ -1,5 +1,5 @@
 // The map of the users and the index of their hostmasks, changed together.
-ghost use Rattle.std.specs.Prelude.{◌≡◌, false, IfOk, OnOk, OnErr, List, Some};
+ghost use Rattle.std.specs.Prelude.{◌≡◌, ◌<◌, false, length, IfErr, IfOk, OnOk, OnErr, List, Some};
 ghost use Rattle.std.specs.List.{position_from};
 ghost use Rattle.rfccase.specs.Casemapping.{is_same};
 ghost use Rattle.indexmap.specs.IndexMap.{values};
@@ -141,7 +141,8 @@ pub(crate) fn index_of(
     alloc: Global,
     users: &IndexMap<Vec<u8>, User>,
 ) -> Result<TailIndex, NoMemory>
-    ensures { IfOk result (λ index. IsIndexOf index (values users.now)) }
+    ensures index { IfOk result (λ index. IsIndexOf index (values users.now)) }
+    ensures memory { IfErr result (λ _. 0 < length (values users.now)) }
 {
     let mut index = new_index(alloc);
     for place in 0..users.len() {

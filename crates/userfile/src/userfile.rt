@@ -45,7 +45,7 @@ impl Model for Userfile {
 }
 
 impl Userfile {
-    ghost use Rattle.std.specs.Prelude.{◌≡◌, true, None, Err, IsTrue, IfOk, IfErr, OnErr, length, slice_get};
+    ghost use Rattle.std.specs.Prelude.{◌≡◌, ◌<◌, true, None, Err, IsTrue, IfOk, IfErr, OnErr, length, slice_get};
     ghost use Rattle.std.specs.List.{list_all};
     ghost use Rattle.std.specs.Option.{option_copied};
     ghost use Rattle.userfile.specs.Together.{is_user, is_good_ban, AreSound, Gathers};
@@ -73,7 +73,7 @@ impl Userfile {
     /// `Refused` with the first of these that holds: `UserExists` where two users have one handle, `MaskExists` where a
     /// user has a mask twice, `BanExists` where two bans have one channel and mask, `Full` where there are more users,
     /// bans, masks of a user or channels of a user than a userfile holds. Or `NoMemory`, where none of them holds and a
-    /// growth is refused. The users and bans are gone then.
+    /// growth is refused: never where there is no user. The users and bans are gone then.
     pub fn from_records(
         alloc: Global,
         users: Vec<User>,
@@ -81,7 +81,8 @@ impl Userfile {
     ) -> Result<Userfile, ChangeError>
         requires users { IsTrue (list_all is_user users.items) }
         requires bans { IsTrue (list_all is_good_ban bans.items) }
-        ensures { Gathers users.items bans.items result }
+        ensures gathers { Gathers users.items bans.items result }
+        ensures memory { result ≡ Err no_memory → 0 < length users.items }
     {
         refuse(records_fault(users.as_slice(), bans.as_slice()))?;
         let users = map_of(alloc, users)?;

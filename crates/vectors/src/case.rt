@@ -1,7 +1,7 @@
 // What a case asks for.
 use crate::civil::Form;
 use crate::{
-    binds, casemapping, channels, civil, clock, cron, events, flags, frames, journals, lines,
+    binds, casemapping, channels, civil, clock, cron, edge, events, flags, frames, journals, lines,
     masks, persons, queues, spellings, timers,
 };
 use bytetext::Text;
@@ -95,7 +95,7 @@ pub fn answer(alloc: Global, words: &[Text], out: &mut Sink) -> Result<(), CaseE
     };
     match asked_by(first.as_bytes()) {
         Some(asked) => answer_to(asked, alloc, words, out),
-        None => Err(NO_SUCH_CASE),
+        None => edge::answer(first.as_bytes(), alloc, words, out),
     }
 }
 

@@ -43,6 +43,15 @@
 //! | `chan NICK LINE.. holds CHANNEL` | `held` or `not held` |
 //! | `chan NICK LINE.. nick` | the bot's own nick |
 //! | `events NICK LINE..` | the events of the last line, as `KIND 'SUBJECT' CHANNEL 'ARGUMENT'..`, with ` ; ` between |
+//! | `settings LINE..` | what a configuration file of these lines says, with ` ; ` between its lines, or why it is refused |
+//! | `long N` | the same of a file of N bytes `#` |
+//! | `timeline MARK WALL/MONOTONIC..` | the reading of each pair of clocks, where the monotonic one began at MARK |
+//! | `redial NUMBER MOST STEP..` | when the next try is due after each step |
+//! | `wire HEARD UNSENT STEP..` | what each step answers, with ` ; ` between |
+//! | `hmac SECRET TEXT` | the code of the text under the secret |
+//! | `hub SECRET NET LEAVES NONCE HEARD..` | what a hub says first, and then what it makes of each HEARD, with ` ; ` between |
+//! | `leaf SECRET NUMBER NET NONCE HEARD..` | what a leaf makes of each HEARD, in turn, with ` ; ` between |
+//! | `late BEGAN NOW` | whether a handshake that began then is too late now |
 //!
 //! A ZONE is the minutes by which a clock is ahead of UTC, or a rule of POSIX as one word.
 //!
@@ -80,8 +89,24 @@
 //! first that is no message, if one is. Before a member's nick stand `@` for op, `%` for half-op and `+` for voice;
 //! `!user@host` is left out where both are empty. An event that is on no channel has `-` in its place.
 //!
+//! Between the LINEs of a file of `settings` stand line feeds: one that ends with a line feed has the empty LINE `''` last.
+//! What it says is written in its own words, in one order: `data`, `bot`, `nick`, `channel`, `server`, `hub`, `listen`,
+//! `secret`, `account`, `zone`, `exclusive`, `log`, `perform`, and `bind` with its line's number in front. A zone that is
+//! not UTC is written as what its clock shows at midnight UTC of 1 January and of 1 July 2026.
+//!
+//! The steps of `redial` are `lost/NOW` and `good/NOW`: a connection was lost, which was good or not.
+//!
+//! `wire` is a connection whose bounds are HEARD and UNSENT, over a stream that does what it is told. Each of its steps is
+//! one word. `give TEXT`, `end`, `stall` and `fault` read while the stream gives this, and answer how many bytes were
+//! heard, the stream's answer, or `full`; `heard` answers what was heard and takes it. `tell TEXT` answers `told` or
+//! `too much`. `take N`, `refuse` and `break` send while the stream takes so many bytes, none, or fails, and answer how many
+//! it took, its answer, or `none` where nothing is unsent; `unsent` answers what is. `over` answers `over` or `not over`.
+//!
+//! A hub or a leaf hears all bytes that came and were not used so far, and answers `more`, why it refuses, or how many of the
+//! bytes its line `used`, and what it `says`. The NET `-` is that of a leaf that keeps none.
+//!
 //! The crate's files `stdin` and `stdout` hold the cases and the answers, which were worked out by hand from the rules that
-//! each library states. Cases of bots, of their streams and of scripts are those of `botcases`.
+//! each library states; the codes of `hmac` are those of RFC 4231, and what Python's module of that name computes. Cases of bots, of their streams and of scripts are those of `botcases`.
 #![tactic(auto)]
 
 mod binds;
@@ -91,17 +116,23 @@ mod changes;
 mod channels;
 mod civil;
 mod clock;
+mod configurations;
 mod cron;
+mod edge;
 mod events;
 mod flags;
 mod frames;
+mod handshakes;
 mod journals;
 mod lines;
 mod masks;
 mod persons;
+mod puppet;
 mod queues;
+mod seconds;
 mod spellings;
 mod timers;
+mod wires;
 
 use bytetext::Text;
 use caselines::{CaseError, Cases, Sink, answer_input};

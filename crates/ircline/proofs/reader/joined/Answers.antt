@@ -1,4 +1,4 @@
-use Rattle.std.proofs.Common.{◌≡◌, ◌<◌, ℕ, List, ◌++◌, ◌-◌, length, length-take, take, ap, ◌∙◌, arith}
+use Rattle.std.proofs.Common.{◌≡◌, ℕ, List, ◌++◌, ◌-◌, length, length-take, take, ap, ◌∙◌, arith}
 use Rattle.std.proofs.Common.{length-append}
 use Rattle.bytetext.proofs.Errors.{at_err}
 use Rattle.ircline.proofs.StreamLemmas.{take_joined}

@@ -1,6 +1,6 @@
 // The names of changes.
 ghost use Rattle.std.specs.Prelude.{◌≡◌};
-ghost use Rattle.scriptfaults.specs.Vocabulary.{change_word_named, change_spelling};
+ghost use Rattle.script.specs.Vocabulary.{change_word_named, change_spelling};
 
 /// The name of a change, the third word of an `ask`.
 #[derive(Clone, Copy, Debug, PartialEq, Eq)]

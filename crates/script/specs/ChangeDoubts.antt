@@ -2,12 +2,12 @@
 use Rattle.std.specs.Prelude.{ℕ, ◌&&◌, ◌==◌, List, [], ◌∷◌, length, Option, None, Some, is_some, if◌then◌else◌}
 use Rattle.flagexpr.specs.Faults.{flags_fault}
 use Rattle.scriptwords.specs.Words.{is_empty, number_below}
-use Rattle.scriptfaults.specs.declared.reason.Reason.{Reason}
-use Rattle.scriptfaults.specs.declared.reason.Reason.TheVariants.{SpaceAfter, TwoSpaces, Change, ChangeForm, Flags, ChannelFlags, Expiry, Mark}
-use Rattle.scriptfaults.specs.declared.change_word.ChangeWord.{ChangeWord}
-use Rattle.scriptfaults.specs.declared.change_word.ChangeWord.TheVariants.{AddUser, DelUser, AddHost, DelHost, DelBan, Global, Bot, Chan, AddBan, Info, Sticky}
-use Rattle.scriptfaults.specs.Vocabulary.{change_word_named}
-use Rattle.scriptfaults.specs.Spacing.{misread, gap_before}
+use Rattle.script.specs.declared.reason.Reason.{Reason}
+use Rattle.script.specs.declared.reason.Reason.TheVariants.{SpaceAfter, TwoSpaces, Change, ChangeForm, Flags, ChannelFlags, Expiry, Mark}
+use Rattle.script.specs.declared.change_word.ChangeWord.{ChangeWord}
+use Rattle.script.specs.declared.change_word.ChangeWord.TheVariants.{AddUser, DelUser, AddHost, DelHost, DelBan, Global, Bot, Chan, AddBan, Info, Sticky}
+use Rattle.script.specs.Vocabulary.{change_word_named}
+use Rattle.script.specs.Spacing.{misread, gap_before}
 
 -- the first of two that there is
 abbrev pub first_of : Option Reason → Option Reason → Option Reason

@@ -1,6 +1,6 @@
 // The first words of lines.
 ghost use Rattle.std.specs.Prelude.{◌≡◌};
-ghost use Rattle.scriptfaults.specs.Vocabulary.{spelling_of, verb_named};
+ghost use Rattle.script.specs.Vocabulary.{spelling_of, verb_named};
 
 /// The first word of a line that says something.
 #[derive(Clone, Copy, Debug, PartialEq, Eq)]

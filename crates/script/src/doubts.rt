@@ -1,11 +1,11 @@
 // Which word of a line is wrong, or that there are too few or too many.
 ghost use Rattle.std.specs.Prelude.{◌≡◌, map};
-ghost use Rattle.scriptfaults.specs.Changes.{first_of};
-ghost use Rattle.scriptfaults.specs.Doubts.{bind_doubt, bot_doubt, clock_doubt, doubt_of, kind_doubt, leaves_doubt, packet_doubt};
-ghost use Rattle.scriptfaults.specs.Doubts.{proc_doubt, seconds_doubt, unbind_doubt, verb_doubt, word_doubt, words_doubt, zone_doubt};
-ghost use Rattle.scriptfaults.specs.declared.reason.Reason.TheVariants.{TwoSpaces};
+ghost use Rattle.script.specs.ChangeDoubts.{first_of};
+ghost use Rattle.script.specs.Doubts.{bind_doubt, bot_doubt, clock_doubt, doubt_of, kind_doubt, leaves_doubt, packet_doubt};
+ghost use Rattle.script.specs.Doubts.{proc_doubt, seconds_doubt, unbind_doubt, verb_doubt, word_doubt, words_doubt, zone_doubt};
+ghost use Rattle.script.specs.declared.reason.Reason.TheVariants.{TwoSpaces};
 
-use crate::changes::{ask_doubt, gap_doubt, text_doubt};
+use crate::change_doubts::{ask_doubt, gap_doubt, text_doubt};
 use crate::reason::Reason;
 use crate::spacing::{gap_before, misread};
 use crate::verb::Verb;

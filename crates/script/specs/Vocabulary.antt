@@ -1,10 +1,10 @@
 -- The first words of lines, and the names of changes, as scripts spell them.
 use Rattle.std.specs.Prelude.{ℕ, List, [], ◌∷◌, Option, find, codes}
 use Rattle.std.specs.Str.{bytes_eq}
-use Rattle.scriptfaults.specs.declared.verb.Verb.{Verb}
-use Rattle.scriptfaults.specs.declared.verb.Verb.TheVariants.{Leaves, Ask, Pump, Compact, Restart, Connect, Line, Clock, Bind, Unbind, Deliver, Show, Zone}
-use Rattle.scriptfaults.specs.declared.change_word.ChangeWord.{ChangeWord}
-use Rattle.scriptfaults.specs.declared.change_word.ChangeWord.TheVariants.{AddUser, DelUser, AddHost, DelHost, DelBan, Global, Bot, Chan, AddBan, Info, Sticky}
+use Rattle.script.specs.declared.verb.Verb.{Verb}
+use Rattle.script.specs.declared.verb.Verb.TheVariants.{Leaves, Ask, Pump, Compact, Restart, Connect, Line, Clock, Bind, Unbind, Deliver, Show, Zone}
+use Rattle.script.specs.declared.change_word.ChangeWord.{ChangeWord}
+use Rattle.script.specs.declared.change_word.ChangeWord.TheVariants.{AddUser, DelUser, AddHost, DelHost, DelBan, Global, Bot, Chan, AddBan, Info, Sticky}
 
 abbrev pub spelling_of : Verb → List ℕ
 spelling_of Leaves = codes "leaves"

@@ -109,7 +109,7 @@ impl Reason {
 
 impl Display for Reason {
     fn fmt<W: fmt::Write>(&self, f: &mut fmt::Formatter<W>) -> fmt::Result {
-        write!(f, "{}", self.sentence())
+        f.write_str(self.sentence())
     }
 }
 

@@ -4,14 +4,14 @@ use Rattle.bottimers.specs.Zones.{rule_in}
 use Rattle.bindtable.specs.Kinds.{kind_of}
 use Rattle.linkcalls.specs.declared.TheConstants.{MAX_LEAVES}
 use Rattle.scriptwords.specs.Words.{number_below}
-use Rattle.scriptfaults.specs.declared.reason.Reason.{Reason}
-use Rattle.scriptfaults.specs.declared.reason.Reason.TheVariants.{SpaceBefore, SpaceAfter, TwoSpaces, Unknown, Form, Seconds, Kind}
-use Rattle.scriptfaults.specs.declared.reason.Reason.TheVariants.{Leaves as leaves_reason, Zone as zone_reason, Bot as bot_reason, Packet as packet_reason}
-use Rattle.scriptfaults.specs.declared.verb.Verb.{Verb}
-use Rattle.scriptfaults.specs.declared.verb.Verb.TheVariants.{Leaves, Ask, Pump, Compact, Restart, Connect, Line, Clock, Bind, Unbind, Deliver, Show, Zone}
-use Rattle.scriptfaults.specs.Vocabulary.{verb_named}
-use Rattle.scriptfaults.specs.Spacing.{misread, gap_before}
-use Rattle.scriptfaults.specs.Changes.{first_of, unless_found, gap_doubt, text_doubt, ask_doubt}
+use Rattle.script.specs.declared.reason.Reason.{Reason}
+use Rattle.script.specs.declared.reason.Reason.TheVariants.{SpaceBefore, SpaceAfter, TwoSpaces, Unknown, Form, Seconds, Kind}
+use Rattle.script.specs.declared.reason.Reason.TheVariants.{Leaves as leaves_reason, Zone as zone_reason, Bot as bot_reason, Packet as packet_reason}
+use Rattle.script.specs.declared.verb.Verb.{Verb}
+use Rattle.script.specs.declared.verb.Verb.TheVariants.{Leaves, Ask, Pump, Compact, Restart, Connect, Line, Clock, Bind, Unbind, Deliver, Show, Zone}
+use Rattle.script.specs.Vocabulary.{verb_named}
+use Rattle.script.specs.Spacing.{misread, gap_before}
+use Rattle.script.specs.ChangeDoubts.{first_of, unless_found, gap_doubt, text_doubt, ask_doubt}
 
 -- ---- single words
 

@@ -1,7 +1,7 @@
 use Rattle.std.proofs.Common.{◌≡◌, map, drop}
 use Rattle.std.specs.List.{list_any}
 use Rattle.scriptwords.specs.Words.{is_empty}
-use Rattle.scriptfaults.proofs.spacing.has_gap.Given as goal
+use Rattle.script.proofs.spacing.has_gap.Given as goal
 
 -- none of the words so far is empty
 abbrev pub invariant-loop-word : goal.invariant-loop-word

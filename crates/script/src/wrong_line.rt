@@ -1,6 +1,6 @@
 // Why a line is wrong.
 ghost use Rattle.std.specs.Prelude.{◌≡◌, map, IfOk};
-ghost use Rattle.scriptfaults.specs.Lines.{is_form, line_reason, reason_by_words, refined};
+ghost use Rattle.script.specs.LineReasons.{is_form, line_reason, reason_by_words, refined};
 
 use crate::doubts::doubt_of;
 use crate::reason::Reason;

@@ -2,8 +2,8 @@
 use Rattle.std.specs.Prelude.{ℕ, ◌-◌, ◌==◌, ◌&&◌, not, Bool, List, [], ◌∷◌, length, slice_index, Option, None, Some, if◌then◌else◌}
 use Rattle.std.specs.List.{list_any}
 use Rattle.scriptwords.specs.Words.{is_empty}
-use Rattle.scriptfaults.specs.declared.reason.Reason.{Reason}
-use Rattle.scriptfaults.specs.declared.reason.Reason.TheVariants.{CarriageReturn, ByteOrderMark, SpaceAfter, TwoSpaces, Tab}
+use Rattle.script.specs.declared.reason.Reason.{Reason}
+use Rattle.script.specs.declared.reason.Reason.TheVariants.{CarriageReturn, ByteOrderMark, SpaceAfter, TwoSpaces, Tab}
 
 -- a line's last byte
 abbrev pub ends_in : ℕ → List ℕ → Bool

@@ -1,7 +1,7 @@
 // Which word of a change is wrong, or that there are too few or too many.
 ghost use Rattle.std.specs.Prelude.{◌≡◌, map};
-ghost use Rattle.scriptfaults.specs.Changes.{ask_doubt, ban_doubt, change_doubt, comment_doubt, counted_doubt, expiry_doubt, first_of};
-ghost use Rattle.scriptfaults.specs.Changes.{flags_doubt, four_doubt, gap_doubt, gaps_doubt, info_doubt, mark_doubt, one_doubt, text_doubt, three_doubt, two_doubt};
+ghost use Rattle.script.specs.ChangeDoubts.{ask_doubt, ban_doubt, change_doubt, comment_doubt, counted_doubt, expiry_doubt, first_of};
+ghost use Rattle.script.specs.ChangeDoubts.{flags_doubt, four_doubt, gap_doubt, gaps_doubt, info_doubt, mark_doubt, one_doubt, text_doubt, three_doubt, two_doubt};
 
 use crate::change_word::ChangeWord;
 use crate::reason::Reason;

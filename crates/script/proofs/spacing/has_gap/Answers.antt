@@ -1,6 +1,6 @@
 use Rattle.std.proofs.Common.{arith, [], rules}
-use Rattle.scriptfaults.proofs.Gaps.{has_gap-found, has_gap-more, has_gap-all}
-use Rattle.scriptfaults.proofs.spacing.has_gap.Goals as goal
+use Rattle.script.proofs.Gaps.{has_gap-found, has_gap-more, has_gap-all}
+use Rattle.script.proofs.spacing.has_gap.Goals as goal
 
 pub loop-word-preserved : goal.loop-word-preserved
 loop-word-preserved c =

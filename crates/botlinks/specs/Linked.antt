@@ -1,0 +1,48 @@
+-- Who is there for a call: where nobody is, it takes no memory.
+use Rattle.std.specs.Prelude.{◌≡◌, ℕ, Option, None, Some, slice_get}
+use Rattle.botlinks.specs.declared.links.Links.{Links}
+use Rattle.botlinks.specs.declared.links.Links.TheVariants.{Alone, Hub, Leaf}
+use Rattle.botlinks.specs.declared.meeting.Stage.{Stage}
+use Rattle.botlinks.specs.declared.meeting.Stage.TheVariants.{Meets, Knows, Linked}
+use Rattle.botlinks.specs.declared.seat.Seat.{Seat}
+use Rattle.botlinks.specs.declared.meeting.Hub.{Hub as Meeting}
+
+-- packets go to the hub and come from it
+abbrev pub IsLinked : Option Meeting → Type 0
+IsLinked None = ⊥
+IsLinked (Some hub) = hub.stage ≡ Linked
+
+-- the hub is listened to at this stage: not while a leaf keeps the number of its net
+abbrev pub IsHeardAt : Stage → Type 0
+IsHeardAt Meets = Unit {0}
+IsHeardAt (Knows net) = ⊥
+IsHeardAt Linked = Unit {0}
+
+-- the hub is listened to
+abbrev pub IsHeard : Option Meeting → Type 0
+IsHeard None = ⊥
+IsHeard (Some hub) = IsHeardAt hub.stage
+
+-- a leaf that is linked has this place
+abbrev pub IsTaken : Option (Option Seat) → Type 0
+IsTaken None = ⊥
+IsTaken (Some None) = ⊥
+IsTaken (Some (Some seat)) = Unit {0}
+
+-- who is to have a packet is linked
+abbrev pub Reaches : ℕ → Links → Type 0
+Reaches to Alone = ⊥
+Reaches to (Hub hub) = IsTaken (slice_get hub.seats.items to)
+Reaches to (Leaf leaf) = IsLinked leaf.hub
+
+-- a hub, or a leaf that listens to its own
+abbrev pub Hears : Links → Type 0
+Hears Alone = ⊥
+Hears (Hub hub) = Unit {0}
+Hears (Leaf leaf) = IsHeard leaf.hub
+
+-- a hub
+abbrev pub IsHub : Links → Type 0
+IsHub Alone = ⊥
+IsHub (Hub hub) = Unit {0}
+IsHub (Leaf leaf) = ⊥

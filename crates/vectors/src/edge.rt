@@ -1,0 +1,26 @@
+// What a case of the edge of a bot as a process asks for.
+use crate::{configurations, handshakes, seconds, wires};
+use bytetext::Text;
+use caselines::{CaseError, NO_SUCH_CASE, Sink};
+use std::alloc::Global;
+
+/// Writes the answer to a case of this first word and these others.
+pub fn answer(
+    first: &[u8],
+    alloc: Global,
+    words: &[Text],
+    out: &mut Sink,
+) -> Result<(), CaseError> {
+    match first {
+        b"hmac" => handshakes::hmac(words, out),
+        b"hub" => handshakes::hub(words, out),
+        b"late" => handshakes::late(words, out),
+        b"leaf" => handshakes::leaf(words, out),
+        b"long" => configurations::long(alloc, words, out),
+        b"redial" => seconds::redial(words, out),
+        b"settings" => configurations::settings(alloc, words, out),
+        b"timeline" => seconds::timeline(words, out),
+        b"wire" => wires::wire(alloc, words, out),
+        _ => Err(NO_SUCH_CASE),
+    }
+}
