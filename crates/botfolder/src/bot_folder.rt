@@ -1,5 +1,5 @@
 // A folder that this program has taken.
-ghost use Rattle.std.specs.Prelude.{◌≡◌, ◌<◌, length, Err, IfOk};
+ghost use Rattle.std.specs.Prelude.{◌≡◌, ◌≢◌, ◌<◌, ◌↔◌, length, Err, IfOk};
 ghost use Rattle.bytetext.specs.declared.failure.Failure.TheVariants.{Refused};
 ghost use Rattle.botfolder.specs.declared.fault.FolderFault.TheVariants.{LongName};
 ghost use Rattle.botfolder.specs.Folders.{AreEmpty, AreReady, IsBegun, IsReady};
@@ -50,7 +50,7 @@ impl BotFolder {
         rt: &R,
         folder: &str,
     ) -> Result<BotFolder, FolderError>
-        ensures long_name { MAX_PATH < length folder.now → result ≡ Err (Refused LongName) }
+        ensures long_name { (MAX_PATH < length folder.now) ↔ (result ≡ Err (Refused LongName)) }
     {
         if folder.len() > MAX_PATH {
             return Err(Failure::Refused(FolderFault::LongName));
@@ -121,7 +121,9 @@ impl BotFolder {
 }
 
 // Refuses a folder that others may enter: they could tell its bot what to do.
-fn keep_others_out<R: Files>(rt: &R, folder: &str) -> Result<(), FolderError> {
+fn keep_others_out<R: Files>(rt: &R, folder: &str) -> Result<(), FolderError>
+    ensures { result ≢ Err (Refused LongName) }
+{
     match fs::metadata(rt, folder) {
         Ok(found) => {
             if found.is_dir() && found.mode() & 0o011 == 0 {
@@ -182,7 +184,8 @@ fn disk_of<R: AllocGlobal + Files<File = File>>(
     folder: &str,
     name: &str,
 ) -> Result<FileDisk, FolderError>
-    ensures { IfOk result IsReady }
+    ensures ready { IfOk result IsReady }
+    ensures not_long { result ≢ Err (Refused LongName) }
 {
     let path = below(rt.alloc(), folder, name)?;
     match FileDisk::make(rt, path.as_str()) {

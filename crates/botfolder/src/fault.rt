@@ -1,4 +1,8 @@
 // Why a folder can't be used.
+ghost use Rattle.std.specs.Prelude.{◌≢◌};
+ghost use Rattle.bytetext.specs.declared.failure.Failure.TheVariants.{Refused};
+ghost use Rattle.botfolder.specs.declared.fault.FolderFault.TheVariants.{LongName};
+
 use bytetext::Failure;
 use disks::{FileDiskError, FileFault};
 use std::io;
@@ -38,7 +42,9 @@ pub enum FolderFault {
 pub type FolderError = Failure<FolderFault>;
 
 // What a file's fault means of the folder; `missing` is what it means that a file or folder is missing.
-pub(crate) fn folder_error(error: FileDiskError, missing: FolderFault) -> FolderError {
+pub(crate) fn folder_error(error: FileDiskError, missing: FolderFault) -> FolderError
+    ensures { missing ≢ LongName → result ≢ Refused LongName }
+{
     match error {
         Failure::NoMemory => Failure::NoMemory,
         Failure::Refused(fault) => Failure::Refused(folder_fault(fault, missing)),
@@ -46,14 +52,18 @@ pub(crate) fn folder_error(error: FileDiskError, missing: FolderFault) -> Folder
 }
 
 // What an error of the system means of the folder: this, where it is not the want of memory.
-pub(crate) fn system_error(error: &io::Error, fault: FolderFault) -> FolderError {
+pub(crate) fn system_error(error: &io::Error, fault: FolderFault) -> FolderError
+    ensures { fault ≢ LongName → result ≢ Refused LongName }
+{
     match error.kind() {
         ErrorKind::OutOfMemory => Failure::NoMemory,
         _ => Failure::Refused(fault),
     }
 }
 
-fn folder_fault(fault: FileFault, missing: FolderFault) -> FolderFault {
+fn folder_fault(fault: FileFault, missing: FolderFault) -> FolderFault
+    ensures { missing ≢ LongName → result ≢ LongName }
+{
     match fault {
         FileFault::Missing => missing,
         FileFault::InUse => FolderFault::InUse,

@@ -1,9 +1,12 @@
 -- The one spelling of an entry in each layout, and what reading one answers.
 use Rattle.std.specs.Prelude.{◌≡◌, ℕ, ◌<◌, ◌^◌, ◌==◌, List, [], ◌∷◌, ◌++◌, Option, Some, None, Result, Ok, Err, if◌then◌else◌}
 use Rattle.std.specs.Int.{w16, w32}
+use Rattle.bytetext.specs.declared.failure.Failure.{Failure}
+use Rattle.bytetext.specs.declared.failure.Failure.TheVariants.{Refused, NoMemory as RanOut}
 use Rattle.bytetext.specs.declared.memory.NoMemory.{NoMemory}
 use Rattle.userfile.specs.Apply.{bad_shape}
 use Rattle.userfile.specs.declared.change.Change.{Change}
+use Rattle.usercodec.specs.declared.fault.CodecFault.{CodecFault}
 use Rattle.usercodec.specs.declared.fault.CodecFault.TheVariants.{BadTag}
 use Rattle.usercodec.specs.Fields.{number, Reading, ◌>>=◌, byte_at, number_at}
 use Rattle.usercodec.specs.Changes.{change_bytes, IsGoodChange, both, made}
@@ -80,6 +83,25 @@ unfoldable pub entry_at : Layout → List ℕ → Reading Entry
 entry_at layout bytes = do
   tag ← byte_at bytes
   entry_fields_at layout tag.0 tag.1
+
+-- an entry that holds a change
+abbrev pub HoldsChange : Entry → Type 0
+HoldsChange (Accepted origin request change) = Unit {0}
+HoldsChange (Settled leaf request fault) = ⊥
+HoldsChange (Applied n change) = Unit {0}
+HoldsChange (ReqOut request change) = Unit {0}
+HoldsChange (ReqDone request) = ⊥
+
+-- what was read is an entry whose change is copied
+abbrev pub TakesMemory : Reading Entry → Type 0
+TakesMemory (Ok x) = HoldsChange x.0
+TakesMemory (Err fault) = ⊥
+
+-- what reading gives is answered, and this rest is left, or memory ran out
+abbrev pub MakesEntry : Result Entry (Failure CodecFault) → List ℕ → Reading Entry → Type 0
+MakesEntry (Ok entry) rest reading = reading ≡ Ok (entry, rest)
+MakesEntry (Err (Refused fault)) rest reading = reading ≡ Err fault
+MakesEntry (Err RanOut) rest reading = TakesMemory reading
 
 -- ---- entries that are all of their bytes
 

@@ -2,6 +2,7 @@ pub mod Whole
 pub mod Layouts
 pub mod Entries
 pub mod Bases
+pub mod Empty
 pub mod Contents
 pub mod Journal
 pub mod Recovery

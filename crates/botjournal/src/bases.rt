@@ -1,7 +1,7 @@
 // Bases as bytes.
-ghost use Rattle.std.specs.Prelude.{◌≡◌, ◌++◌, IfOk, IfSome, OnOk};
+ghost use Rattle.std.specs.Prelude.{◌≡◌, ◌<◌, ◌++◌, IfOk, IfErr, IfSome, OnOk};
 ghost use Rattle.botjournal.specs.declared.base.Base.{Base};
-ghost use Rattle.usercodec.specs.Answers.{Finds};
+ghost use Rattle.botjournal.specs.Empty.{item_count, FindsSome};
 ghost use Rattle.botjournal.specs.Bases.{base_bytes, base_in, IsGoodBase, HasShapes, IsBaseOf};
 ghost use Rattle.botjournal.specs.Bases.{base_bytes_by, IsGoodBaseBy, IsBaseBy, FindsBase, is_of_its_bot};
 ghost use Rattle.botjournal.specs.Bases.{parts_at, base_at};
@@ -43,13 +43,15 @@ fn put_base(out: &mut Vec<u8>, base: &Base) -> Result<(), NoMemory>
 /// The base whose spelling these bytes are, all of them, where they are one's.
 ///
 /// # Errors
-/// `NoMemory` where room for the base is refused.
+/// `NoMemory` where room for the base is refused: never where the bytes begin with one that holds no record, no reply
+/// and no request.
 pub fn read_base(alloc: Global, bytes: &[u8]) -> Result<Option<Base>, NoMemory>
     ensures exact { IfOk result (λ read. read ≡ base_in Third bytes.now) }
     // What is read is spelled by the bytes.
     ensures spelled { IfOk result (λ read. IsBaseOf bytes.now read) }
     // What is spelled is read.
     ensures only { (base : Base) → IsGoodBase base → bytes.now ≡ base_bytes base → FindsBase base result }
+    ensures memory { IfErr result (λ _. IfOk (base_at Third bytes.now) (λ x. 0 < item_count x.0)) }
 {
     read_base_by(alloc, Layout::Third, bytes)
 }
@@ -67,12 +69,14 @@ pub(crate) fn read_base_by(
     ensures only { (base : Base) → IsGoodBaseBy layout base → bytes.now ≡ base_bytes_by layout base → FindsBase base result }
     // What any layout spelled may be written.
     ensures good { IfOk result (λ read. IfSome read IsGoodBase) }
+    ensures memory { IfErr result (λ _. IfOk (base_at layout bytes.now) (λ x. 0 < item_count x.0)) }
 {
     read_whole(alloc, layout, bytes)
 }
 
 fn read_whole(alloc: Global, layout: Layout, bytes: &[u8]) -> Result<Option<Base>, NoMemory>
-    ensures { IfOk result (λ read. read ≡ base_in layout bytes.now) }
+    ensures read { IfOk result (λ read. read ≡ base_in layout bytes.now) }
+    ensures memory { IfErr result (λ _. IfOk (base_at layout bytes.now) (λ x. 0 < item_count x.0)) }
 {
     let mut reader = Reader::new(bytes);
     match base(alloc, layout, &mut reader) {
@@ -89,7 +93,7 @@ fn read_whole(alloc: Global, layout: Layout, bytes: &[u8]) -> Result<Option<Base
 
 #[tactic(auto, unfolding(crate::specs::Bases::base_at))]
 fn base(alloc: Global, layout: Layout, reader: &mut Reader<'_>) -> Result<Base, CodecError>
-    ensures { Finds (λ base. (base, reader.new)) result (base_at layout reader.old) }
+    ensures { FindsSome (λ base. (base, reader.new)) (λ x. 0 < item_count x.0) result (base_at layout reader.old) }
 {
     let base = parts(alloc, layout, reader)?;
     if !is_of_its_bot(&base) {
@@ -100,7 +104,7 @@ fn base(alloc: Global, layout: Layout, reader: &mut Reader<'_>) -> Result<Base, 
 
 #[tactic(auto, unfolding(crate::specs::Bases::parts_at))]
 fn parts(alloc: Global, layout: Layout, reader: &mut Reader<'_>) -> Result<Base, CodecError>
-    ensures { Finds (λ base. (base, reader.new)) result (parts_at layout reader.old) }
+    ensures { FindsSome (λ base. (base, reader.new)) (λ x. 0 < item_count x.0) result (parts_at layout reader.old) }
 {
     let bot = reader.u16()?;
     let version = reader.u32()?;

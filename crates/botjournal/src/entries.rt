@@ -1,14 +1,14 @@
 // Entries as bytes.
-ghost use Rattle.std.specs.Prelude.{◌≡◌, None, IfOk, IfSome, OnOk, ◌++◌, ◌∷◌};
+ghost use Rattle.std.specs.Prelude.{◌≡◌, None, IfOk, IfErr, IfSome, OnOk, ◌++◌, ◌∷◌};
 ghost use Rattle.userfile.specs.Apply.{bad_shape};
 ghost use Rattle.std.specs.Int.{w16, w32};
-ghost use Rattle.usercodec.specs.Answers.{Makes};
+ghost use Rattle.usercodec.specs.Answers.{Gives};
 ghost use Rattle.usercodec.specs.Fields.{number};
 ghost use Rattle.usercodec.specs.Changes.{change_bytes};
 ghost use Rattle.botjournal.specs.declared.entry.Entry.{Entry};
 ghost use Rattle.botjournal.specs.Entries.{entry_bytes, entry_in, IsGoodEntry, IsGoodEntryBy, HasShape, IsEntryOf, FindsEntry};
 ghost use Rattle.botjournal.specs.Entries.{entry_at, entry_fields_at, accepted_at, settled_at, applied_at};
-ghost use Rattle.botjournal.specs.Entries.{request_out_at, request_done_at};
+ghost use Rattle.botjournal.specs.Entries.{request_out_at, request_done_at, MakesEntry, TakesMemory};
 ghost use Rattle.botjournal.specs.declared.layouts.Layout.TheVariants.{Third};
 
 use crate::entry::Entry;
@@ -84,13 +84,15 @@ fn put_numbered(out: &mut Vec<u8>, tag: u8, n: u32, change: &Change) -> Result<(
 /// The entry whose spelling these bytes are, all of them, where they are one's.
 ///
 /// # Errors
-/// `NoMemory` where room for the entry is refused.
+/// `NoMemory` where room for the entry's change is refused: never where the bytes begin with no entry, or with one that
+/// has none.
 pub fn read_entry(alloc: Global, bytes: &[u8]) -> Result<Option<Entry>, NoMemory>
     ensures exact { IfOk result (λ read. read ≡ entry_in Third bytes.now) }
     // What is read is spelled by the bytes.
     ensures spelled { IfOk result (λ read. IsEntryOf Third bytes.now read) }
     // What is spelled is read.
     ensures only { (entry : Entry) → IsGoodEntry entry → bytes.now ≡ entry_bytes entry → FindsEntry entry result }
+    ensures memory { IfErr result (λ _. TakesMemory (entry_at Third bytes.now)) }
 {
     read_entry_by(alloc, Layout::Third, bytes)
 }
@@ -108,12 +110,14 @@ pub(crate) fn read_entry_by(
     ensures only { (entry : Entry) → IsGoodEntryBy layout entry → bytes.now ≡ entry_bytes entry → FindsEntry entry result }
     // What any layout spelled may be written.
     ensures good { IfOk result (λ read. IfSome read IsGoodEntry) }
+    ensures memory { IfErr result (λ _. TakesMemory (entry_at layout bytes.now)) }
 {
     read_whole(alloc, layout, bytes)
 }
 
 fn read_whole(alloc: Global, layout: Layout, bytes: &[u8]) -> Result<Option<Entry>, NoMemory>
-    ensures { IfOk result (λ read. read ≡ entry_in layout bytes.now) }
+    ensures read { IfOk result (λ read. read ≡ entry_in layout bytes.now) }
+    ensures memory { IfErr result (λ _. TakesMemory (entry_at layout bytes.now)) }
 {
     let mut reader = Reader::new(bytes);
     match entry(alloc, layout, &mut reader) {
@@ -130,7 +134,7 @@ fn read_whole(alloc: Global, layout: Layout, bytes: &[u8]) -> Result<Option<Entr
 
 #[tactic(auto, unfolding(crate::specs::Entries::entry_at))]
 fn entry(alloc: Global, layout: Layout, reader: &mut Reader<'_>) -> Result<Entry, CodecError>
-    ensures { Makes (λ entry. (entry, reader.new)) result (entry_at layout reader.old) }
+    ensures { MakesEntry result reader.new (entry_at layout reader.old) }
 {
     let tag = reader.byte()?;
     tagged(alloc, layout, tag, reader)
@@ -143,7 +147,7 @@ fn tagged(
     tag: u8,
     reader: &mut Reader<'_>,
 ) -> Result<Entry, CodecError>
-    ensures { Makes (λ entry. (entry, reader.new)) result (entry_fields_at layout tag reader.old) }
+    ensures { MakesEntry result reader.new (entry_fields_at layout tag reader.old) }
 {
     match tag {
         1 => accepted(alloc, layout, reader),
@@ -157,7 +161,7 @@ fn tagged(
 
 #[tactic(auto, unfolding(crate::specs::Entries::accepted_at))]
 fn accepted(alloc: Global, layout: Layout, reader: &mut Reader<'_>) -> Result<Entry, CodecError>
-    ensures { Makes (λ entry. (entry, reader.new)) result (accepted_at layout reader.old) }
+    ensures { MakesEntry result reader.new (accepted_at layout reader.old) }
 {
     let origin = reader.u16()?;
     let request = reader.u32()?;
@@ -171,7 +175,7 @@ fn accepted(alloc: Global, layout: Layout, reader: &mut Reader<'_>) -> Result<En
 
 #[tactic(auto, unfolding(crate::specs::Entries::settled_at))]
 fn settled(reader: &mut Reader<'_>) -> Result<Entry, CodecError>
-    ensures { Makes (λ entry. (entry, reader.new)) result (settled_at reader.old) }
+    ensures { Gives (λ entry. (entry, reader.new)) result (settled_at reader.old) }
 {
     let leaf = reader.u16()?;
     let request = reader.u32()?;
@@ -185,7 +189,7 @@ fn settled(reader: &mut Reader<'_>) -> Result<Entry, CodecError>
 
 #[tactic(auto, unfolding(crate::specs::Entries::applied_at))]
 fn applied(alloc: Global, layout: Layout, reader: &mut Reader<'_>) -> Result<Entry, CodecError>
-    ensures { Makes (λ entry. (entry, reader.new)) result (applied_at layout reader.old) }
+    ensures { MakesEntry result reader.new (applied_at layout reader.old) }
 {
     let number = reader.u32()?;
     let change = change(alloc, layout, reader)?;
@@ -194,7 +198,7 @@ fn applied(alloc: Global, layout: Layout, reader: &mut Reader<'_>) -> Result<Ent
 
 #[tactic(auto, unfolding(crate::specs::Entries::request_out_at))]
 fn request_out(alloc: Global, layout: Layout, reader: &mut Reader<'_>) -> Result<Entry, CodecError>
-    ensures { Makes (λ entry. (entry, reader.new)) result (request_out_at layout reader.old) }
+    ensures { MakesEntry result reader.new (request_out_at layout reader.old) }
 {
     let request = reader.u32()?;
     let change = change(alloc, layout, reader)?;
@@ -203,7 +207,7 @@ fn request_out(alloc: Global, layout: Layout, reader: &mut Reader<'_>) -> Result
 
 #[tactic(auto, unfolding(crate::specs::Entries::request_done_at))]
 fn request_done(reader: &mut Reader<'_>) -> Result<Entry, CodecError>
-    ensures { Makes (λ entry. (entry, reader.new)) result (request_done_at reader.old) }
+    ensures { Gives (λ entry. (entry, reader.new)) result (request_done_at reader.old) }
 {
     let request = reader.u32()?;
     Ok(Entry::ReqDone { request })

@@ -1,6 +1,7 @@
 // How changes and records are spelled, by the layout.
-ghost use Rattle.std.specs.Prelude.{◌≡◌};
-ghost use Rattle.usercodec.specs.Answers.{Makes, Finds};
+ghost use Rattle.std.specs.Prelude.{◌≡◌, ◌<◌, length};
+ghost use Rattle.usercodec.specs.Answers.{Makes};
+ghost use Rattle.botjournal.specs.Empty.{FindsSome};
 ghost use Rattle.botjournal.specs.Layouts.{layout_of, change_by, so_many_records_by};
 
 use crate::LAYOUT;
@@ -51,7 +52,7 @@ pub(crate) fn so_many_records(
     reader: &mut Reader<'_>,
     count: usize,
 ) -> Result<Vec<Record>, CodecError>
-    ensures { Finds (λ records. (records.items, reader.new)) result (so_many_records_by layout count reader.old) }
+    ensures { FindsSome (λ records. (records.items, reader.new)) (λ x. 0 < length x.0) result (so_many_records_by layout count reader.old) }
 {
     match layout {
         Layout::First => reader.records_old(alloc, count),

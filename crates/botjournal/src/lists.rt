@@ -1,11 +1,12 @@
 // Lists of records and replies, each after its count.
-ghost use Rattle.std.specs.Prelude.{◌≡◌, ◌++◌, ◌<◌, ◌^◌, OnOk, [], length, true};
+ghost use Rattle.std.specs.Prelude.{◌≡◌, ◌++◌, ◌<◌, ◌^◌, IfErr, OnOk, [], length, true};
 ghost use Rattle.std.specs.List.{AllByRecursion};
 ghost use Rattle.usercodec.specs.Answers.{Gives, Finds};
 ghost use Rattle.usercodec.specs.Fields.{number};
 ghost use Rattle.usercodec.specs.Records.{record_bytes, HasShape, items_at};
 ghost use Rattle.botjournal.specs.Bases.{listed, answer_bytes, reply_bytes};
 ghost use Rattle.botjournal.specs.Bases.{are_rising, is_next_reply, may_follow, are_kept, are_kept_by};
+ghost use Rattle.botjournal.specs.Empty.{FindsSome};
 ghost use Rattle.botjournal.specs.declared.TheConstants.{WINDOW};
 ghost use Rattle.botjournal.specs.Bases.{answer_at, answer_from, reply_at, records_at, replies_at, replies_listed_at};
 
@@ -71,7 +72,7 @@ pub(crate) fn records(
     layout: Layout,
     reader: &mut Reader<'_>,
 ) -> Result<Seq<Record>, CodecError>
-    ensures { Finds (λ records. (records, reader.new)) result (records_at layout reader.old) }
+    ensures { FindsSome (λ records. (records, reader.new)) (λ x. 0 < length x.0) result (records_at layout reader.old) }
 {
     let count = reader.u16()?;
     let records = so_many_records(alloc, layout, reader, count as usize)?;
@@ -84,7 +85,7 @@ pub(crate) fn replies(
     layout: Layout,
     reader: &mut Reader<'_>,
 ) -> Result<Seq<Reply>, CodecError>
-    ensures { Finds (λ replies. (replies, reader.new)) result (replies_at layout reader.old) }
+    ensures { FindsSome (λ replies. (replies, reader.new)) (λ x. 0 < length x.0) result (replies_at layout reader.old) }
 {
     let replies = listed_replies(alloc, reader)?;
     if !are_kept_by(layout, &replies) {
@@ -95,7 +96,7 @@ pub(crate) fn replies(
 
 #[tactic(auto, unfolding(crate::specs::Bases::replies_listed_at))]
 fn listed_replies(alloc: Global, reader: &mut Reader<'_>) -> Result<Vec<Reply>, CodecError>
-    ensures { Finds (λ replies. (replies.items, reader.new)) result (replies_listed_at reader.old) }
+    ensures { FindsSome (λ replies. (replies.items, reader.new)) (λ x. 0 < length x.0) result (replies_listed_at reader.old) }
 {
     let count = reader.u16()?;
     so_many_replies(alloc, reader, count)
@@ -106,8 +107,9 @@ fn so_many_replies(
     reader: &mut Reader<'_>,
     count: u16,
 ) -> Result<Vec<Reply>, CodecError>
-    ensures { Finds (λ replies. (replies.items, reader.new)) result
+    ensures value { Finds (λ replies. (replies.items, reader.new)) result
         (items_at (λ held bytes. reply_at bytes) count [] reader.old) }
+    ensures memory { IfErr result (λ _. 0 < count) }
 {
     let mut replies = Vec::new(alloc);
     for _ in 0..count {

@@ -1,7 +1,8 @@
 // The requests that are out, as bytes: in the layout that is written, and the one change of an older layout.
-ghost use Rattle.std.specs.Prelude.{◌≡◌, ◌≤◌, ◌++◌, [], IfOk, OnOk, length};
+ghost use Rattle.std.specs.Prelude.{◌≡◌, ◌<◌, ◌≤◌, ◌++◌, [], IfOk, IfErr, IsSome, OnOk, length};
 ghost use Rattle.std.specs.List.{AllByRecursion, list_all};
 ghost use Rattle.usercodec.specs.Answers.{Finds};
+ghost use Rattle.botjournal.specs.Empty.{FindsSome};
 ghost use Rattle.usercodec.specs.Fields.{counted};
 ghost use Rattle.usercodec.specs.Records.{items_at};
 ghost use Rattle.botjournal.specs.declared.TheConstants.{WINDOW};
@@ -47,7 +48,7 @@ pub(crate) fn out(
     layout: Layout,
     reader: &mut Reader<'_>,
 ) -> Result<(u32, Seq<Request>), CodecError>
-    ensures { Finds (λ out. (out, reader.new)) result (out_at layout reader.old) }
+    ensures { FindsSome (λ out. (out, reader.new)) (λ x. 0 < length x.0.1) result (out_at layout reader.old) }
 {
     match layout {
         Layout::First => one_out(alloc, layout, reader),
@@ -58,7 +59,7 @@ pub(crate) fn out(
 
 #[tactic(auto, unfolding(crate::specs::Bases::window_at))]
 fn window(alloc: Global, reader: &mut Reader<'_>) -> Result<(u32, Seq<Request>), CodecError>
-    ensures { Finds (λ out. (out, reader.new)) result (window_at reader.old) }
+    ensures { FindsSome (λ out. (out, reader.new)) (λ x. 0 < length x.0.1) result (window_at reader.old) }
 {
     let last = reader.u32()?;
     let requests = listed_requests(alloc, reader)?;
@@ -70,7 +71,7 @@ fn window(alloc: Global, reader: &mut Reader<'_>) -> Result<(u32, Seq<Request>),
 
 #[tactic(auto, unfolding(crate::specs::Bases::requests_listed_at, usercodec::specs::Fields::count_at))]
 fn listed_requests(alloc: Global, reader: &mut Reader<'_>) -> Result<Vec<Request>, CodecError>
-    ensures { Finds (λ requests. (requests.items, reader.new)) result (requests_listed_at reader.old) }
+    ensures { FindsSome (λ requests. (requests.items, reader.new)) (λ x. 0 < length x.0) result (requests_listed_at reader.old) }
 {
     let count = reader.byte()?;
     if count as usize > WINDOW {
@@ -84,8 +85,9 @@ fn so_many_requests(
     reader: &mut Reader<'_>,
     count: u8,
 ) -> Result<Vec<Request>, CodecError>
-    ensures { Finds (λ requests. (requests.items, reader.new)) result
+    ensures value { Finds (λ requests. (requests.items, reader.new)) result
         (items_at (λ held bytes. request_at bytes) count [] reader.old) }
+    ensures memory { IfErr result (λ _. 0 < count) }
 {
     let mut requests = Vec::new(alloc);
     for _ in 0..count {
@@ -147,7 +149,7 @@ fn one_out(
     layout: Layout,
     reader: &mut Reader<'_>,
 ) -> Result<(u32, Seq<Request>), CodecError>
-    ensures { Finds (λ out. (out, reader.new)) result (one_out_at layout reader.old) }
+    ensures { FindsSome (λ out. (out, reader.new)) (λ x. 0 < length x.0.1) result (one_out_at layout reader.old) }
 {
     let last = reader.u32()?;
     let change = change_out(alloc, layout, reader)?;
@@ -156,7 +158,8 @@ fn one_out(
 
 // The request of this number, where a change is out.
 fn numbered(alloc: Global, last: u32, change: Option<Change>) -> Result<Seq<Request>, NoMemory>
-    ensures { IfOk result (λ out. out ≡ one_out last change) }
+    ensures out { IfOk result (λ out. out ≡ one_out last change) }
+    ensures memory { IfErr result (λ _. IsSome change) }
 {
     let mut requests = Seq::empty(alloc);
     if let Some(change) = change {
@@ -174,7 +177,7 @@ fn change_out(
     layout: Layout,
     reader: &mut Reader<'_>,
 ) -> Result<Option<Change>, CodecError>
-    ensures { Finds (λ change. (change, reader.new)) result (change_out_at layout reader.old) }
+    ensures { FindsSome (λ change. (change, reader.new)) (λ x. IsSome x.0) result (change_out_at layout reader.old) }
 {
     let byte = reader.byte()?;
     change_out_of(alloc, layout, byte, reader)
@@ -187,7 +190,7 @@ fn change_out_of(
     byte: u8,
     reader: &mut Reader<'_>,
 ) -> Result<Option<Change>, CodecError>
-    ensures { Finds (λ change. (change, reader.new)) result (change_out_from layout byte reader.old) }
+    ensures { FindsSome (λ change. (change, reader.new)) (λ x. IsSome x.0) result (change_out_from layout byte reader.old) }
 {
     match byte {
         0 => Ok(None),

@@ -1,5 +1,7 @@
 -- Who is there for a call: where nobody is, it takes no memory.
-use Rattle.std.specs.Prelude.{◌≡◌, ℕ, Option, None, Some, slice_get}
+use Rattle.std.specs.Prelude.{◌≡◌, ◌||◌, ◌==◌, Bool, not, ℕ, length, Option, None, Some, IsTrue, is_some, slice_get}
+use Rattle.std.specs.List.{list_any}
+use Rattle.botlinks.specs.declared.hub_links.HubLinks.{HubLinks}
 use Rattle.botlinks.specs.declared.links.Links.{Links}
 use Rattle.botlinks.specs.declared.links.Links.TheVariants.{Alone, Hub, Leaf}
 use Rattle.botlinks.specs.declared.meeting.Stage.{Stage}
@@ -35,10 +37,14 @@ Reaches to Alone = ⊥
 Reaches to (Hub hub) = IsTaken (slice_get hub.seats.items to)
 Reaches to (Leaf leaf) = IsLinked leaf.hub
 
--- a hub, or a leaf that listens to its own
+-- somebody is connected to a hub: one who has shown no code yet, or a leaf
+abbrev pub has_somebody : HubLinks → Bool
+has_somebody hub = not (length hub.guests.items == 0) || list_any is_some hub.seats.items
+
+-- a hub to whom somebody is connected, or a leaf that listens to its own
 abbrev pub Hears : Links → Type 0
 Hears Alone = ⊥
-Hears (Hub hub) = Unit {0}
+Hears (Hub hub) = IsTrue (has_somebody hub)
 Hears (Leaf leaf) = IsHeard leaf.hub
 
 -- a hub

@@ -1,6 +1,7 @@
 // The hub's connections to its leaves.
 ghost use Rattle.std.specs.Prelude.{IfOk, OnErr, slice_get};
 ghost use Rattle.std.specs.List.{AllByRecursion};
+ghost use Rattle.sharewire.specs.Frames.{CanBeWritten};
 ghost use Rattle.botlinks.specs.Linked.{IsTaken};
 ghost use Rattle.linkcalls.specs.Shapes.{HasGoodRecords};
 
@@ -233,10 +234,11 @@ impl HubLinks {
     /// Leaves a packet for a leaf. Where it is not linked, the packet is lost.
     ///
     /// # Errors
-    /// `NoMemory` where a growth is refused: never where it is not linked.
+    /// `NoMemory` where a growth is refused: never where it is not linked, nor where the packet has no frame.
     pub fn tell(&mut self, alloc: Global, leaf: u16, packet: &Packet) -> Result<(), NoMemory>
         requires good { HasGoodRecords packet.now }
         ensures memory { OnErr result (IsTaken (slice_get self.old.seats.items leaf)) }
+        ensures frame { OnErr result (CanBeWritten packet.now) }
     {
         match self.seats.get_mut(usize::from(leaf)) {
             Some(Some(seat)) => seat.tell(alloc, packet),

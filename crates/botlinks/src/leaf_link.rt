@@ -1,6 +1,7 @@
 // A leaf's connection to its hub.
 ghost use Rattle.std.specs.Prelude.{◌<◌, IfOk, IfErr, OnErr};
 ghost use Rattle.std.specs.List.{AllByRecursion};
+ghost use Rattle.sharewire.specs.Frames.{CanBeWritten};
 ghost use Rattle.botlinks.specs.Linked.{IsHeard, IsLinked};
 ghost use Rattle.bytetext.specs.declared.moment.TheConstants.{MOMENTS_END};
 ghost use Rattle.linkcalls.specs.Shapes.{HasGoodRecords};
@@ -251,10 +252,11 @@ impl LeafLink {
     /// Leaves a packet for the hub. Where it is not linked, the packet is lost. A hello is noted.
     ///
     /// # Errors
-    /// `NoMemory` where a growth is refused: never where the hub is not linked.
+    /// `NoMemory` where a growth is refused: never where the hub is not linked, nor where the packet has no frame.
     pub fn tell(&mut self, alloc: Global, packet: &Packet, now: u64) -> Result<(), NoMemory>
         requires good { HasGoodRecords packet.now }
         ensures memory { OnErr result (IsLinked self.old.hub) }
+        ensures frame { OnErr result (CanBeWritten packet.now) }
     {
         if let Packet::Hello { version, .. } = packet {
             self.pumps.say(*version, now);

@@ -2,6 +2,7 @@
 ghost use Rattle.std.specs.Prelude.{◌≡◌, ◌≢◌, ◌<◌, IfOk, IfErr, OnErr, option_map};
 ghost use Rattle.std.specs.List.{AllByRecursion};
 ghost use Rattle.bytetext.specs.declared.moment.TheConstants.{MOMENTS_END};
+ghost use Rattle.sharewire.specs.Frames.{CanBeWritten};
 ghost use Rattle.botlinks.specs.Hellos.{asked, noted, pumps_of};
 ghost use Rattle.botlinks.specs.Linked.{Hears, IsHub, Reaches};
 ghost use Rattle.botlinks.specs.declared.links.Links.TheVariants.{Alone};
@@ -93,7 +94,7 @@ impl Links {
     /// Hears each. Whether there may be more at once.
     ///
     /// # Errors
-    /// `NoMemory` where a growth is refused: never for a bot that is alone, nor for a leaf without a connection.
+    /// `NoMemory` where a growth is refused: never for a bot that is alone, nor where nobody is connected.
     pub fn read<R: AllocGlobal + Print>(&mut self, rt: &R, now: u64) -> Result<bool, NoMemory>
         ensures memory { IfErr result (λ _. Hears self.old) }
     {
@@ -138,10 +139,11 @@ impl Links {
     /// Leaves a packet for who is to have it. Where that one is not linked, the packet is lost.
     ///
     /// # Errors
-    /// `NoMemory` where a growth is refused: never where that one is not linked.
+    /// `NoMemory` where a growth is refused: never where that one is not linked, nor where the packet has no frame.
     pub fn tell(&mut self, alloc: Global, outgoing: &Outgoing, now: u64) -> Result<(), NoMemory>
         requires good { HasGoodRecords outgoing.now.packet }
         ensures memory { OnErr result (Reaches outgoing.now.to self.old) }
+        ensures frame { OnErr result (CanBeWritten outgoing.now.packet) }
     {
         match self {
             Links::Alone => Ok(()),

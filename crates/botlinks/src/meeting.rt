@@ -1,6 +1,7 @@
 // One connection of a leaf to its hub.
 ghost use Rattle.std.specs.Prelude.{◌≡◌, IfOk, OnErr};
 ghost use Rattle.std.specs.List.{AllByRecursion};
+ghost use Rattle.sharewire.specs.Frames.{CanBeWritten};
 ghost use Rattle.botlinks.specs.declared.meeting.Stage.TheVariants.{Linked};
 ghost use Rattle.linkcalls.specs.Shapes.{HasGoodRecords};
 
@@ -120,6 +121,7 @@ impl Hub {
     pub(crate) fn tell(&mut self, alloc: Global, packet: &Packet) -> Result<(), NoMemory>
         requires good { HasGoodRecords packet.now }
         ensures memory { OnErr result (self.old.stage ≡ Linked) }
+        ensures frame { OnErr result (CanBeWritten packet.now) }
     {
         match self.stage {
             Stage::Linked => {}

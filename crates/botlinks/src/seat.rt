@@ -1,6 +1,7 @@
 // A leaf that is linked to the hub.
-ghost use Rattle.std.specs.Prelude.{◌≡◌, true, IfOk};
+ghost use Rattle.std.specs.Prelude.{◌≡◌, true, IfOk, OnErr};
 ghost use Rattle.std.specs.List.{AllByRecursion, list_all};
+ghost use Rattle.sharewire.specs.Frames.{CanBeWritten};
 ghost use Rattle.botlinks.specs.Speakers.{is_own};
 ghost use Rattle.linkcalls.specs.Shapes.{HasGoodRecords};
 
@@ -92,6 +93,7 @@ impl Seat {
     // Leaves a packet for it, as its frame. One that has no frame is lost.
     pub(crate) fn tell(&mut self, alloc: Global, packet: &Packet) -> Result<(), NoMemory>
         requires good { HasGoodRecords packet.now }
+        ensures frame { OnErr result (CanBeWritten packet.now) }
     {
         match frame_of(alloc, packet)? {
             Some(frame) => self.wire.tell(frame.as_slice()),

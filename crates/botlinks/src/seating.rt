@@ -1,4 +1,8 @@
 // How the hub hears its leaves, and who takes which seat.
+ghost use Rattle.std.specs.Prelude.{◌≡◌, IsTrue, OnErr, is_some};
+ghost use Rattle.std.specs.List.{list_any};
+ghost use Rattle.botlinks.specs.Linked.{has_somebody};
+
 use crate::entry::Entry;
 use crate::gone::Gone;
 use crate::guest::Heeded;
@@ -12,11 +16,23 @@ impl HubLinks {
     /// Hears each that may have something to give. Whether there may be more at once.
     ///
     /// # Errors
-    /// `NoMemory` where a growth is refused.
-    pub fn read<R: AllocGlobal + Print>(&mut self, rt: &R, now: u64) -> Result<bool, NoMemory> {
+    /// `NoMemory` where a growth is refused: never where nobody is connected.
+    pub fn read<R: AllocGlobal + Print>(&mut self, rt: &R, now: u64) -> Result<bool, NoMemory>
+        ensures memory { OnErr result (IsTrue (has_somebody self.old)) }
+    {
+        if !self.has_somebody() {
+            return Ok(false);
+        }
         let guests = self.heed_guests(rt, now)?;
         let leaves = self.hear_leaves(rt.alloc())?;
         Ok(guests || leaves)
+    }
+
+    // Whether somebody is connected.
+    fn has_somebody(&self) -> bool
+        ensures { result ≡ has_somebody self.now }
+    {
+        !self.guests.is_empty() || is_any_taken(self.seats.as_slice())
     }
 
     // Hears each guest. Whether one has said anything.
@@ -123,4 +139,11 @@ impl HubLinks {
             Some(None) | None => None,
         }
     }
+}
+
+// Whether a leaf is linked.
+fn is_any_taken(seats: &[Option<Seat>]) -> bool
+    ensures { result ≡ list_any is_some seats.now }
+{
+    seats.iter().any(|seat| seat.is_some())
 }

@@ -19,7 +19,7 @@ use Rattle.linkcalls.specs.declared.answer.Answer.{Answer}
 use Rattle.linkcalls.specs.declared.answer.Outgoing.{Outgoing}
 use Rattle.linkcalls.specs.declared.error.LinkFault.{LinkFault}
 use Rattle.linkcalls.specs.declared.error.LinkFault.TheVariants.{Down, BadChange, AsksFull, OtherLayout, Diverged, NumbersSpent, JournalFault, BadBotText, TextsFull, DiskFault}
-use Rattle.linkcalls.specs.Calls.{outgoing_of, outgoings_of, IsFault}
+use Rattle.linkcalls.specs.Calls.{outgoings_of, IsFault}
 use Rattle.linkcalls.specs.Meets.{how_of, Answers, Refuses}
 use Rattle.linknet.specs.Ends.{End as LinkEnd, AtHub, AtLeaf, end_did}
 use Rattle.linknet.specs.Nets.{IsMoment, MovesAsTold, RowFollows}

@@ -1,10 +1,10 @@
 -- Streams that are asked one after another.
-use Rattle.std.proofs.Common.{◌≡◌, ◌∙◌, ◌++◌, ◌+◌, ◌-◌, ◌<◌, ◌≤◌, ℕ, min, List, [], ◌∷◌, length, get_or, set, take, drop, sym, ap, length-set, drop-drop, add-zero, get_or-drop, drop-set-lt, arith}
+use Rattle.std.proofs.Common.{◌≡◌, ◌∙◌, ◌++◌, ◌+◌, ◌-◌, ◌<◌, ◌≤◌, ℕ, min, List, [], ◌∷◌, length, get_or, set, take, drop, sym, ap, drop-drop, add-zero, get_or-drop, drop-set-lt, arith}
 use Rattle.std.proofs.lemmas.List.{take_more_set}
 use Rattle.std.proofs.lemmas.List.Sums.{fold_more}
 use Rattle.sharewire.specs.declared.packet.Packet.{Packet}
 use Rattle.inbox.specs.declared.queue.TheConstants.{MAX_PACKETS}
-use Rattle.inbox.specs.Waiting.{Round, asked, round_of, share}
+use Rattle.inbox.specs.Waiting.{asked, round_of, share}
 
 -- lists that are the same from a place on have the same there
 item-same : {X : Type 0} (xs ys : List X) (i : ℕ) (d : X) → drop i xs ≡ drop i ys → get_or xs i d ≡ get_or ys i d

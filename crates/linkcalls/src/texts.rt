@@ -1,5 +1,5 @@
 // Texts from one bot to another.
-ghost use Rattle.std.specs.Prelude.{◌≡◌, IfOk};
+ghost use Rattle.std.specs.Prelude.{◌≡◌, ◌<◌, length, IfOk, IfErr};
 ghost use Rattle.linkcalls.specs.Texts.{text_fault, text_by};
 
 use crate::MAX_TEXTS;
@@ -26,7 +26,7 @@ pub fn text_fault(leaves: u16, number: u16, to: u16, text: &[u8], sent: usize) -
 /// A text from one bot to another, on its way to the bot that takes it next.
 ///
 /// # Errors
-/// `NoMemory` where room for the text is refused.
+/// `NoMemory` where room for the text is refused: never for the empty text.
 pub fn text_by(
     alloc: Global,
     next: u16,
@@ -34,7 +34,8 @@ pub fn text_by(
     to: u16,
     text: &[u8],
 ) -> Result<Outgoing, NoMemory>
-    ensures { IfOk result (λ outgoing. outgoing ≡ text_by next from to text.now) }
+    ensures outgoing { IfOk result (λ outgoing. outgoing ≡ text_by next from to text.now) }
+    ensures memory { IfErr result (λ _. 0 < length text.now) }
 {
     let text = Text::from_slice(alloc, text)?;
     let packet = Packet::BotText { from, to, text };

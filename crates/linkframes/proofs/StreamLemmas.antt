@@ -6,9 +6,9 @@ use Rattle.sharewire.specs.declared.feed.Feed.{Feed}
 use Rattle.sharewire.specs.declared.packet.Packet.{Packet}
 use Rattle.sharewire.specs.declared.packet.Packet.TheVariants.{Hello, Change, Part, Request, Accepted, Refused, BotText}
 use Rattle.sharewire.specs.Frames.{IsGoodPacket}
-use Rattle.sharewire.specs.Streams.{Ending, Tells}
+use Rattle.sharewire.specs.Streams.{Ending}
 use Rattle.linkcalls.specs.Shapes.{HasGoodRecords}
-use Rattle.linkframes.specs.Streams.{IsRead}
+use Rattle.linkframes.specs.Streams.{IsRead, TellsOn}
 
 -- ---- packets that have frames
 
@@ -29,12 +29,6 @@ good_after [] (packet ∷ packets) good = (good_records packet good.0, good_afte
 good_after (one ∷ before) packets good = good_after before packets good.1
 
 -- ---- a piece more
-
--- what a stream told before a piece of it, it tells with what the piece told
-abbrev pub TellsOn : List ℕ → Ending → Ending → Result Feed NoMemory → Type 0
-TellsOn piece old new result =
-    (stream : List ℕ) (packets : List Packet) → Tells stream packets old
-    → IfOk result (λ (feed : Feed). Tells (stream ++ piece) (packets ++ feed.packets) new)
 
 pub fed_good : (piece : List ℕ) (old new : Ending) (result : Result Feed NoMemory) → IsRead old → TellsOn piece old new result
     → IfOk result (λ (feed : Feed). AllByRecursion HasGoodRecords feed.packets)

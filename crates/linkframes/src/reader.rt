@@ -4,7 +4,8 @@ use sharewire::{Feed, WireReader};
 use std::alloc::Global;
 use std::marker::Model;
 
-/// Reads the frames of a connection from its first byte on: so each packet that it answers has a frame.
+/// Reads the frames of a connection from its first byte on: so each packet that it answers has a frame. Contracts see
+/// how the stream ends so far, as of a [`WireReader`].
 pub struct FrameReader {
     reader: WireReader,
 }
@@ -28,12 +29,17 @@ impl Model for FrameReader {
 }
 
 impl FrameReader {
-    ghost use Rattle.std.specs.Prelude.{◌<◌, length, IfOk, IsErr, IsOk, OnErr};
+    ghost use Rattle.std.specs.Prelude.{◌≡◌, ◌<◌, [], length, Ok, IfOk, IsErr, IsOk, OnErr};
     ghost use Rattle.std.specs.List.{AllByRecursion};
+    ghost use Rattle.sharewire.specs.Streams.{Tells, fault_told};
     ghost use Rattle.linkcalls.specs.Shapes.{HasGoodRecords};
+    ghost use Rattle.linkframes.specs.Streams.{TellsOn};
 
     /// A reader before the first byte. Takes no memory.
-    pub fn new(alloc: Global) -> FrameReader {
+    pub fn new(alloc: Global) -> FrameReader
+        ensures empty { result ≡ Ok [] }
+        ensures told { Tells [] [] result }
+    {
         FrameReader {
             reader: WireReader::new(alloc),
         }
@@ -44,9 +50,15 @@ impl FrameReader {
     /// # Errors
     /// `NoMemory` where a growth is refused: never where no bytes come, nor after a fault. The reader is then as before.
     pub fn feed(&mut self, alloc: Global, bytes: &[u8]) -> Result<Feed, NoMemory>
+        // Of any stream that has told these packets so far, the packets go on with those of the answer.
+        ensures told { TellsOn bytes.now self.old self.new result }
+        ensures fault { IfOk result (λ feed. feed.fault ≡ fault_told self.old self.new) }
         ensures good { IfOk result (λ feed. AllByRecursion HasGoodRecords feed.packets) }
         ensures memory { OnErr result (0 < length bytes.now) }
+        // A reader that has failed takes no memory, and stays so.
         ensures failed { IsErr self.old → IsOk result }
+        ensures stays { IsErr self.old → self.new ≡ self.old }
+        ensures unchanged { OnErr result (self.new ≡ self.old) }
     {
         self.reader.feed(alloc, bytes)
     }

@@ -1,5 +1,5 @@
 -- What a crash leaves while an end is opened, be its journal of the present layout or an older one that is put anew.
-use Rattle.std.proofs.Common.{◌≡◌, ◌≢◌, ◌⊎◌, ◌≤◌, ◌-◌, ℕ, List, Option, Some, Result, Ok, Err, length, refl, sym, ap, subst, ◌∙◌, ⊎_elim, inl, inr, arith}
+use Rattle.std.proofs.Common.{◌≡◌, ◌≢◌, ◌⊎◌, ◌≤◌, ℕ, List, Option, Some, Result, Ok, Err, length, refl, sym, ap, subst, ◌∙◌, ⊎_elim, inl, inr, arith}
 use Rattle.bytetext.specs.declared.failure.Failure.{Failure}
 use Rattle.bytetext.specs.declared.failure.Failure.TheVariants.{Refused, NoMemory}
 use Rattle.storage.specs.Events.{Event, LeftSince}

@@ -62,7 +62,7 @@ impl Model for HubState {
 }
 
 impl HubState {
-    ghost use Rattle.std.specs.Prelude.{◌≡◌, ◌≢◌, ◌&&◌, ◌<◌, ◌≤◌, ◌-◌, ◌*◌, ◌^◌, true, false, nat_lt, is_none, None, Err, IfOk, IfErr, OnOk, OnErr, length};
+    ghost use Rattle.std.specs.Prelude.{◌≡◌, ◌≢◌, ◌&&◌, ◌<◌, ◌≤◌, ◌+◌, ◌-◌, ◌*◌, ◌^◌, true, false, nat_lt, is_none, None, Err, IfOk, IfErr, OnOk, OnErr, length};
     ghost use Rattle.std.specs.Option.{option_copied};
     ghost use Rattle.bytetext.specs.declared.failure.Failure.TheVariants.{NoMemory as no_memory, Refused};
     ghost use Rattle.linkstate.specs.declared.fault.StateFault.TheVariants.{NotAJournal};
@@ -76,7 +76,7 @@ impl HubState {
     ghost use Rattle.protocol.specs.HubRules.{Accept, Settle, Rebase, version_of, hub_folded};
     ghost use Rattle.protocol.specs.Snapshots.{items_of};
     ghost use Rattle.protocol.specs.Network.{new_hub};
-    ghost use Rattle.protocol.specs.Journals.{hub_of, hub_base, hub_record, hub_meaning, is_next, is_next_of, IsHubState};
+    ghost use Rattle.protocol.specs.Journals.{hub_of, hub_base, hub_record, hub_meaning, replies_in, is_next, is_next_of, IsHubState};
     ghost use Rattle.linkstate.specs.States.{Reads, Takes, TakesAll, ArePlaced, hub_on, is_hubs, empty_base, is_accepted};
     ghost use Rattle.linkstate.specs.Kept.{WritesAny, LeavesWritten};
 
@@ -387,10 +387,11 @@ impl HubState {
     /// its leaf's place, as in each state that was read, and there are not too many leaves for the count of replies.
     ///
     /// # Errors
-    /// `NoMemory` where room for copies is refused.
+    /// `NoMemory` where room for copies is refused: never where there are no records and no replies.
     pub fn base(&self, alloc: Global) -> Result<Base, NoMemory>
         ensures base { IfOk result (λ base. base ≡ hub_base self.now) }
         ensures good { IfOk result (λ base. ArePlaced self.now.replies → 8 * length self.now.replies < 2 ^ 16 → IsGoodBase base) }
+        ensures memory { IfErr result (λ _. 0 < length (items_of self.now.records) + length (replies_in self.now.replies)) }
     {
         let records = items_of(alloc, &self.userfile)?;
         let replies = replies_in(alloc, self.replies.as_slice())?;

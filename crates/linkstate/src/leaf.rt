@@ -50,7 +50,7 @@ impl Model for LeafState {
 }
 
 impl LeafState {
-    ghost use Rattle.std.specs.Prelude.{◌≡◌, ◌≢◌, ◌<◌, ℕ, ◌+◌, ◌-◌, ◌^◌, ◌==◌, ◌&&◌, true, false, nat_lt, is_none, None, Err, IfOk, OnOk, OnErr};
+    ghost use Rattle.std.specs.Prelude.{◌≡◌, ◌≢◌, ◌<◌, ℕ, ◌+◌, ◌-◌, ◌^◌, ◌==◌, ◌&&◌, true, false, nat_lt, is_none, None, Err, IfOk, IfErr, OnOk, OnErr, length};
     ghost use Rattle.bytetext.specs.declared.failure.Failure.TheVariants.{NoMemory as no_memory, Refused};
     ghost use Rattle.linkstate.specs.declared.fault.StateFault.TheVariants.{NotAJournal};
     ghost use Rattle.userfile.specs.Apply.{refusal, grows};
@@ -61,6 +61,7 @@ impl LeafState {
     ghost use Rattle.botjournal.specs.Ledger.{Adding, Rebasing};
     ghost use Rattle.botjournal.specs.declared.entry.Entry.TheVariants.{Applied, ReqOut, ReqDone};
     ghost use Rattle.protocol.specs.Numbers.{last_number};
+    ghost use Rattle.protocol.specs.Snapshots.{items_of};
     ghost use Rattle.protocol.specs.LeafRules.{Apply, Out, Done, Install, Compact, is_out, may_go_out, leaf_folded};
     ghost use Rattle.protocol.specs.Network.{new_leaf};
     ghost use Rattle.protocol.specs.Journals.{leaf_of, leaf_base, leaf_record, leaf_meaning};
@@ -418,10 +419,11 @@ impl LeafState {
     /// spelling where a base may have the requests that are out.
     ///
     /// # Errors
-    /// `NoMemory` where room for copies is refused.
+    /// `NoMemory` where room for copies is refused: never where there are no records, and no requests that are out.
     pub fn base(&self, alloc: Global, number: u16) -> Result<Base, NoMemory>
         ensures base { IfOk result (λ base. base ≡ leaf_base number self.now) }
         ensures good { IfOk result (λ base. 0 < number → AreOut self.now.last self.now.out → IsGoodBase base) }
+        ensures memory { IfErr result (λ _. 0 < length (items_of self.now.records) + length self.now.out) }
     {
         self.base_with(alloc, number, self.version, &self.userfile)
     }
@@ -429,7 +431,7 @@ impl LeafState {
     /// The same with the records of another version in the place of this state's.
     ///
     /// # Errors
-    /// `NoMemory` where room for copies is refused.
+    /// `NoMemory` where room for copies is refused: never where there are no records, and no requests that are out.
     pub fn base_with(
         &self,
         alloc: Global,
@@ -439,6 +441,7 @@ impl LeafState {
     ) -> Result<Base, NoMemory>
         ensures base { IfOk result (λ base. base ≡ leaf_base number (record self.now { version = version; records = userfile.now })) }
         ensures good { IfOk result (λ base. 0 < number → AreOut self.now.last self.now.out → IsGoodBase base) }
+        ensures memory { IfErr result (λ _. 0 < length (items_of userfile.now) + length self.now.out) }
     {
         let records = items_of(alloc, userfile)?;
         let out = copies_of(alloc, self.out.as_slice())?;

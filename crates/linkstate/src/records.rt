@@ -1,6 +1,7 @@
 // The records of a base, and the userfile that holds them.
-ghost use Rattle.std.specs.Prelude.{◌≡◌, ◌≤◌, ◌<◌, ◌++◌, true, IfOk, IfErr, IsTrue, OnOk, OnErr, length};
+ghost use Rattle.std.specs.Prelude.{◌≡◌, ◌≤◌, ◌<◌, ◌++◌, true, Err, IfOk, IfErr, IsTrue, OnOk, OnErr, length};
 ghost use Rattle.std.specs.List.{AllByRecursion};
+ghost use Rattle.bytetext.specs.declared.failure.Failure.TheVariants.{NoMemory as no_memory};
 ghost use Rattle.usercodec.specs.Records.{IsGoodRecord};
 ghost use Rattle.botjournal.specs.Bases.{AreListed};
 ghost use Rattle.protocol.specs.Snapshots.{users_in, bans_in, user_items, ban_items, items_of};
@@ -16,10 +17,11 @@ use userfile::{Ban, User, Userfile};
 /// The userfile of these records, where they stand together.
 ///
 /// # Errors
-/// `NotAJournal` where no userfile holds all of them, or `NoMemory`.
+/// `NotAJournal` where no userfile holds all of them, or `NoMemory`: never where there are none.
 pub fn userfile_of(alloc: Global, items: &[Record]) -> Result<Userfile, StateError>
     requires good { AllByRecursion IsGoodRecord items.now }
-    ensures { Reads (sound_records items.now) result }
+    ensures reads { Reads (sound_records items.now) result }
+    ensures memory { result ≡ Err no_memory → 0 < length items.now }
 {
     let users = users_in(alloc, items)?;
     let bans = bans_in(alloc, items)?;
@@ -31,7 +33,8 @@ pub fn userfile_of(alloc: Global, items: &[Record]) -> Result<Userfile, StateErr
 }
 
 fn users_in(alloc: Global, items: &[Record]) -> Result<Vec<User>, NoMemory>
-    ensures { IfOk result (λ users. users.items ≡ users_in items.now) }
+    ensures users { IfOk result (λ users. users.items ≡ users_in items.now) }
+    ensures memory { IfErr result (λ _. 0 < length items.now) }
 {
     let mut users = Vec::new(alloc);
     for item in items {
@@ -44,7 +47,8 @@ fn users_in(alloc: Global, items: &[Record]) -> Result<Vec<User>, NoMemory>
 }
 
 fn bans_in(alloc: Global, items: &[Record]) -> Result<Vec<Ban>, NoMemory>
-    ensures { IfOk result (λ bans. bans.items ≡ bans_in items.now) }
+    ensures bans { IfOk result (λ bans. bans.items ≡ bans_in items.now) }
+    ensures memory { IfErr result (λ _. 0 < length items.now) }
 {
     let mut bans = Vec::new(alloc);
     for item in items {

@@ -46,7 +46,8 @@ pub(crate) fn replies_of(
 
 // The replies that there are.
 pub(crate) fn replies_in(alloc: Global, held: &[LeafReplies]) -> Result<Vec<Reply>, NoMemory>
-    ensures { IfOk result (λ replies. replies.items ≡ replies_in held.now) }
+    ensures replies { IfOk result (λ replies. replies.items ≡ replies_in held.now) }
+    ensures memory { IfErr result (λ _. 0 < length (replies_in held.now)) }
 {
     let mut replies = Vec::new(alloc);
     for kept in held {

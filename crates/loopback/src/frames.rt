@@ -13,8 +13,9 @@ pub struct FramePeer {
 }
 
 impl FramePeer {
-    ghost use Rattle.std.specs.Prelude.{IfOk};
+    ghost use Rattle.std.specs.Prelude.{◌<◌, IfOk, IfErr, OnErr, vec_len};
     ghost use Rattle.std.specs.List.{AllByRecursion};
+    ghost use Rattle.sharewire.specs.Frames.{CanBeWritten};
     ghost use Rattle.linkcalls.specs.Shapes.{HasGoodRecords};
 
     /// Over a side of a connection that nothing was read from. Takes no memory.
@@ -29,9 +30,10 @@ impl FramePeer {
     /// be let go.
     ///
     /// # Errors
-    /// `NoMemory` where a growth was refused.
+    /// `NoMemory` where a growth was refused: never where nothing was read.
     pub fn take_packets(&mut self, alloc: Global) -> Result<Vec<Packet>, NoMemory>
         ensures good { IfOk result (λ packets. AllByRecursion HasGoodRecords packets.items) }
+        ensures memory { IfErr result (λ _. 0 < vec_len self.old.peer.heard) }
     {
         let heard = self.peer.take_heard(alloc);
         if heard.is_empty() {
@@ -47,9 +49,10 @@ impl FramePeer {
     /// Leaves a packet to be written. One that has no frame is lost.
     ///
     /// # Errors
-    /// `NoMemory` where a growth was refused.
+    /// `NoMemory` where a growth was refused: never where it has no frame.
     pub fn tell(&mut self, alloc: Global, packet: &Packet) -> Result<(), NoMemory>
         requires good { HasGoodRecords packet.now }
+        ensures memory { OnErr result (CanBeWritten packet.now) }
     {
         match frame_of(alloc, packet)? {
             Some(frame) => self.peer.tell(frame.as_slice()),

@@ -47,7 +47,7 @@ impl Drop for House {
 }
 
 impl House {
-    ghost use Rattle.std.specs.Prelude.{◌≡◌};
+    ghost use Rattle.std.specs.Prelude.{◌≡◌, ◌<◌, OnErr, vec_len};
 
     /// A server without clients on this port of 127.0.0.1, or where it is 0 on one that the system chooses.
     ///
@@ -89,8 +89,10 @@ impl House {
     /// let go who haven't registered or answered in time. Without a tick nobody is; a guest never is.
     ///
     /// # Errors
-    /// `NoMemory` where a growth was refused.
-    pub fn tick(&mut self, now: u64) -> Result<(), NoMemory> {
+    /// `NoMemory` where a growth was refused: never where nobody is connected.
+    pub fn tick(&mut self, now: u64) -> Result<(), NoMemory>
+        ensures memory { OnErr result (0 < vec_len self.old.callers) }
+    {
         self.now = now;
         for caller in self.callers.iter_mut() {
             let is_registered = self.server.is_registered(caller.client);
@@ -161,8 +163,10 @@ impl House {
     /// Reads from each what has come. Whether anything came.
     ///
     /// # Errors
-    /// `NoMemory` where a growth was refused.
-    pub fn read(&mut self) -> Result<bool, NoMemory> {
+    /// `NoMemory` where a growth was refused: never where nobody is connected.
+    pub fn read(&mut self) -> Result<bool, NoMemory>
+        ensures memory { OnErr result (0 < vec_len self.old.callers) }
+    {
         let mut came = false;
         for caller in self.callers.iter_mut() {
             if caller.peer.read()? {
@@ -175,8 +179,10 @@ impl House {
     /// Has the server take each line that has come.
     ///
     /// # Errors
-    /// `NoMemory` where a growth was refused.
-    pub fn step(&mut self, alloc: Global) -> Result<(), NoMemory> {
+    /// `NoMemory` where a growth was refused: never where nobody is connected.
+    pub fn step(&mut self, alloc: Global) -> Result<(), NoMemory>
+        ensures memory { OnErr result (0 < vec_len self.old.callers) }
+    {
         for place in 0..self.callers.len() {
             self.hear(alloc, place)?;
         }

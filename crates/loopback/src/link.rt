@@ -40,8 +40,9 @@ impl Drop for LinkHouse {
 }
 
 impl LinkHouse {
-    ghost use Rattle.std.specs.Prelude.{IfOk};
+    ghost use Rattle.std.specs.Prelude.{◌<◌, IfOk, IfErr, OnErr, vec_len};
     ghost use Rattle.std.specs.List.{AllByRecursion};
+    ghost use Rattle.sharewire.specs.Frames.{CanBeWritten};
     ghost use Rattle.linkcalls.specs.Shapes.{HasGoodRecords};
 
     /// A listener on a port of 127.0.0.1 that the system chooses, for so many leaves. It is waited for.
@@ -102,8 +103,10 @@ impl LinkHouse {
     /// Reads from each what has come. Whether anything came.
     ///
     /// # Errors
-    /// `NoMemory` where a growth was refused.
-    pub fn read(&mut self) -> Result<bool, NoMemory> {
+    /// `NoMemory` where a growth was refused: never where nobody is connected.
+    pub fn read(&mut self) -> Result<bool, NoMemory>
+        ensures memory { OnErr result (0 < vec_len self.old.ends) }
+    {
         let mut came = false;
         for end in self.ends.iter_mut() {
             if end.wire.peer.read()? {
@@ -127,9 +130,10 @@ impl LinkHouse {
     /// and it is to be let go.
     ///
     /// # Errors
-    /// `NoMemory` where a growth was refused.
+    /// `NoMemory` where a growth was refused: never where nobody is at the place.
     pub fn take_packets(&mut self, alloc: Global, place: usize) -> Result<Vec<Packet>, NoMemory>
         ensures good { IfOk result (λ packets. AllByRecursion HasGoodRecords packets.items) }
+        ensures memory { IfErr result (λ _. place < vec_len self.old.ends) }
     {
         let Some(end) = self.ends.get_mut(place) else {
             return Ok(Vec::new(alloc));
@@ -167,9 +171,10 @@ impl LinkHouse {
     /// Leaves a packet for a leaf. It is lost where the leaf has not said hello.
     ///
     /// # Errors
-    /// `NoMemory` where a growth was refused.
+    /// `NoMemory` where a growth was refused: never where the packet has no frame.
     pub fn tell(&mut self, alloc: Global, leaf: u16, packet: &Packet) -> Result<(), NoMemory>
         requires good { HasGoodRecords packet.now }
+        ensures memory { OnErr result (CanBeWritten packet.now) }
     {
         match self.end_of(leaf) {
             Some(end) => end.wire.tell(alloc, packet),

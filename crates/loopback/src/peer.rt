@@ -48,7 +48,8 @@ impl Drop for Peer {
 }
 
 impl Peer {
-    ghost use Rattle.std.specs.Prelude.{◌≡◌, ◌↔◌, [], IsTrue};
+    ghost use Rattle.std.specs.Prelude.{◌≡◌, ◌↔◌, ◌≤◌, [], false, IsTrue, OnErr, vec_len};
+    ghost use Rattle.loopback.specs.declared.peer.TheConstants.{MAX_UNSENT};
 
     /// Begins to connect to an address, and returns at once. The connection is waited for, and small writes go at once
     /// where the system can do that. Takes no memory.
@@ -127,10 +128,15 @@ impl Peer {
     /// Reads what has come, at most 64 pieces of 4,096 bytes. Whether any byte came.
     ///
     /// # Errors
-    /// `NoMemory` where room is refused.
-    pub fn read(&mut self) -> Result<bool, NoMemory> {
+    /// `NoMemory` where room is refused: never where it is to be let go.
+    pub fn read(&mut self) -> Result<bool, NoMemory>
+        ensures memory { OnErr result (self.old.is_over ≡ false) }
+    {
+        if self.is_over {
+            return Ok(!self.heard.is_empty());
+        }
         for _read in 0..MAX_READS {
-            if self.is_over || !self.read_piece()? {
+            if !self.read_piece()? {
                 return Ok(!self.heard.is_empty());
             }
         }
@@ -158,15 +164,20 @@ impl Peer {
     }
 
     /// The bytes that were read since the last time. Takes no memory.
-    pub fn take_heard(&mut self, alloc: Global) -> Vec<u8> {
+    pub fn take_heard(&mut self, alloc: Global) -> Vec<u8>
+        ensures taken { result ≡ self.old.heard }
+        ensures none_left { self.new.heard.items ≡ [] }
+    {
         mem::replace(&mut self.heard, Vec::new(alloc))
     }
 
     /// Leaves bytes to be written. Where too many wait already, it is to be let go.
     ///
     /// # Errors
-    /// `NoMemory` where room is refused.
-    pub fn tell(&mut self, bytes: &[u8]) -> Result<(), NoMemory> {
+    /// `NoMemory` where room is refused: never where too many wait.
+    pub fn tell(&mut self, bytes: &[u8]) -> Result<(), NoMemory>
+        ensures memory { OnErr result (vec_len self.old.unsent ≤ MAX_UNSENT) }
+    {
         if self.unsent.len() > MAX_UNSENT {
             self.is_over = true;
             return Ok(());

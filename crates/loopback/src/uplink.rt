@@ -25,6 +25,8 @@ impl Drop for Uplink {
 }
 
 impl Uplink {
+    ghost use Rattle.std.specs.Prelude.{OnErr};
+    ghost use Rattle.sharewire.specs.Frames.{CanBeWritten};
     ghost use Rattle.linkcalls.specs.Shapes.{HasGoodRecords};
 
     /// Begins to connect to the hub at an address, and returns at once. The connection is waited for. Takes no memory.
@@ -46,9 +48,10 @@ impl Uplink {
     /// Leaves a packet for the hub. Before a hello every other packet is lost.
     ///
     /// # Errors
-    /// `NoMemory` where a growth was refused.
+    /// `NoMemory` where a growth was refused: never where the packet has no frame.
     pub fn tell(&mut self, alloc: Global, packet: &Packet) -> Result<(), NoMemory>
         requires good { HasGoodRecords packet.now }
+        ensures memory { OnErr result (CanBeWritten packet.now) }
     {
         if is_hello(packet) {
             self.greeted = true;

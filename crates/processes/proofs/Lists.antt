@@ -1,5 +1,5 @@
 -- Lists of processes and of packets.
-use Rattle.std.proofs.Common.{◌≡◌, ℕ, zero, suc, List, [], ◌∷◌, ◌++◌, Some, refl, ap, subst}
+use Rattle.std.proofs.Common.{◌≡◌, ℕ, zero, suc, List, [], ◌∷◌, ◌++◌, Some, refl, subst}
 use Rattle.protocol.specs.Packets.{Sent as LinkSent}
 use Rattle.protocol.proofs.Lists.{item_at-more}
 use Rattle.botworld.specs.declared.sent.Sent.{Sent}

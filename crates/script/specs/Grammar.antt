@@ -1,5 +1,5 @@
 -- What a line of a script says by itself.
-use Rattle.std.specs.Prelude.{ℕ, ◌==◌, nat_le, List, [], ◌∷◌, Option, None, Some, option_map, option_and_then, if◌then◌else◌}
+use Rattle.std.specs.Prelude.{ℕ, ◌==◌, nat_le, Bool, false, not, List, [], ◌∷◌, Option, None, Some, option_map, option_and_then, if◌then◌else◌}
 use Rattle.script.specs.declared.command.Command.{Command}
 use Rattle.script.specs.declared.command.Command.TheVariants.{Steps, Show}
 use Rattle.bindtable.specs.Kinds.{kind_of}
@@ -128,6 +128,11 @@ saying_by_words (verb ∷ a ∷ []) = two_words (verb_named verb) a
 saying_by_words (verb ∷ a ∷ first ∷ words) = more_words (verb_named verb) a first words
 saying_by_words (verb ∷ []) = Wrong
 saying_by_words [] = Wrong
+
+-- whether a line says something: it is not empty, and does not begin with #
+abbrev pub has_text : List ℕ → Bool
+has_text [] = false
+has_text (b ∷ bs) = not (b == 35)
 
 -- an empty line, and one that begins with #, says nothing
 abbrev pub saying_of : List ℕ → Saying

@@ -1,9 +1,9 @@
 // What one line says.
-ghost use Rattle.std.specs.Prelude.{◌≡◌, ◌∷◌, map, option_and_then, IfOk};
+ghost use Rattle.std.specs.Prelude.{◌≡◌, ◌∷◌, map, option_and_then, IfOk, IfErr, IsTrue};
 ghost use Rattle.bottimers.specs.Zones.{rule_in};
 ghost use Rattle.script.specs.Vocabulary.{verb_named};
 ghost use Rattle.script.specs.Grammar.{counted, zoned, few_leaves, told, one_step, event_at, told_to, asked, read, clocked, bound, unbound};
-ghost use Rattle.script.specs.Grammar.{two_words, more_words, saying_by_words, saying_of};
+ghost use Rattle.script.specs.Grammar.{two_words, more_words, saying_by_words, saying_of, has_text};
 
 use crate::binding::{new_bind, old_bind};
 use crate::command::{Command, Steps};
@@ -36,9 +36,10 @@ pub enum Saying {
 /// What a line says.
 ///
 /// # Errors
-/// `NoMemory` where room is refused.
+/// `NoMemory` where room is refused: never where the line says nothing.
 pub fn saying_of(alloc: Global, line: &[u8]) -> Result<Saying, NoMemory>
-    ensures { IfOk result (λ saying. saying ≡ saying_of line.now) }
+    ensures saying { IfOk result (λ saying. saying ≡ saying_of line.now) }
+    ensures memory { IfErr result (λ _. IsTrue (has_text line.now)) }
 {
     if line.is_empty() || line[0] == b'#' {
         return Ok(Saying::Nothing);

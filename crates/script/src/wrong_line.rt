@@ -1,5 +1,6 @@
 // Why a line is wrong.
-ghost use Rattle.std.specs.Prelude.{◌≡◌, map, IfOk};
+ghost use Rattle.std.specs.Prelude.{◌≡◌, map, IfOk, IfErr, IsTrue};
+ghost use Rattle.script.specs.Grammar.{has_text};
 ghost use Rattle.script.specs.LineReasons.{is_form, line_reason, reason_by_words, refined};
 
 use crate::doubts::doubt_of;
@@ -12,9 +13,10 @@ use std::alloc::Global;
 /// Why a line breaks a rule by itself; none where it is right, is empty or begins with `#`.
 ///
 /// # Errors
-/// `NoMemory` where room is refused.
+/// `NoMemory` where room is refused: never where the line is empty or begins with `#`.
 pub fn line_reason(alloc: Global, line: &[u8]) -> Result<Option<Reason>, NoMemory>
-    ensures { IfOk result (λ reason. reason ≡ line_reason line.now) }
+    ensures reason { IfOk result (λ reason. reason ≡ line_reason line.now) }
+    ensures memory { IfErr result (λ _. IsTrue (has_text line.now)) }
 {
     if line.is_empty() || line[0] == b'#' {
         return Ok(None);

@@ -26,12 +26,12 @@ writable layout bytes (Err e) is = tt
 
 pub returns-clause-spelled : goal.returns-clause-spelled
 returns-clause-spelled c =
-    spelled c.args.layout c.args.bytes.now c.read_whole.result (λ i. omega (arith, c.type_inv.bytes i)) c.read_whole.ensures
+    spelled c.args.layout c.args.bytes.now c.read_whole.result (λ i. omega (arith, c.type_inv.bytes i)) c.read_whole.ensures.read
 
 pub returns-clause-only : goal.returns-clause-only
-returns-clause-only c = λ entry good is. finds c.args.layout c.args.bytes.now c.read_whole.result c.read_whole.ensures entry good is
+returns-clause-only c = λ entry good is. finds c.args.layout c.args.bytes.now c.read_whole.result c.read_whole.ensures.read entry good is
 
 pub returns-clause-good : goal.returns-clause-good
 returns-clause-good c =
     writable c.args.layout c.args.bytes.now c.read_whole.result
-    (spelled c.args.layout c.args.bytes.now c.read_whole.result (λ i. omega (arith, c.type_inv.bytes i)) c.read_whole.ensures)
+    (spelled c.args.layout c.args.bytes.now c.read_whole.result (λ i. omega (arith, c.type_inv.bytes i)) c.read_whole.ensures.read)

@@ -5,8 +5,8 @@ use Rattle.usercodec.proofs.ItemSteps.{goes_on, is_done}
 use Rattle.usercodec.proofs.ItemSteps.{alone, fails}
 use Rattle.botjournal.proofs.requests.so_many_requests.Goals as goal
 
-pub returns-in-Err : goal.returns-in-Err
-returns-in-Err c =
+pub returns-in-Err-clause-value : goal.returns-in-Err-clause-value
+returns-in-Err-clause-value c =
     fails (alone request_at) c.in-Err.error c.args.count c.loop.counter c.loop.requests.items c.loop.reader
     (items_at (alone request_at) c.args.count [] c.args.reader.now) c.loop-test.true c.in-Err.ensures c.loop.invariant
 
@@ -16,7 +16,7 @@ loop-preserved c =
     c.request.new.reader
     (items_at (alone request_at) c.args.count [] c.args.reader.now) c.loop.requests.items c.loop-test.true refl c.in-Ok.ensures c.loop.invariant)
 
-pub returns : goal.returns
-returns c =
+pub returns-clause-value : goal.returns-clause-value
+returns-clause-value c =
     is_done (alone request_at) c.args.count c.loop.counter c.loop.requests.items c.loop.reader (items_at (alone request_at) c.args.count [] c.args.reader.now)
     c.loop-test.false c.loop.invariant

@@ -1,4 +1,4 @@
-use Rattle.std.proofs.Common.{◌≡◌, ◌∷◌, ◌∙◌, List, Ok, ap, subst}
+use Rattle.std.proofs.Common.{◌∷◌, ◌∙◌, List, Ok, ap, subst}
 use Rattle.botjournal.specs.declared.request.Request.{Request}
 use Rattle.botjournal.proofs.WindowLaws.{out_few}
 use Rattle.protocol.specs.LeafRules.{LeafState, LeafLoose}

@@ -17,5 +17,5 @@ pub returns-clause-reads : goal.returns-clause-reads
 returns-clause-reads c =
     hub_on-is c.args.leaves c.args.generation c.args.base.now c.new.result.items c.in_ok-userfile.userfile c.in_ok-replies.replies.items
     (sym c.is_hubs.ensures ∙ c.if-not-is_hubs.false) c.new.ensures.items
-    (ap sound_records (sym c.as_slice.ensures) ∙ c.in_ok-userfile.ensures)
+    (ap sound_records (sym c.as_slice.ensures) ∙ c.in_ok-userfile.ensures.reads)
     (c.in_ok-replies.ensures.placed ∙ ap (replies_of 1 c.args.leaves) c.as_slice-2.ensures)
