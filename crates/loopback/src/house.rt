@@ -47,7 +47,7 @@ impl Drop for House {
 }
 
 impl House {
-    ghost use Rattle.std.specs.Prelude.{◌≡◌, ◌<◌, OnErr, vec_len};
+    ghost use Rattle.std.specs.Prelude.{◌≡◌, ◌<◌, IfSome, OnErr, vec_len};
 
     /// A server without clients on this port of 127.0.0.1, or where it is 0 on one that the system chooses.
     ///
@@ -263,8 +263,13 @@ impl House {
     /// anything moved.
     ///
     /// # Errors
-    /// `NoMemory` where a growth was refused.
-    pub fn send(&mut self, alloc: Global) -> Result<bool, NoMemory> {
+    /// `NoMemory` where a growth was refused: never where nobody is connected.
+    pub fn send(&mut self, alloc: Global) -> Result<bool, NoMemory>
+        ensures memory { OnErr result (0 < vec_len self.old.callers) }
+    {
+        if self.callers.is_empty() {
+            return Ok(false);
+        }
         let mut moved = false;
         for caller in self.callers.iter_mut() {
             if caller.peer.send() {
@@ -318,14 +323,16 @@ impl House {
     /// A guest says a text to a channel or a nick. Nothing where there is no guest of this nick.
     ///
     /// # Errors
-    /// `NoMemory` where a growth was refused.
+    /// `NoMemory` where a growth was refused: never where there is no guest.
     pub fn speak(
         &mut self,
         alloc: Global,
         nick: &Text,
         target: &Text,
         text: &Text,
-    ) -> Result<(), NoMemory> {
+    ) -> Result<(), NoMemory>
+        ensures memory { OnErr result (0 < vec_len self.old.guests) }
+    {
         let Some(guest) = self.guest_of(nick) else {
             return Ok(());
         };
@@ -351,7 +358,9 @@ impl House {
     }
 
     // The first guest who came under a nick.
-    fn guest_of(&mut self, nick: &Text) -> Option<&mut Guest> {
+    fn guest_of(&mut self, nick: &Text) -> Option<&mut Guest>
+        ensures { IfSome result (λ _. 0 < vec_len self.old.guests) }
+    {
         self.guests
             .iter_mut()
             .find(|guest| guest.nick.as_bytes() == nick.as_bytes())
