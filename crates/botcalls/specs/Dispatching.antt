@@ -3,7 +3,7 @@
 -- Each event of a message, each minute and each text of a bot calls the binds of its kind, oldest first; a due timer calls
 -- the proc that it names. Where a raw proc answers 1, nothing follows the raw event. With the setting `exclusive`, the first
 -- word of a text calls nothing where a proc was called for the whole of that text.
-use Rattle.std.specs.Prelude.{ℕ, None, Bool, true, false, not, ◌&&◌, if◌then◌else◌, List, [], ◌∷◌, ◌++◌, length, ◌==◌}
+use Rattle.std.specs.Prelude.{ℕ, None, Bool, true, false, not, ◌&&◌, ◌||◌, if◌then◌else◌, List, [], ◌∷◌, ◌++◌, length, ◌==◌}
 use Rattle.std.specs.List.{list_any}
 use Rattle.userfile.specs.declared.user.User.{User}
 use Rattle.chanstate.specs.declared.event.Event.{Event}
@@ -19,7 +19,7 @@ use Rattle.botcalls.specs.declared.next.Next.TheVariants.{Stop, Go}
 use Rattle.botcalls.specs.declared.occasion.Occasion.{Occasion}
 use Rattle.botcalls.specs.declared.occasion.Occasion.TheVariants.{Heard, Due, Time, Cron, Said}
 use Rattle.botcalls.specs.Calls.{Entry, Telling, told_proc, told_all, calls_in}
-use Rattle.botcalls.specs.Heard.{Person, kind_of, person_of, call_by}
+use Rattle.botcalls.specs.Heard.{Person, kind_of, is_personal, person_of, call_by}
 use Rattle.botcalls.specs.Occasions.{time_seen, cron_seen, said_seen, due_call, time_call, cron_call, said_call, kind_for}
 
 -- what calls depend on, beside the occasions
@@ -113,6 +113,16 @@ told_from setting (Go taken) (o ∷ os) = told setting taken o ++ told_from sett
 -- what all occasions come to
 abbrev pub told_of : Setting → List Occasion → List Telling
 told_of setting occasions = told_from setting (Go false) occasions
+
+-- ---- memory
+
+-- whether calling the procs of an occasion takes memory: each does but an event by nobody that calls none
+abbrev pub takes_memory : Setting → Occasion → Bool
+takes_memory setting (Heard event) = is_personal event.kind || not (length (told_heard setting event) == 0)
+takes_memory setting (Due proc text) = true
+takes_memory setting (Time minute) = true
+takes_memory setting (Cron minute) = true
+takes_memory setting (Said from text) = true
 
 -- ---- the log
 

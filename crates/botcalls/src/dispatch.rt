@@ -1,7 +1,8 @@
 // Calling the procs that occasions call.
-ghost use Rattle.std.specs.Prelude.{◌≡◌, ◌&&◌};
+ghost use Rattle.std.specs.Prelude.{◌≡◌, ◌&&◌, true, OnErr};
+ghost use Rattle.std.specs.List.{list_any};
 ghost use Rattle.bindtable.specs.Calls.{seen};
-ghost use Rattle.botcalls.specs.Dispatching.{is_word};
+ghost use Rattle.botcalls.specs.Dispatching.{is_word, takes_memory};
 ghost use Rattle.botcalls.specs.Dispatched.{setting_in, IsDispatched};
 ghost use Rattle.botcalls.specs.Occasions.{by_nobody};
 
@@ -38,13 +39,14 @@ impl Model for Dispatch {
 }
 
 impl Dispatch {
-    ghost use Rattle.std.specs.Prelude.{◌≡◌, ◌∷◌, [], OnOk, OnErr, IfOk, drop, length, false};
+    ghost use Rattle.std.specs.Prelude.{◌≡◌, ◌∷◌, [], OnOk, OnErr, IfOk, drop, length, true};
     ghost use Rattle.bindtable.specs.Calls.{seen};
     ghost use Rattle.procstore.specs.Promises.{code_at};
     ghost use Rattle.botcalls.specs.Calls.{told_proc, told_all};
     ghost use Rattle.botcalls.specs.Occasions.{time_seen, cron_seen, said_seen, time_call, cron_call, said_call};
     ghost use Rattle.botcalls.specs.Made.{Adds, AddsFront};
-    ghost use Rattle.botcalls.specs.Dispatching.{told, told_alone, told_heard, told_seen, told_due};
+    ghost use Rattle.botcalls.specs.declared.occasion.Occasion.TheVariants.{Heard};
+    ghost use Rattle.botcalls.specs.Dispatching.{told, told_alone, told_heard, told_seen, told_due, takes_memory};
     ghost use Rattle.botcalls.specs.Dispatched.{setting_in, AddsOccasion};
 
     /// No call, and no bind left out. Takes no memory.
@@ -270,6 +272,7 @@ impl Dispatch {
         ensures err { OnErr result (AddsFront P.promised scene.now.view.now self.old
             (told_heard (setting_in P.promised scene.now) event.now) self.new) }
         ensures people { people.new ≡ people.old }
+        ensures memory { OnErr result (takes_memory (setting_in P.promised scene.now) (Heard event.now) ≡ true) }
     {
         let person = match person_of(alloc, people, event) {
             Ok(person) => person,
@@ -308,6 +311,7 @@ impl Dispatch {
         ensures err { OnErr result (AddsFront P.promised scene.now.view.now self.old
             (told_alone (setting_in P.promised scene.now) occasion.now) self.new) }
         ensures people { people.new ≡ people.old }
+        ensures memory { OnErr result (takes_memory (setting_in P.promised scene.now) occasion.now ≡ true) }
     {
         match occasion {
             Occasion::Heard(event) => self.call_heard(alloc, scene, people, event),
@@ -333,6 +337,7 @@ impl Dispatch {
         ensures err { OnErr result (AddsFront P.promised scene.now.view.now self.old
             (told (setting_in P.promised scene.now) taken occasion.now) self.new) }
         ensures people { people.new ≡ people.old }
+        ensures memory { OnErr result (takes_memory (setting_in P.promised scene.now) occasion.now ≡ true) }
     {
         if is_silent(scene.exclusive, taken, occasion.kind()) {
             return Ok(());
@@ -358,6 +363,7 @@ impl Dispatch {
         ensures err { OnErr result (AddsFront P.promised scene.now.view.now self.old
             (told (setting_in P.promised scene.now) taken occasion.now) self.new) }
         ensures people { people.new ≡ people.old }
+        ensures memory { OnErr result (takes_memory (setting_in P.promised scene.now) occasion.now ≡ true) }
     {
         let before = self.call_count();
         match self.call_unless_taken(alloc, scene, people, occasion, taken) {
@@ -392,13 +398,15 @@ impl Dispatch {
 /// not in the store is left out and told.
 ///
 /// # Errors
-/// An error has the calls that were made before memory ran out: they are the first of those that would be made.
+/// An error has the calls that were made before memory ran out: they are the first of those that would be made. None comes
+/// where all occasions are events by nobody that no bind sees.
 pub fn call_procs<P: Promise, B: Run>(
     alloc: Global,
     scene: &Scene<'_, P, B>,
     occasions: &[Occasion],
 ) -> Result<Dispatch, Dispatch>
-    ensures { IsDispatched P.promised scene.now.view.now (setting_in P.promised scene.now) occasions.now result }
+    ensures made { IsDispatched P.promised scene.now.view.now (setting_in P.promised scene.now) occasions.now result }
+    ensures memory { OnErr result (list_any (takes_memory (setting_in P.promised scene.now)) occasions.now ≡ true) }
 {
     let mut made = Dispatch::new(alloc);
     let mut people = People::new(scene.view.userfile());

@@ -1,5 +1,5 @@
 // What binds and procs see of an event of a message.
-ghost use Rattle.std.specs.Prelude.{◌≡◌, [], IfOk};
+ghost use Rattle.std.specs.Prelude.{◌≡◌, [], true, IfOk, OnErr};
 ghost use Rattle.botcalls.specs.Heard.{kind_of, is_personal, text_at, who_of, person_of, call_by};
 
 use crate::people::People;
@@ -70,6 +70,7 @@ pub(crate) fn person_of<'a>(
     ensures handle { IfOk result (λ person. person.handle.now ≡ (person_of people.old event.now).handle) }
     ensures flags { IfOk result (λ person. person.flags ≡ (person_of people.old event.now).flags) }
     ensures users { people.new ≡ people.old }
+    ensures memory { OnErr result (is_personal event.now.kind ≡ true) }
 {
     if !is_personal(event.kind) {
         return Ok(nobody());

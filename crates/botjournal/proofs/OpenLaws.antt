@@ -14,7 +14,7 @@ use Rattle.bytejournal.specs.Meaning.{Contents as Texts, Held, held, chosen, mea
 use Rattle.bytejournal.specs.Meaning.Held.{Open}
 use Rattle.bytejournal.specs.Journal.{IsAtRest as AreTextsAtRest, first_disk, second_disk}
 use Rattle.bytejournal.specs.Opening.{new_contents as new_texts, Untouched, held_older, Creates as CreatesTexts, Refuses as RefusesTexts, Opens as OpensTexts, Restarts as RestartsTexts}
-use Rattle.bytejournal.proofs.Pairs.{meaning_comm as texts_comm}
+use Rattle.bytejournal.proofs.Pairs.{means_byte, meaning_comm as texts_comm}
 use Rattle.bytejournal.proofs.Recovering.{some_is}
 use Rattle.botjournal.specs.declared.base.Base.{Base}
 use Rattle.botjournal.specs.declared.opening.Opened.{Opened}
@@ -98,7 +98,7 @@ module _ {D : Type 0} (state : D → State) where
   why_not first second texts o (Refused NotAJournal) r first' second' = found_are_read first second texts o ∙ r
   why_not first second texts o (Refused Spent) r first' second' = r
   why_not first second texts o (Refused GenerationsSpent) r first' second' = r
-  why_not first second texts o NoMemory r first' second' = tt
+  why_not first second texts o NoMemory r first' second' = means_byte (state first) (state second) (texts_found texts) o.0.found
 
   pub opens : (first second : D) (texts : OpenedTexts D) → OpensTexts state first second (Ok texts) → (result : Result (Opened D) (Returned D))
       → ReadsTexts texts result → Opens state first second result
@@ -116,7 +116,7 @@ module _ {D : Type 0} (state : D → State) where
   cannot_open first second first' second' (Refused NotAJournal) r = means_none (state first).seen (state second).seen r
   cannot_open first second first' second' (Refused Spent) r = r
   cannot_open first second first' second' (Refused GenerationsSpent) r = r
-  cannot_open first second first' second' NoMemory r = tt
+  cannot_open first second first' second' NoMemory r = r
 
   pub opens_nothing : (first second : D) (returned : Returned D) → OpensTexts state first second (Err returned) → Opens state first second (Err returned)
   opens_nothing first second returned o =

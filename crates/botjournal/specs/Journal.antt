@@ -13,7 +13,7 @@ use Rattle.bytejournal.specs.declared.opening.Older.{Older}
 use Rattle.bytejournal.specs.declared.opening.Opened.{Opened as OpenedTexts}
 use Rattle.bytejournal.specs.Meaning.{Contents as Texts, IsWhole}
 use Rattle.bytejournal.specs.Journal.{IsAtRest as AreTextsAtRest, DiskFailed, SameDisks, first_disk, second_disk}
-use Rattle.bytejournal.specs.Opening.{CannotCreate, Untouched, Reopened}
+use Rattle.bytejournal.specs.Opening.{CannotCreate, HoldByte, Untouched, Reopened}
 use Rattle.botjournal.specs.declared.base.Base.{Base}
 use Rattle.botjournal.specs.declared.entry.Entry.{Entry}
 use Rattle.botjournal.specs.declared.TheConstants.{LAYOUT}
@@ -85,7 +85,7 @@ module _ {D : Type 0} (state : D → State) where
   Refuses first second (Refused NotAJournal) first' second' = meaning (state first).seen (state second).seen ≡ None
   Refuses first second (Refused Spent) first' second' = ⊥
   Refuses first second (Refused GenerationsSpent) first' second' = ⊥
-  Refuses first second NoMemory first' second' = Unit {0}
+  Refuses first second NoMemory first' second' = HoldByte (state first) (state second)
 
   -- Opening a journal, by cases on the answer.
   abbrev pub Opens : D → D → Result (Opened D) (Returned D) → Type 0

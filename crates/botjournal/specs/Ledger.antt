@@ -10,7 +10,7 @@ use Rattle.bytejournal.specs.declared.fault.JournalFault.{JournalFault}
 use Rattle.bytejournal.specs.declared.fault.JournalFault.TheVariants.{DiskFault as DiskFailed, NotAJournal, Spent, GenerationsSpent as NoMoreLeft}
 use Rattle.bytejournal.specs.declared.opening.Returned.{Returned}
 use Rattle.bytejournal.specs.Journal.{EachMoment}
-use Rattle.bytejournal.specs.Opening.{CannotCreate, Untouched}
+use Rattle.bytejournal.specs.Opening.{CannotCreate, HoldByte, Untouched}
 use Rattle.botjournal.specs.declared.base.Base.{Base}
 use Rattle.botjournal.specs.declared.entry.Entry.{Entry}
 use Rattle.botjournal.specs.declared.found.Found.{Found}
@@ -158,7 +158,7 @@ module _ {D : Type 0} (state : D → State) where
   Refuses first second (Refused NotAJournal) first' second' = IsJournal (state first).seen (state second).seen → ⊥
   Refuses first second (Refused Spent) first' second' = ⊥
   Refuses first second (Refused NoMoreLeft) first' second' = ⊥
-  Refuses first second NoMemory first' second' = Unit {0}
+  Refuses first second NoMemory first' second' = HoldByte (state first) (state second)
 
   -- Opening a ledger, by cases on the answer.
   abbrev pub Opens : D → D → Result (Ledger × Found) (Returned D) → Type 0

@@ -83,7 +83,7 @@ impl<D: Disk> Ledger<D> {
     /// # Errors
     /// With the disks as they were: `DiskFault` where a read failed; `NotAJournal` where the disks don't hold a journal,
     /// or one of its gates is missing, which no disk lacks that `create` made; `NoMemory` where room for what they hold
-    /// is refused.
+    /// is refused: never where neither holds a byte.
     pub fn open(alloc: Global, first: D, second: D) -> Result<(Ledger<D>, Found), Returned<D>>
         requires first_settled { IsSettled (D.state first) }
         requires second_settled { IsSettled (D.state second) }

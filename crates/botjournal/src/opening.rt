@@ -75,7 +75,7 @@ impl<D: Disk> Journal<D> {
     /// # Errors
     /// With the disks as they were: `DiskFault` where a read failed; `NotAJournal` where the disks don't hold a
     /// journal, or what follows an open gate, on whichever disk, has a layout that isn't read, or a base or an entry that
-    /// is none; `NoMemory` where room for what they hold is refused.
+    /// is none; `NoMemory` where room for what they hold is refused: never where neither holds a byte.
     pub fn open(alloc: Global, first: D, second: D) -> Result<Opened<D>, Returned<D>>
         requires first_settled { IsSettled (D.state first) }
         requires second_settled { IsSettled (D.state second) }

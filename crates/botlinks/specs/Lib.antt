@@ -2,3 +2,4 @@ pub mod Hellos
 pub mod Joining
 pub mod Linked
 pub mod Speakers
+pub mod Tells

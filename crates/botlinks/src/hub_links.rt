@@ -1,8 +1,10 @@
 // The hub's connections to its leaves.
-ghost use Rattle.std.specs.Prelude.{IfOk, OnErr, slice_get};
+ghost use Rattle.std.specs.Prelude.{◌≡◌, ◌≢◌, ℕ, IfOk, OnOk, OnErr, slice_get};
 ghost use Rattle.std.specs.List.{AllByRecursion};
 ghost use Rattle.sharewire.specs.Frames.{CanBeWritten};
+ghost use Rattle.inbox.specs.Waiting.{TakesTurn};
 ghost use Rattle.botlinks.specs.Linked.{IsTaken};
+ghost use Rattle.botlinks.specs.Tells.{TellsPlace};
 ghost use Rattle.linkcalls.specs.Shapes.{HasGoodRecords};
 
 use crate::entry::Entry;
@@ -11,7 +13,7 @@ use crate::guest::Guest;
 use crate::link_wire::LinkWire;
 use crate::links::FIRST_TOKEN;
 use crate::log::log;
-use crate::seat::Seat;
+use crate::seat::{Seat, tell_place};
 use bytetext::NoMemory;
 use handshake::{HubSide, Key, NetNumber, Nonce};
 use inbox::Inbox;
@@ -227,6 +229,7 @@ impl HubLinks {
     /// `NoMemory` where room for them is refused.
     pub fn take_packets(&mut self, alloc: Global) -> Result<Vec<Packet>, NoMemory>
         ensures good { IfOk result (λ packets. AllByRecursion HasGoodRecords packets.items) }
+        ensures takes { IfOk result (λ packets. TakesTurn self.old.inbox packets.items self.new.inbox) }
     {
         self.inbox.take(alloc)
     }
@@ -239,10 +242,12 @@ impl HubLinks {
         requires good { HasGoodRecords packet.now }
         ensures memory { OnErr result (IsTaken (slice_get self.old.seats.items leaf)) }
         ensures frame { OnErr result (CanBeWritten packet.now) }
+        ensures told { OnOk result (TellsPlace packet.now (slice_get self.old.seats.items leaf) (slice_get self.new.seats.items leaf)) }
+        ensures others { (place : ℕ) → place ≢ leaf → slice_get self.new.seats.items place ≡ slice_get self.old.seats.items place }
     {
         match self.seats.get_mut(usize::from(leaf)) {
-            Some(Some(seat)) => seat.tell(alloc, packet),
-            Some(None) | None => Ok(()),
+            Some(place) => tell_place(alloc, place, packet),
+            None => Ok(()),
         }
     }
 

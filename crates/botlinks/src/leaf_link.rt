@@ -1,8 +1,10 @@
 // A leaf's connection to its hub.
-ghost use Rattle.std.specs.Prelude.{◌<◌, IfOk, IfErr, OnErr};
+ghost use Rattle.std.specs.Prelude.{◌≡◌, ◌<◌, ◌↔◌, IsTrue, IfOk, IfErr, OnOk, OnErr};
 ghost use Rattle.std.specs.List.{AllByRecursion};
 ghost use Rattle.sharewire.specs.Frames.{CanBeWritten};
+ghost use Rattle.inbox.specs.Waiting.{TakesTurn};
 ghost use Rattle.botlinks.specs.Linked.{IsHeard, IsLinked};
+ghost use Rattle.botlinks.specs.Tells.{TellsHub};
 ghost use Rattle.bytetext.specs.declared.moment.TheConstants.{MOMENTS_END};
 ghost use Rattle.linkcalls.specs.Shapes.{HasGoodRecords};
 
@@ -221,12 +223,15 @@ impl LeafLink {
     /// `NoMemory` where room for them is refused.
     pub fn take_packets(&mut self, alloc: Global) -> Result<Vec<Packet>, NoMemory>
         ensures good { IfOk result (λ packets. AllByRecursion HasGoodRecords packets.items) }
+        ensures takes { IfOk result (λ packets. TakesTurn self.old.inbox packets.items self.new.inbox) }
     {
         self.inbox.take(alloc)
     }
 
     /// Whether the hub is linked.
-    pub fn is_linked(&self) -> bool {
+    pub fn is_linked(&self) -> bool
+        ensures { IsTrue result ↔ IsLinked self.now.hub }
+    {
         match &self.hub {
             Some(hub) => match hub.stage {
                 Stage::Linked => true,
@@ -237,7 +242,9 @@ impl LeafLink {
     }
 
     /// The second at which the next try is due.
-    pub fn due(&self) -> u64 {
+    pub fn due(&self) -> u64
+        ensures { result ≡ self.now.dialling.waits.due }
+    {
         self.dialling.due()
     }
 
@@ -257,6 +264,7 @@ impl LeafLink {
         requires good { HasGoodRecords packet.now }
         ensures memory { OnErr result (IsLinked self.old.hub) }
         ensures frame { OnErr result (CanBeWritten packet.now) }
+        ensures told { OnOk result (TellsHub packet.now self.old.hub self.new.hub) }
     {
         if let Packet::Hello { version, .. } = packet {
             self.pumps.say(*version, now);

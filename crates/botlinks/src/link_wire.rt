@@ -1,6 +1,7 @@
 // A connection to another bot.
-ghost use Rattle.std.specs.Prelude.{◌≡◌, drop};
+ghost use Rattle.std.specs.Prelude.{◌≡◌, drop, length, IsSome, OnOk, OnErr};
 ghost use Rattle.botlinks.specs.Joining.{Grows};
+ghost use Rattle.botlinks.specs.Tells.{IsTold, IsUntold};
 
 use crate::gone::Gone;
 use bytetext::NoMemory;
@@ -97,7 +98,9 @@ impl LinkWire {
 
     // Leaves bytes for the other end, after those before. Where they don't fit, it is to be let go.
     pub(crate) fn tell(&mut self, bytes: &[u8]) -> Result<(), NoMemory>
-        ensures { self.new.wire.heard.items ≡ self.old.wire.heard.items }
+        ensures heard { self.new.wire.heard.items ≡ self.old.wire.heard.items }
+        ensures told { OnOk result (IsTold self.old bytes.now self.new) }
+        ensures err { OnErr result (IsUntold self.old self.new) }
     {
         if !self.wire.tell(bytes)? {
             self.end(Gone::TooSlow);
@@ -118,7 +121,8 @@ impl LinkWire {
 
     // It is to be let go. The first reason is the one that is told.
     pub(crate) fn end(&mut self, gone: Gone)
-        ensures { self.new.wire ≡ self.old.wire }
+        ensures wire { self.new.wire ≡ self.old.wire }
+        ensures gone { IsSome self.new.gone }
     {
         if self.gone.is_none() {
             self.gone = Some(gone);
@@ -140,7 +144,9 @@ impl LinkWire {
     }
 
     // How many bytes wait for the other end.
-    pub(crate) fn unsent(&self) -> usize {
+    pub(crate) fn unsent(&self) -> usize
+        ensures { result ≡ length self.now.wire.unsent.items }
+    {
         self.wire.unsent.len()
     }
 }

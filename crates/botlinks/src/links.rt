@@ -1,10 +1,11 @@
 // A bot's connections to the others of its net.
-ghost use Rattle.std.specs.Prelude.{◌≡◌, ◌≢◌, ◌<◌, IfOk, IfErr, OnErr, option_map};
+ghost use Rattle.std.specs.Prelude.{◌≡◌, ◌≢◌, ◌<◌, IfOk, IfErr, OnOk, OnErr, option_map};
 ghost use Rattle.std.specs.List.{AllByRecursion};
 ghost use Rattle.bytetext.specs.declared.moment.TheConstants.{MOMENTS_END};
 ghost use Rattle.sharewire.specs.Frames.{CanBeWritten};
 ghost use Rattle.botlinks.specs.Hellos.{asked, noted, pumps_of};
 ghost use Rattle.botlinks.specs.Linked.{Hears, IsHub, Reaches};
+ghost use Rattle.botlinks.specs.Tells.{TakesPackets, TellsOne};
 ghost use Rattle.botlinks.specs.declared.links.Links.TheVariants.{Alone};
 ghost use Rattle.linkcalls.specs.Shapes.{HasGoodRecords};
 
@@ -111,6 +112,7 @@ impl Links {
     /// `NoMemory` where room for them is refused: never for a bot that is alone.
     pub fn take_packets(&mut self, alloc: Global) -> Result<Vec<Packet>, NoMemory>
         ensures good { IfOk result (λ packets. AllByRecursion HasGoodRecords packets.items) }
+        ensures takes { IfOk result (λ packets. TakesPackets self.old packets.items self.new) }
         ensures memory { IfErr result (λ _. self.old ≢ Alone) }
     {
         match self {
@@ -144,6 +146,7 @@ impl Links {
         requires good { HasGoodRecords outgoing.now.packet }
         ensures memory { OnErr result (Reaches outgoing.now.to self.old) }
         ensures frame { OnErr result (CanBeWritten outgoing.now.packet) }
+        ensures told { OnOk result (TellsOne outgoing.now.to outgoing.now.packet self.old self.new) }
     {
         match self {
             Links::Alone => Ok(()),

@@ -1,8 +1,9 @@
 // One connection of a leaf to its hub.
-ghost use Rattle.std.specs.Prelude.{◌≡◌, IfOk, OnErr};
+ghost use Rattle.std.specs.Prelude.{◌≡◌, IfOk, OnOk, OnErr};
 ghost use Rattle.std.specs.List.{AllByRecursion};
 ghost use Rattle.sharewire.specs.Frames.{CanBeWritten};
 ghost use Rattle.botlinks.specs.declared.meeting.Stage.TheVariants.{Linked};
+ghost use Rattle.botlinks.specs.Tells.{Tells};
 ghost use Rattle.linkcalls.specs.Shapes.{HasGoodRecords};
 
 use crate::gone::Gone;
@@ -122,6 +123,7 @@ impl Hub {
         requires good { HasGoodRecords packet.now }
         ensures memory { OnErr result (self.old.stage ≡ Linked) }
         ensures frame { OnErr result (CanBeWritten packet.now) }
+        ensures told { OnOk result (self.old.stage ≡ Linked → Tells packet.now self.old.wire self.new.wire) }
     {
         match self.stage {
             Stage::Linked => {}

@@ -1,8 +1,9 @@
 // A leaf that is linked to the hub.
-ghost use Rattle.std.specs.Prelude.{◌≡◌, true, IfOk, OnErr};
+ghost use Rattle.std.specs.Prelude.{◌≡◌, true, IfOk, IsSome, OnOk, OnErr};
 ghost use Rattle.std.specs.List.{AllByRecursion, list_all};
 ghost use Rattle.sharewire.specs.Frames.{CanBeWritten};
 ghost use Rattle.botlinks.specs.Speakers.{is_own};
+ghost use Rattle.botlinks.specs.Tells.{Tells, TellsSeat};
 ghost use Rattle.linkcalls.specs.Shapes.{HasGoodRecords};
 
 use crate::gone::Gone;
@@ -94,11 +95,29 @@ impl Seat {
     pub(crate) fn tell(&mut self, alloc: Global, packet: &Packet) -> Result<(), NoMemory>
         requires good { HasGoodRecords packet.now }
         ensures frame { OnErr result (CanBeWritten packet.now) }
+        ensures told { OnOk result (Tells packet.now self.old.wire self.new.wire) }
     {
         match frame_of(alloc, packet)? {
             Some(frame) => self.wire.tell(frame.as_slice()),
             None => Ok(()),
         }
+    }
+}
+
+// Leaves a packet for the leaf that has a place, if one has.
+pub(crate) fn tell_place(
+    alloc: Global,
+    place: &mut Option<Seat>,
+    packet: &Packet,
+) -> Result<(), NoMemory>
+    requires good { HasGoodRecords packet.now }
+    ensures memory { OnErr result (IsSome place.old) }
+    ensures frame { OnErr result (CanBeWritten packet.now) }
+    ensures told { OnOk result (TellsSeat packet.now place.old place.new) }
+{
+    match place {
+        Some(seat) => seat.tell(alloc, packet),
+        None => Ok(()),
     }
 }
 

@@ -1,11 +1,12 @@
 -- What two disks mean, and what a crash may leave on both.
-use Rattle.std.proofs.Common.{◌≡◌, inl, inr, ⊎_elim, ◌<◌, ℕ, Bool, true, false, not, Option, None, Some, List, if◌then◌else◌, refl, sym, ◌∙◌, subst, arith, ltb}
+use Rattle.std.proofs.Common.{◌≡◌, ◌⊎◌, inl, inr, ⊎_elim, ◌<◌, ℕ, Bool, true, false, not, Option, None, Some, List, [], ◌∷◌, length, if◌then◌else◌, refl, sym, ◌∙◌, subst, arith, ltb}
 use Rattle.std.proofs.lemmas.Bool.Decides.{nat_tests}
 use Rattle.storage.specs.State.{State, IsSettled, LeavesOnly, moment, left_since}
 use Rattle.storage.specs.Laws.{only_now}
 use Rattle.bytejournal.specs.Meaning.{Contents, Held, held, chosen, meaning}
 use Rattle.bytejournal.specs.Meaning.Held.{Shut, Broken, Open}
 use Rattle.bytejournal.specs.Journal.{IsEither, EachMoment}
+use Rattle.bytejournal.specs.Opening.{HoldByte}
 
 pub chosen_comm : (a b : Held) → chosen a b ≡ chosen b a
 chosen_comm Shut Shut = refl
@@ -30,6 +31,15 @@ chosen_comm (Open a) (Open b) = either (ltb b.generation a.generation) (ltb a.ge
 
 pub meaning_comm : (x y : List ℕ) → meaning x y ≡ meaning y x
 meaning_comm x y = chosen_comm (held x) (held y)
+
+-- of two disks that mean a journal one holds a byte
+pub means_byte : (first second : State) (contents : Contents) → meaning first.seen second.seen ≡ Some contents → HoldByte first second
+means_byte first second contents is = by first.seen second.seen is
+  where
+    by : (x y : List ℕ) → meaning x y ≡ Some contents → (0 < length x) ⊎ (0 < length y)
+    by [] [] none = absurd cc
+    by [] (b ∷ y) some = inr (omega arith)
+    by (a ∷ x) y some = inl (omega arith)
 
 pub either_comm : (Known : Contents → Type 0) (before after : Option Contents) (x y : List ℕ) → IsEither Known before after x y
     → IsEither Known before after y x

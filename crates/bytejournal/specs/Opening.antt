@@ -1,5 +1,5 @@
 -- How a journal is made and opened.
-use Rattle.std.specs.Prelude.{◌≡◌, ◌⊎◌, ◌+◌, ◌≤◌, Bool, true, false, if◌then◌else◌, ℕ, Option, None, Some, List, [], ◌∷◌, ◌++◌, length, option_map, Result, Ok, Err}
+use Rattle.std.specs.Prelude.{◌≡◌, ◌⊎◌, ◌+◌, ◌≤◌, ◌<◌, Bool, true, false, if◌then◌else◌, ℕ, Option, None, Some, List, [], ◌∷◌, ◌++◌, length, option_map, Result, Ok, Err}
 use Rattle.std.specs.Option.{is_some}
 use Rattle.bytetext.specs.declared.failure.Failure.{Failure}
 use Rattle.bytetext.specs.declared.failure.Failure.TheVariants.{Refused, NoMemory}
@@ -42,6 +42,10 @@ pub record Reopened (old new : State) : Type 0 where
   pub opened : openings new.events ≡ openings old.events + 1
   pub failed : new.failed ≡ old.failed
 
+-- one of two disks holds a byte, so that reading them takes memory
+abbrev pub HoldByte : State → State → Type 0
+HoldByte first second = (0 < length first.seen) ⊎ (0 < length second.seen)
+
 -- reading a whole disk, by cases on the answer
 abbrev pub ReadsDisk : State → Result Reading (Failure JournalFault) → State → Type 0
 ReadsDisk old (Ok reading) new = Reads old.seen reading
@@ -49,7 +53,7 @@ ReadsDisk old (Err (Refused DiskFault)) new = Rose old.failed new.failed
 ReadsDisk old (Err (Refused NotAJournal)) new = ⊥
 ReadsDisk old (Err (Refused Spent)) new = ⊥
 ReadsDisk old (Err (Refused GenerationsSpent)) new = ⊥
-ReadsDisk old (Err NoMemory) new = Unit {0}
+ReadsDisk old (Err NoMemory) new = 0 < length old.seen
 
 -- a journal isn't made only where a disk fails, or for want of memory before anything is written
 abbrev pub CannotCreate : State → State → Failure JournalFault → State → State → Type 0
@@ -123,7 +127,7 @@ module _ {D : Type 0} (state : D → State) where
   Refuses first second (Refused NotAJournal) first' second' = meaning (state first).seen (state second).seen ≡ None
   Refuses first second (Refused Spent) first' second' = ⊥
   Refuses first second (Refused GenerationsSpent) first' second' = ⊥
-  Refuses first second NoMemory first' second' = Unit {0}
+  Refuses first second NoMemory first' second' = HoldByte (state first) (state second)
 
   -- choosing the active disk, by cases on the answer: the disks are handed on as they are
   abbrev pub Chooses : D → D → Result (Opened D) (Returned D) → Type 0

@@ -67,12 +67,15 @@ pub struct Returned<D: Disk> {
     pub disks: Disks<D>,
 }
 
-/// What a disk holds.
+/// What a disk holds. Of one without a byte nothing is read.
 fn read_whole<D: Disk>(alloc: Global, disk: &mut D) -> Result<Reading, JournalError>
     requires { IsSettled (D.state disk.old) }
     ensures reads { ReadsDisk (D.state disk.old) result (D.state disk.new) }
     ensures untouched { Untouched (D.state disk.old) (D.state disk.new) }
 {
+    if disk.len() == 0 {
+        return Ok(Reading::Shut);
+    }
     let mut bytes = vec![in alloc; 0; disk.len()]?;
     match disk.read(0, &mut bytes) {
         Ok(_) => {}
@@ -259,7 +262,7 @@ impl<D: Disk> Journal<D> {
     ///
     /// # Errors
     /// With the disks as they were: `DiskFault` where a read failed; `NotAJournal` where the disks don't hold a
-    /// journal; `NoMemory` where room for what they hold is refused.
+    /// journal; `NoMemory` where room for what they hold is refused: never where neither holds a byte.
     #[tactic(auto, using(crate::proofs::Moments::untouched_still))]
     pub fn open(alloc: Global, first: D, second: D) -> Result<Opened<D>, Returned<D>>
         requires first_settled { IsSettled (D.state first) }

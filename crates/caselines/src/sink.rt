@@ -1,4 +1,6 @@
 // Where answers are written.
+ghost use Rattle.std.specs.Prelude.{◌≡◌, true, IfOk, OnErr};
+
 use bytetext::NoMemory;
 use flagexpr::Flags;
 use itoa::Buffer;
@@ -78,8 +80,11 @@ impl Sink {
     /// All that was written.
     ///
     /// # Errors
-    /// `NoMemory` where a growth was refused.
-    pub fn into_bytes(self) -> Result<Vec<u8>, NoMemory> {
+    /// `NoMemory` where a growth was refused, and never else.
+    pub fn into_bytes(self) -> Result<Vec<u8>, NoMemory>
+        ensures all { IfOk result (λ bytes. bytes ≡ self.bytes) }
+        ensures memory { OnErr result (self.refused ≡ true) }
+    {
         match self.refused {
             true => Err(NoMemory),
             false => Ok(self.bytes),

@@ -1,5 +1,7 @@
 // The words of a case.
-ghost use Rattle.std.specs.Prelude.{◌≤◌, ◌-◌, length};
+ghost use Rattle.std.specs.Prelude.{◌≡◌, ◌≤◌, ◌-◌, length, IfErr};
+ghost use Rattle.bytetext.specs.declared.failure.Failure.TheVariants.{Refused};
+ghost use Rattle.caselines.specs.declared.stop.CaseFault.TheVariants.{BadNumber as bad_number};
 
 use crate::stop::{BAD_NUMBER, CaseError, CaseFault};
 use bottimers::{ClockFault, Zone};
@@ -38,10 +40,14 @@ pub fn cut(text: &[u8], at: u8) -> (&[u8], &[u8])
     }
 }
 
-/// The number that a word spells.
+/// The number that a word spells. Takes no memory.
+///
+/// # Errors
+/// `BadNumber` where it spells none.
 pub fn number<T: FromStr>(word: &[u8]) -> Result<T, CaseError>
 where
     T::Err: Drop,
+    ensures { IfErr result (λ why. why ≡ Refused bad_number) }
 {
     match std::str::from_utf8(word) {
         Ok(digits) => digits.parse::<T>().map_err(|_| BAD_NUMBER),

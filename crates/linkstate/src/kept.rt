@@ -1,6 +1,8 @@
 // An end's state, in the journal that it is kept in.
-ghost use Rattle.std.specs.Prelude.{◌≡◌, None, Some, false, IfOk};
+ghost use Rattle.std.specs.Prelude.{◌≡◌, None, Some, false, IfOk, IfErr};
+ghost use Rattle.bytetext.specs.declared.failure.Failure.TheVariants.{NoMemory as no_memory};
 ghost use Rattle.storage.specs.State.{IsSettled};
+ghost use Rattle.bytejournal.specs.Opening.{HoldByte};
 ghost use Rattle.botjournal.specs.Bases.{IsGoodBase};
 ghost use Rattle.botjournal.specs.declared.TheConstants.{LAYOUT};
 ghost use Rattle.botjournal.specs.Ledger.{IsGoodFound, AreStill, Reopens, settled};
@@ -100,8 +102,9 @@ impl<S: EndState, D: Disk> Kept<S, D> {
     /// one the state alone is put into it, in its next generation, before the end answers.
     ///
     /// # Errors
-    /// With the disks: of the reading `DiskFault`; `NotAJournal` where they hold none, or another end's; `NoMemory`. Then of
-    /// an older journal `GenerationsSpent` where it has no next generation, `NoMemory` or `DiskFault`.
+    /// With the disks: of the reading `DiskFault`; `NotAJournal` where they hold none, or another end's; `NoMemory`, but
+    /// never where neither holds a byte. Then of an older journal `GenerationsSpent` where it has no next generation,
+    /// `NoMemory` or `DiskFault`.
     pub fn open(alloc: Global, first: D, second: D, who: u16) -> Result<Kept<S, D>, Returned<D>>
         requires first_settled { IsSettled (D.state first) }
         requires second_settled { IsSettled (D.state second) }
@@ -111,6 +114,7 @@ impl<S: EndState, D: Disk> Kept<S, D> {
         ensures still { AreCurrent D.state first second → IfOk result (λ k. AreStill (D.state first) (D.state second) k.device) }
         // At each moment of the call a crash leaves what the disks meant, or that put anew.
         ensures any_moment { FindsAtEachMoment D.state first second (λ k. k.device) (S.meaning who) (Renews S.may S.folded S.renewal) result }
+        ensures memory { IfErr result (λ returned. returned.error ≡ no_memory → HoldByte (D.state first) (D.state second)) }
     {
         let (ledger, found) = match Ledger::open(alloc, first, second) {
             Ok(opened) => opened,

@@ -1,7 +1,7 @@
 // The small server and its clients.
 use crate::addresses::local;
 use crate::caller::Caller;
-use crate::guest::Guest;
+use crate::guest::{Guest, client_of, place_of};
 use crate::peer::Peer;
 use crate::waiting::Waiting;
 use bytetext::{Failure, NoMemory, Seq, Text};
@@ -47,7 +47,8 @@ impl Drop for House {
 }
 
 impl House {
-    ghost use Rattle.std.specs.Prelude.{◌≡◌, ◌<◌, IfSome, OnErr, vec_len};
+    ghost use Rattle.std.specs.Prelude.{◌≡◌, ◌<◌, IsSome, OnErr, position, vec_len};
+    ghost use Rattle.loopback.specs.Present.{is_named};
 
     /// A server without clients on this port of 127.0.0.1, or where it is 0 on one that the system chooses.
     ///
@@ -323,7 +324,7 @@ impl House {
     /// A guest says a text to a channel or a nick. Nothing where there is no guest of this nick.
     ///
     /// # Errors
-    /// `NoMemory` where a growth was refused: never where there is no guest.
+    /// `NoMemory` where a growth was refused: never where there is no guest of this nick.
     pub fn speak(
         &mut self,
         alloc: Global,
@@ -331,12 +332,11 @@ impl House {
         target: &Text,
         text: &Text,
     ) -> Result<(), NoMemory>
-        ensures memory { OnErr result (0 < vec_len self.old.guests) }
+        ensures memory { OnErr result (IsSome (position (is_named nick.now) self.old.guests.items)) }
     {
-        let Some(guest) = self.guest_of(nick) else {
+        let Some(client) = client_of(self.guests.as_slice(), nick.as_bytes()) else {
             return Ok(());
         };
-        let client = guest.client;
         let words = [
             b"PRIVMSG ".as_slice(),
             target.as_bytes(),
@@ -351,19 +351,13 @@ impl House {
     /// The lines that a guest got since the last time, in order; none where there is no guest of this nick. Takes no
     /// memory.
     pub fn take_heard(&mut self, alloc: Global, nick: &Text) -> Vec<Text> {
-        match self.guest_of(nick) {
+        let Some(place) = place_of(self.guests.as_slice(), nick.as_bytes()) else {
+            return Vec::new(alloc);
+        };
+        match self.guests.get_mut(place) {
             Some(guest) => guest.take_lines(alloc),
             None => Vec::new(alloc),
         }
-    }
-
-    // The first guest who came under a nick.
-    fn guest_of(&mut self, nick: &Text) -> Option<&mut Guest>
-        ensures { IfSome result (λ _. 0 < vec_len self.old.guests) }
-    {
-        self.guests
-            .iter_mut()
-            .find(|guest| guest.nick.as_bytes() == nick.as_bytes())
     }
 }
 

@@ -1,4 +1,7 @@
 // The hub's side of the link.
+ghost use Rattle.std.specs.Prelude.{◌≡◌};
+ghost use Rattle.loopback.specs.Present.{is_leaf};
+
 use crate::addresses::local;
 use crate::frames::FramePeer;
 use crate::peer::Peer;
@@ -40,7 +43,8 @@ impl Drop for LinkHouse {
 }
 
 impl LinkHouse {
-    ghost use Rattle.std.specs.Prelude.{◌<◌, IfOk, IfErr, OnErr, vec_len};
+    ghost use Rattle.std.specs.Prelude.{◌≡◌, ◌<◌, IfOk, IfErr, IsSome, OnErr, OnSome, position, vec_len};
+    ghost use Rattle.loopback.specs.Present.{is_of};
     ghost use Rattle.std.specs.List.{AllByRecursion};
     ghost use Rattle.sharewire.specs.Frames.{CanBeWritten};
     ghost use Rattle.linkcalls.specs.Shapes.{HasGoodRecords};
@@ -164,17 +168,28 @@ impl LinkHouse {
         }
     }
 
-    fn end_of(&mut self, leaf: u16) -> Option<&mut End> {
-        self.ends.iter_mut().find(|end| end.leaf == Some(leaf))
+    fn end_of(&mut self, leaf: u16) -> Option<&mut End>
+        ensures { OnSome result (IsSome (position (is_of leaf) self.old.ends.items)) }
+    {
+        let place = self.place_of(leaf)?;
+        self.ends.get_mut(place)
+    }
+
+    // The place of the one that is this leaf.
+    fn place_of(&self, leaf: u16) -> Option<usize>
+        ensures { result ≡ position (is_of leaf) self.now.ends.items }
+    {
+        self.ends.iter().position(|end| is_leaf(end.leaf, leaf))
     }
 
     /// Leaves a packet for a leaf. It is lost where the leaf has not said hello.
     ///
     /// # Errors
-    /// `NoMemory` where a growth was refused: never where the packet has no frame.
+    /// `NoMemory` where a growth was refused: never where the packet has no frame, or is lost.
     pub fn tell(&mut self, alloc: Global, leaf: u16, packet: &Packet) -> Result<(), NoMemory>
         requires good { HasGoodRecords packet.now }
         ensures memory { OnErr result (CanBeWritten packet.now) }
+        ensures lost { OnErr result (IsSome (position (is_of leaf) self.old.ends.items)) }
     {
         match self.end_of(leaf) {
             Some(end) => end.wire.tell(alloc, packet),
@@ -193,6 +208,16 @@ impl LinkHouse {
         let held = self.ends.len();
         self.ends.retain(|end| !end.wire.peer.is_over());
         moved || self.ends.len() < held
+    }
+}
+
+// Whether a connection is that of a leaf of this number.
+fn is_leaf(leaf: Option<u16>, number: u16) -> bool
+    ensures { result ≡ is_leaf number leaf }
+{
+    match leaf {
+        Some(leaf) => leaf == number,
+        None => false,
     }
 }
 

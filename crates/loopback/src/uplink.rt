@@ -1,4 +1,7 @@
 // A leaf's side of the link.
+ghost use Rattle.std.specs.Prelude.{◌≡◌};
+ghost use Rattle.loopback.specs.Present.{is_hello};
+
 use crate::frames::FramePeer;
 use crate::peer::Peer;
 use crate::waiting::Waiting;
@@ -25,7 +28,8 @@ impl Drop for Uplink {
 }
 
 impl Uplink {
-    ghost use Rattle.std.specs.Prelude.{OnErr};
+    ghost use Rattle.std.specs.Prelude.{◌≡◌, ◌||◌, true, OnErr};
+    ghost use Rattle.loopback.specs.Present.{is_hello};
     ghost use Rattle.sharewire.specs.Frames.{CanBeWritten};
     ghost use Rattle.linkcalls.specs.Shapes.{HasGoodRecords};
 
@@ -48,10 +52,11 @@ impl Uplink {
     /// Leaves a packet for the hub. Before a hello every other packet is lost.
     ///
     /// # Errors
-    /// `NoMemory` where a growth was refused: never where the packet has no frame.
+    /// `NoMemory` where a growth was refused: never where the packet has no frame, or is lost.
     pub fn tell(&mut self, alloc: Global, packet: &Packet) -> Result<(), NoMemory>
         requires good { HasGoodRecords packet.now }
         ensures memory { OnErr result (CanBeWritten packet.now) }
+        ensures lost { OnErr result ((self.old.greeted || is_hello packet.now) ≡ true) }
     {
         if is_hello(packet) {
             self.greeted = true;
@@ -63,6 +68,8 @@ impl Uplink {
     }
 }
 
-fn is_hello(packet: &Packet) -> bool {
+fn is_hello(packet: &Packet) -> bool
+    ensures { result ≡ is_hello packet.now }
+{
     matches!(packet, Packet::Hello { .. })
 }

@@ -5,13 +5,15 @@ use Rattle.streams.specs.State.{Source, Sink}
 use Rattle.upkeep.specs.Lines.{is_line}
 use Rattle.wire.specs.Wires.{Ledger, Holds}
 
--- a connection: its stream, what was heard of it and is not taken yet, what it is still to take, and whether it is over
+-- A connection: its stream, what was heard of it and is not taken yet, what it is still to take, whether it is over, and whether
+-- its stream may have something to give: not once it has stalled, until it is woken.
 pub record Talk : Type 0 where
   pub source : Source
   pub sink : Sink
   pub heard : List ℕ
   pub unsent : List ℕ
   pub over : Bool
+  pub gives : Bool
 
 -- a line as it goes: with CR and LF
 abbrev pub ended : List ℕ → List ℕ

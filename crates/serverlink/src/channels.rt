@@ -5,15 +5,27 @@ ghost use Rattle.bytetext.specs.declared.moment.TheConstants.{MOMENTS_END};
 use bytetext::{NoMemory, Text, TryCopy};
 use rfccase::same;
 use std::alloc::Global;
+use std::marker::Model;
 use upkeep::Seat;
 
-/// The channels of a bot's configuration, in order, and on which of them it is.
+/// The channels of a bot's configuration, in order, and on which of them it is. Contracts see the channels.
 #[derive(Drop)]
 pub struct Channels {
     seats: Vec<Seat>,
 }
 
+impl Model for Channels {
+    ghost use Rattle.std.specs.Prelude.{List};
+    ghost use Rattle.upkeep.specs.Seats.{Seated};
+
+    ghost Value = { List Seated };
+
+    ghost view = { λ channels. channels.seats.items };
+}
+
 impl Channels {
+    ghost use Rattle.std.specs.Prelude.{◌≡◌, ◌<◌, None, Some, length, slice_get, IfOk, MatchOption};
+
     // The bot of this number is on none of these yet.
     pub(crate) fn new(alloc: Global, names: &[Text], number: u16) -> Result<Channels, NoMemory>
         ensures memory { IfErr result (λ _. 0 < length names.now) }
@@ -26,12 +38,16 @@ impl Channels {
     }
 
     /// How many there are.
-    pub fn len(&self) -> usize {
+    pub fn len(&self) -> usize
+        ensures { result ≡ length self.now }
+    {
         self.seats.len()
     }
 
     /// The channel at a place, from 0; none where there are no more.
-    pub fn get(&self, place: usize) -> Option<&Seat> {
+    pub fn get(&self, place: usize) -> Option<&Seat>
+        ensures { MatchOption result (slice_get self.now place ≡ None) (λ seat. slice_get self.now place ≡ Some seat.now) }
+    {
         self.seats.get(place)
     }
 

@@ -2,32 +2,50 @@
 use bytetext::{NoMemory, Text};
 use std::alloc::Global;
 use std::collections::VecDeque;
+use std::marker::Model;
 
 /// The most lines of operators and of answers that wait.
 const MAX_WAITING: usize = 64;
 
 /// Lines that the process itself has for the server, the oldest first. They go once the server has welcomed the bot, as
-/// many as its pace allows.
+/// many as its pace allows. Contracts see the lines.
 #[derive(Drop)]
 pub struct OwnLines {
     lines: VecDeque<Text>,
 }
 
+impl Model for OwnLines {
+    ghost use Rattle.std.specs.Prelude.{ℕ, List};
+
+    ghost Value = { List (List ℕ) };
+
+    ghost view = { λ own. own.lines.items };
+}
+
 impl OwnLines {
+    ghost use Rattle.std.specs.Prelude.{◌≡◌, ◌<◌, ◌↔◌, ◌∷◌, ◌++◌, [], length, drop, slice_get, IsTrue, OnOk, OnErr};
+    ghost use Rattle.serverlink.specs.declared.own_lines.TheConstants.{MAX_WAITING};
+
     // None. Takes no memory.
-    pub(crate) fn new(alloc: Global) -> OwnLines {
+    pub(crate) fn new(alloc: Global) -> OwnLines
+        ensures { result ≡ [] }
+    {
         OwnLines {
             lines: VecDeque::new(alloc),
         }
     }
 
     /// How many wait.
-    pub fn len(&self) -> usize {
+    pub fn len(&self) -> usize
+        ensures { result ≡ length self.now }
+    {
         self.lines.len()
     }
 
     /// Whether a line of an operator, or of an answer to a person, finds room: fewer than 64 wait.
-    pub fn has_room(&self) -> bool {
+    pub fn has_room(&self) -> bool
+        ensures { IsTrue result ↔ (length self.now < MAX_WAITING) }
+    {
         self.lines.len() < MAX_WAITING
     }
 
@@ -35,18 +53,26 @@ impl OwnLines {
     ///
     /// # Errors
     /// `NoMemory` where room is refused. The line does not wait then.
-    pub fn put(&mut self, line: Text) -> Result<(), NoMemory> {
+    pub fn put(&mut self, line: Text) -> Result<(), NoMemory>
+        ensures put { OnOk result (self.new ≡ self.old ++ line ∷ []) }
+        ensures err { OnErr result (self.new ≡ self.old) }
+    {
         self.lines.push_back(line)?;
         Ok(())
     }
 
     // The oldest line, which then no longer waits.
-    pub(crate) fn next(&mut self) -> Option<Text> {
+    pub(crate) fn next(&mut self) -> Option<Text>
+        ensures first { result ≡ slice_get self.old 0 }
+        ensures rest { self.new ≡ drop 1 self.old }
+    {
         self.lines.pop_front()
     }
 
     /// Forgets all.
-    pub fn clear(&mut self) {
+    pub fn clear(&mut self)
+        ensures { self.new ≡ [] }
+    {
         self.lines.clear();
     }
 }

@@ -1,7 +1,8 @@
 // A connection that is told lines and nothing else.
-ghost use Rattle.std.specs.Prelude.{◌≡◌, IfOk, IfErr, OnErr, true, false};
+ghost use Rattle.std.specs.Prelude.{◌≡◌, ◌&&◌, not, true, [], length, IfOk, IfErr, OnOk, OnErr};
 ghost use Rattle.upkeep.specs.Lines.{is_line};
 ghost use Rattle.serverlink.specs.Told.{ended};
+ghost use Rattle.serverlink.specs.Talks.{Reads, Sends, asks, begun, handed, named, told};
 
 use bytetext::NoMemory;
 use std::alloc::Global;
@@ -11,9 +12,11 @@ use upkeep::is_line;
 use wire::{Bounds, Wire};
 
 // What may wait of what the server said, and of what it is told, in bytes.
+const MOST: usize = 65_536;
+
 const BOUNDS: Bounds = Bounds {
-    heard: 65_536,
-    unsent: 65_536,
+    heard: MOST,
+    unsent: MOST,
 };
 
 /// A connection to a server. All that it is told are lines of 1 to 510 bytes without NUL, CR and LF, each with CR and
@@ -36,6 +39,8 @@ impl<S: Stream + Drop> Drop for ServerWire<S> {
 }
 
 impl<S: Stream + Drop> Model for ServerWire<S> {
+    ghost use Rattle.std.specs.Prelude.{◌≡◌};
+    ghost use Rattle.serverlink.specs.declared.server_wire.TheConstants.{MOST};
     ghost use Rattle.serverlink.specs.Told.{Talk, TellsLines};
 
     ghost Value = { Talk };
@@ -46,17 +51,21 @@ impl<S: Stream + Drop> Model for ServerWire<S> {
       heard = server.wire.heard.items;
       unsent = server.wire.unsent.items;
       over = server.wire.is_over;
+      gives = server.may_give;
     } };
 
     // All that it was told since it began are lines.
     ghost invariant = { λ server. TellsLines (S.source server.wire.stream) (S.sink server.wire.stream)
-        server.wire.heard.items server.wire.unsent.items };
+        server.wire.heard.items server.wire.unsent.items
+        × (server.wire.bounds ≡ record { heard = MOST; unsent = MOST }) };
 }
 
 impl<S: Stream + Drop> ServerWire<S> {
     /// A connection on which nothing is heard or told yet. Takes no memory.
     #[tactic(auto, using(crate::proofs::ToldLemmas::tells_begun))]
-    pub fn new(alloc: Global, stream: S) -> ServerWire<S> {
+    pub fn new(alloc: Global, stream: S) -> ServerWire<S>
+        ensures { result ≡ begun (S.source stream) (S.sink stream) }
+    {
         ServerWire {
             wire: Wire::new(alloc, stream, BOUNDS),
             may_give: true,
@@ -65,23 +74,27 @@ impl<S: Stream + Drop> ServerWire<S> {
 
     /// An event has named it: it may have something to give.
     pub fn wake(&mut self)
-        ensures same { self.new ≡ self.old }
+        ensures { self.new ≡ named self.old }
     {
         self.may_give = true;
     }
 
     /// Whether it may have something to give: not once it has stalled, until it is woken, and not once it is over.
-    pub fn may_give(&self) -> bool {
+    pub fn may_give(&self) -> bool
+        ensures { result ≡ (self.now.gives && not self.now.over) }
+    {
         self.may_give && !self.wire.is_over
     }
 
     /// Hears a piece of what has come, where it may have something to give and there is room. Whether a byte came.
     ///
     /// # Errors
-    /// `NoMemory` where room is refused: never once it is over. Nothing was heard then.
+    /// `NoMemory` where room is refused: never where it is not asked. Nothing was heard then.
     #[tactic(auto, using(crate::proofs::ToldLemmas::tells_on))]
     pub fn read(&mut self) -> Result<bool, NoMemory>
-        ensures memory { IfErr result (λ _. self.old.over ≡ false) }
+        ensures reads { IfOk result (λ came. Reads self.old came self.new) }
+        ensures err { OnErr result (self.new ≡ self.old) }
+        ensures memory { IfErr result (λ _. asks self.old ≡ true) }
     {
         if !self.may_give || self.wire.is_over || self.wire.is_full() {
             return Ok(false);
@@ -100,6 +113,7 @@ impl<S: Stream + Drop> ServerWire<S> {
     #[tactic(auto, using(crate::proofs::ToldLemmas::tells_handed))]
     pub fn take_heard(&mut self, alloc: Global) -> Vec<u8>
         ensures all { result.items ≡ self.old.heard }
+        ensures none { self.new ≡ handed self.old }
     {
         self.wire.take_heard(alloc)
     }
@@ -110,7 +124,8 @@ impl<S: Stream + Drop> ServerWire<S> {
     /// # Errors
     /// `NoMemory` where room is refused: never for bytes that are no line. Nothing is told then.
     pub fn tell(&mut self, alloc: Global, line: &[u8]) -> Result<(), NoMemory>
-        ensures none { is_line line.now ≡ false → self.new ≡ self.old }
+        ensures told { OnOk result (self.new ≡ told line.now self.old) }
+        ensures err { OnErr result (self.new ≡ self.old) }
         ensures memory { OnErr result (is_line line.now ≡ true) }
     {
         if !is_line(line) {
@@ -123,7 +138,9 @@ impl<S: Stream + Drop> ServerWire<S> {
 
     /// Offers the server what is unsent, once. Whether it took a byte. Takes no memory.
     #[tactic(auto, using(crate::proofs::ToldLemmas::tells_on))]
-    pub fn send(&mut self) -> bool {
+    pub fn send(&mut self) -> bool
+        ensures { Sends self.old result self.new }
+    {
         if self.wire.unsent.is_empty() {
             return false;
         }
@@ -134,12 +151,16 @@ impl<S: Stream + Drop> ServerWire<S> {
     }
 
     /// Whether it is to be let go: the server ended it, it failed, or the server takes too little.
-    pub fn is_over(&self) -> bool {
+    pub fn is_over(&self) -> bool
+        ensures { result ≡ self.now.over }
+    {
         self.wire.is_over
     }
 
     /// How many bytes the server has still to take.
-    pub fn unsent(&self) -> usize {
+    pub fn unsent(&self) -> usize
+        ensures { result ≡ length self.now.unsent }
+    {
         self.wire.unsent.len()
     }
 }

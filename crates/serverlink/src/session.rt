@@ -1,4 +1,8 @@
 // One connection to a server.
+ghost use Rattle.std.specs.Prelude.{◌≡◌, ◌&&◌, not, true, List, [], length, OnOk, OnErr, IfOk};
+ghost use Rattle.streams.specs.declared.stream.Given.{Given};
+ghost use Rattle.serverlink.specs.Talks.{HearsAll, ReadsAll, SendsOn, handed, named, told};
+
 use crate::server_wire::ServerWire;
 use bytetext::{NoMemory, Text};
 use ircline::LineReader;
@@ -54,13 +58,19 @@ impl Session {
     }
 
     // An event has named it.
-    pub(crate) fn wake(&mut self) {
+    pub(crate) fn wake(&mut self)
+        ensures { self.new.wire ≡ named self.old.wire }
+    {
         self.wire.wake();
     }
 
     // Hears what has come. Whether there may be more at once: not where it has stalled.
-    pub(crate) fn read(&mut self, now: u64) -> Result<bool, NoMemory> {
-        for _piece in 0..PIECES {
+    pub(crate) fn read(&mut self, now: u64) -> Result<bool, NoMemory>
+        ensures reads { OnOk result (ReadsAll self.old.wire self.new.wire) }
+        ensures err { OnErr result ((answers : List Given) × HearsAll answers self.old.wire self.new.wire) }
+        ensures more { IfOk result (λ more. more ≡ (self.new.wire.gives && not self.new.wire.over)) }
+    {
+        for _ in 0..PIECES {
             if !self.wire.read()? {
                 break;
             }
@@ -70,12 +80,18 @@ impl Session {
     }
 
     // What was heard and is not taken yet. Takes no memory.
-    pub(crate) fn take_heard(&mut self, alloc: Global) -> Vec<u8> {
+    pub(crate) fn take_heard(&mut self, alloc: Global) -> Vec<u8>
+        ensures all { result.items ≡ self.old.wire.heard }
+        ensures none { self.new.wire ≡ handed self.old.wire }
+    {
         self.wire.take_heard(alloc)
     }
 
     // Leaves a line for the server, which it counts as one of this second. Bytes that are no line go nowhere.
-    pub(crate) fn tell(&mut self, alloc: Global, line: &[u8], now: u64) -> Result<(), NoMemory> {
+    pub(crate) fn tell(&mut self, alloc: Global, line: &[u8], now: u64) -> Result<(), NoMemory>
+        ensures told { OnOk result (self.new.wire ≡ told line.now self.old.wire) }
+        ensures err { OnErr result (self.new.wire ≡ self.old.wire) }
+    {
         self.wire.tell(alloc, line)?;
         self.pace.count(now);
         Ok(())
@@ -96,7 +112,9 @@ impl Session {
     }
 
     /// The second at which it began, from 1970-01-01 UTC on.
-    pub fn began(&self) -> u64 {
+    pub fn began(&self) -> u64
+        ensures { result ≡ self.now.vigil.began }
+    {
         self.vigil.began
     }
 
@@ -106,17 +124,23 @@ impl Session {
     }
 
     // Whether it is to be let go.
-    pub(crate) fn is_over(&self) -> bool {
+    pub(crate) fn is_over(&self) -> bool
+        ensures { result ≡ self.now.wire.over }
+    {
         self.wire.is_over()
     }
 
     /// How many bytes the server has still to take.
-    pub fn unsent(&self) -> usize {
+    pub fn unsent(&self) -> usize
+        ensures { result ≡ length self.now.wire.unsent }
+    {
         self.wire.unsent()
     }
 
     // Offers the server what is unsent, once. Whether it may take more at once: not where it has all, or took nothing.
-    pub(crate) fn send(&mut self) -> bool {
+    pub(crate) fn send(&mut self) -> bool
+        ensures { SendsOn self.old.wire result self.new.wire }
+    {
         self.wire.send() && self.wire.unsent() > 0
     }
 }

@@ -44,6 +44,11 @@ impl Drop for Uplink {
 }
 
 impl Uplink {
+    ghost use Rattle.std.specs.Prelude.{◌≡◌, ◌==◌, true, Some, [], option_map, OnOk, MatchOption};
+    ghost use Rattle.std.specs.List.{list_any};
+    ghost use Rattle.dialling.specs.Dials.{lost};
+    ghost use Rattle.serverlink.specs.Talks.{MayReadAll, MaySend, handed, heard_in, held, told, woken, talk_in};
+
     /// No connection yet; a try is due at once.
     ///
     /// # Errors
@@ -62,17 +67,23 @@ impl Uplink {
     }
 
     /// The connection, if there is one. It may still come to nothing.
-    pub fn session(&self) -> Option<&Session> {
+    pub fn session(&self) -> Option<&Session>
+        ensures { MatchOption result (self.now.session ≡ None) (λ session. self.now.session ≡ Some session.now) }
+    {
         self.session.as_ref()
     }
 
     /// The second at which the next try is due.
-    pub fn due(&self) -> u64 {
+    pub fn due(&self) -> u64
+        ensures { result ≡ self.now.dialling.waits.due }
+    {
         self.dialling.due()
     }
 
     /// The place in the list of the server that is tried next, or is connected.
-    pub fn place(&self) -> usize {
+    pub fn place(&self) -> usize
+        ensures { result ≡ self.now.dialling.place }
+    {
         self.dialling.place()
     }
 
@@ -154,7 +165,9 @@ impl Uplink {
 
     /// The connection, where the tokens of a wait name it, may have something to give. A token may be of one before it: then
     /// it stalls once more.
-    pub fn wake(&mut self, tokens: &[usize]) {
+    pub fn wake(&mut self, tokens: &[usize])
+        ensures { talk_in self.new.session ≡ woken (list_any (λ token. token == TOKEN) tokens.now) (talk_in self.old.session) }
+    {
         if let Some(session) = &mut self.session {
             if tokens.contains(&TOKEN) {
                 session.wake();
@@ -167,6 +180,7 @@ impl Uplink {
     /// # Errors
     /// `NoMemory` where room is refused: never without a connection. What was heard before stays.
     pub fn read(&mut self, now: u64) -> Result<bool, NoMemory>
+        ensures reads { OnOk result (MayReadAll (talk_in self.old.session) (talk_in self.new.session)) }
         ensures memory { IfErr result (λ _. self.old.session ≢ None) }
     {
         match &mut self.session {
@@ -176,7 +190,10 @@ impl Uplink {
     }
 
     /// What was heard and is not taken yet, which then is. Takes no memory.
-    pub fn take_heard(&mut self, alloc: Global) -> Vec<u8> {
+    pub fn take_heard(&mut self, alloc: Global) -> Vec<u8>
+        ensures all { result.items ≡ heard_in (talk_in self.old.session) }
+        ensures none { talk_in self.new.session ≡ option_map handed (talk_in self.old.session) }
+    {
         match &mut self.session {
             Some(session) => session.take_heard(alloc),
             None => Vec::new(alloc),
@@ -195,6 +212,8 @@ impl Uplink {
         line: &[u8],
         now: u64,
     ) -> Result<(), NoMemory>
+        ensures told { OnOk result (talk_in self.new.session ≡ option_map (told line.now) (talk_in self.old.session)) }
+        ensures err { OnErr result (talk_in self.new.session ≡ talk_in self.old.session) }
         ensures memory { OnErr result (self.old.session ≢ None) }
     {
         let Some(session) = &mut self.session else {
@@ -208,7 +227,9 @@ impl Uplink {
     }
 
     /// Offers the server what is unsent, once. Whether it may take more at once: not where it has all, or took nothing.
-    pub fn send(&mut self) -> bool {
+    pub fn send(&mut self) -> bool
+        ensures { MaySend (talk_in self.old.session) result (talk_in self.new.session) }
+    {
         match &mut self.session {
             Some(session) => session.send(),
             None => false,
@@ -218,6 +239,7 @@ impl Uplink {
     /// Lets the server go at this second, where it is over.
     pub fn let_go<R: Print>(&mut self, rt: &R, now: u64)
         requires moment { now < MOMENTS_END }
+        ensures { self.new.session ≡ held self.old.session }
     {
         if let Some(session) = &self.session {
             if session.is_over() {
@@ -229,6 +251,9 @@ impl Uplink {
     /// Lets the server go at this second, and forgets what waits for it. The next server is due after a wait.
     pub fn lose<R: Print>(&mut self, rt: &R, why: Why, now: u64)
         requires moment { now < MOMENTS_END }
+        ensures gone { self.new.session ≡ None }
+        ensures own { self.new.own ≡ [] }
+        ensures waits { self.new.dialling ≡ lost self.old.dialling now }
     {
         self.session = None;
         self.dialling.lost(now);

@@ -1,12 +1,14 @@
-use Rattle.std.proofs.Common.{◌≡◌, ◌++◌, List, length}
+use Rattle.std.proofs.Common.{◌≡◌, ◌++◌, List, length, true}
+use Rattle.std.specs.List.{list_any}
 use Rattle.procstore.specs.Promises.{code_at}
 use Rattle.botcalls.specs.Calls.{Telling}
 use Rattle.botcalls.specs.Made.{IsMade}
-use Rattle.botcalls.specs.Dispatching.{told_from, told_of}
+use Rattle.botcalls.specs.Dispatching.{told_from, told_of, takes_memory}
 use Rattle.botcalls.specs.Dispatched.{setting_of}
 use Rattle.botcalls.proofs.dispatch.call_procs.Given as goal
 
--- the occasions so far have been dispatched, and the rest are left; the people are the scene's
+-- the occasions so far have been dispatched, and the rest are left; the people are the scene's; memory that one of the rest takes
+-- is taken for all
 abbrev pub invariant-loop-occasion : goal.invariant-loop-occasion
 invariant-loop-occasion g l =
     let scene = l.fn.scene in
@@ -14,6 +16,7 @@ invariant-loop-occasion g l =
     (done : List Telling) × IsMade g.P.Promise.promised l.fn.scene.view.now l.made done
     × (done ++ told_from setting l.next l.rest ≡ told_of setting l.fn.occasions)
     × (l.people ≡ scene.view.now.sight.records.users)
+    × (list_any (takes_memory setting) l.rest ≡ true → list_any (takes_memory setting) l.fn.occasions ≡ true)
 
 abbrev pub decreases-loop-occasion : goal.decreases-loop-occasion
 decreases-loop-occasion g l = length l.rest

@@ -1,6 +1,9 @@
 use Rattle.bytejournal.proofs.Moments.{untouched, untouched_still}
 use Rattle.bytejournal.proofs.opening.read_whole.Goals as goal
 
+pub returns-then-len-eq0-clause-untouched : goal.returns-then-len-eq0-clause-untouched
+returns-then-len-eq0-clause-untouched g c = untouched_still _ c.requires
+
 pub returns-in_err-bytes-clause-untouched : goal.returns-in_err-bytes-clause-untouched
 returns-in_err-bytes-clause-untouched g c = untouched_still _ c.requires
 

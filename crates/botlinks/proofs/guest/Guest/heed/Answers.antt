@@ -6,4 +6,4 @@ pub returns-in_ok-tell-in-Welcome-clause-shown : goal.returns-in_ok-tell-in-Welc
 returns-in_ok-tell-in-Welcome-clause-shown c =
     joined c.args.self.now.side c.heard.result.now c.in-Welcome.leaf c.in-Welcome.used c.in-Welcome.line _
     c.read.new.self.wire.heard.items _ c.read.ensures c.heard.ensures c.in-Welcome.ensures
-    (c.take_front.ensures ∙ ap (drop c.in-Welcome.used) c.in_ok-tell-in-Welcome.ensures)
+    (c.take_front.ensures ∙ ap (drop c.in-Welcome.used) c.in_ok-tell-in-Welcome.ensures.heard)
