@@ -36,6 +36,8 @@ impl Others {
         // At a leaf or at a hub, the reports tell who still waits.
         ensures asks { OnOk result ((leaf : Bool) × (self.new.asks.askers.items
             ≡ turn_askers leaf pumped self.old.asks.asker self.old.asks.askers.items reports.now)) }
+        // The server is told nothing.
+        ensures server { OnOk result (uplink.new.session ≡ uplink.old.session) }
     {
         let is_leaf = self.links.is_leaf();
         let mut rest = reports;
@@ -72,6 +74,7 @@ impl Others {
         ensures asks { OnOk result (self.new.asks.askers.items
             ≡ askers_after settles self.old.asks.asker self.old.asks.askers.items report.now) }
         ensures asker { OnOk result (self.new.asks.asker ≡ self.old.asks.asker) }
+        ensures server { uplink.new.session ≡ uplink.old.session }
     {
         let count = self.asks.len();
         self.asks.put_procs(rt.alloc(), report)?;
@@ -116,6 +119,7 @@ impl Others {
     ) -> Result<(), NoMemory>
         ensures asks { OnOk result (self.new.asks.askers.items ≡ answered outcome self.old.asks.askers.items) }
         ensures asker { OnOk result (self.new.asks.asker ≡ self.old.asks.asker) }
+        ensures server { uplink.new.session ≡ uplink.old.session }
     {
         match outcome {
             Outcome::Nothing | Outcome::Barred(_) => return Ok(()),

@@ -1,4 +1,6 @@
 // What a person is told of a change that was asked for by what the person said.
+ghost use Rattle.std.specs.Prelude.{◌≡◌};
+
 use crate::outcome::Outcome;
 use bytetext::{NoMemory, Text};
 use serverlink::Uplink;
@@ -10,7 +12,9 @@ pub(crate) fn notice(
     uplink: &mut Uplink,
     nick: &[u8],
     outcome: Outcome,
-) -> Result<(), NoMemory> {
+) -> Result<(), NoMemory>
+    ensures { uplink.new.session ≡ uplink.old.session }
+{
     if uplink.session().is_none() || !uplink.own.has_room() {
         return Ok(());
     }

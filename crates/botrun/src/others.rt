@@ -2,6 +2,7 @@
 ghost use Rattle.std.specs.Prelude.{◌≡◌, [], IfOk};
 ghost use Rattle.std.specs.List.{AllByRecursion};
 ghost use Rattle.linkcalls.specs.Shapes.{HasGoodRecords};
+ghost use Rattle.botlinks.specs.Tells.{TakesPackets};
 
 use crate::asks::Asks;
 use botlinks::Links;
@@ -43,6 +44,8 @@ impl Others {
         now: u64,
     ) -> Result<Heard, NoMemory>
         ensures good { IfOk result (λ heard. AllByRecursion HasGoodRecords heard.packets.items) }
+        ensures bytes { IfOk result (λ heard. heard.bytes.items ≡ bytes.items) }
+        ensures packets { IfOk result (λ heard. TakesPackets self.old.links heard.packets.items self.new.links) }
     {
         let packets = self.links.take_packets(alloc)?;
         Ok(Heard {

@@ -1,4 +1,8 @@
 // What the bot tells its server.
+ghost use Rattle.std.specs.Prelude.{◌≡◌, OnOk};
+ghost use Rattle.serverlink.specs.Talks.{talk_in};
+ghost use Rattle.botrun.specs.Passing.{told_all, told_of};
+
 use crate::entry::Entry;
 use crate::log::log;
 use botcore::{Faults, Report};
@@ -13,7 +17,9 @@ pub(crate) fn pass_all<R: AllocGlobal + Print>(
     settings: &Settings,
     reports: &[Report],
     now: u64,
-) -> Result<(), NoMemory> {
+) -> Result<(), NoMemory>
+    ensures { OnOk result (talk_in uplink.new.session ≡ told_of reports.now (talk_in uplink.old.session)) }
+{
     for report in reports {
         pass(rt, uplink, settings, report, now)?;
     }
@@ -26,7 +32,9 @@ fn pass<R: AllocGlobal + Print>(
     settings: &Settings,
     report: &Report,
     now: u64,
-) -> Result<(), NoMemory> {
+) -> Result<(), NoMemory>
+    ensures { OnOk result (talk_in uplink.new.session ≡ told_all report.now.lines (talk_in uplink.old.session)) }
+{
     for line in report.lines.as_slice() {
         uplink.tell(rt, settings, line.as_bytes(), now)?;
     }

@@ -1,9 +1,10 @@
 // The steps of a bot in one turn of its process.
-ghost use Rattle.std.specs.Prelude.{◌<◌, ◌≡◌, ◌∷◌, [], true, IfOk};
+ghost use Rattle.std.specs.Prelude.{◌<◌, ◌≡◌, ◌∷◌, [], true, IfOk, OnOk};
 ghost use Rattle.std.specs.List.{AllByRecursion};
 ghost use Rattle.linkcalls.specs.Shapes.{HasGoodRecords};
 ghost use Rattle.bytetext.specs.declared.moment.TheConstants.{MOMENTS_END};
-ghost use Rattle.botrun.specs.Taking.{TakesTurn, TakesChanges};
+ghost use Rattle.serverlink.specs.Talks.{heard_in, talk_in};
+ghost use Rattle.botrun.specs.Taking.{Hears, TakesTurn, TakesChanges};
 
 use crate::ending::RunError;
 use crate::entry::Entry;
@@ -30,6 +31,9 @@ impl Process {
         now: u64,
     ) -> Result<bool, RunError>
         requires moment { now < MOMENTS_END }
+        // The first turn hears all that was heard of the server, and packets that wait.
+        ensures hears { OnOk result (Hears P.promised store.now self.old.bot self.old.lines
+            (heard_in (talk_in self.old.uplink.session)) self.old.others.links) }
     {
         let alloc = rt.alloc();
         let bytes = self.uplink.take_heard(alloc);
@@ -98,7 +102,7 @@ impl Process {
     ) -> Result<Outcome, RunError>
         // What comes of it is what a turn of the bot tells in which this change alone is asked for, and pumped.
         ensures turn { IfOk result (λ outcome. TakesChanges P.promised store.now self.old.bot self.old.lines
-            (change ∷ []) true self.new.bot self.new.lines outcome) }
+            (change ∷ []) true self.new.bot self.new.lines outcome (talk_in self.old.uplink.session) (talk_in self.new.uplink.session)) }
     {
         let mut heard = heard_of(rt.alloc(), false, Vec::new(rt.alloc()), now);
         heard.changes.push(change)?;
@@ -114,9 +118,9 @@ impl Process {
         heard: Heard,
     ) -> Result<Outcome, RunError>
         requires good { AllByRecursion HasGoodRecords heard.packets.items }
-        // The bot takes one turn, and this is what it tells of changes.
+        // The bot takes one turn, and this is what it tells of changes. Just its lines are told to the server.
         ensures turn { IfOk result (λ outcome. TakesTurn P.promised store.now self.old.bot self.old.lines heard
-            self.new.bot self.new.lines outcome) }
+            self.new.bot self.new.lines outcome (talk_in self.old.uplink.session) (talk_in self.new.uplink.session)) }
     {
         let now = heard.now;
         let pumped = heard.pump && !heard.compact;

@@ -7,6 +7,7 @@ use Rattle.botrun.proofs.others.Others.pass_all.Given as goal
 abbrev pub invariant-loop-report : goal.invariant-loop-report
 invariant-loop-report g l = record {
   good : AllGood l.rest;
+  server : l.uplink.session ≡ l.fn.uplink.session;
   asker : l.self.asks.asker ≡ l.fn.self.asks.asker;
   asks : turn_askers l.is_leaf l.fn.pumped l.fn.self.asks.asker l.self.asks.askers.items l.rest
       ≡ turn_askers l.is_leaf l.fn.pumped l.fn.self.asks.asker l.fn.self.asks.askers.items l.fn.reports;

@@ -4,7 +4,7 @@ use Rattle.botrun.proofs.process.Process.ask.Goals as goal
 
 pub returns : goal.returns
 returns g c = record {
-  turn = takes_changes _ _ _ _ _ _ _ _ _ c.take.result
+  turn = takes_changes _ _ _ _ _ _ _ _ _ _ _ c.take.result
       (c.in_ok-push.ensures.items ∙ ap (λ before. before ++ c.args.change ∷ []) c.heard_of-heard.ensures.changes)
       c.heard_of-heard.ensures.pump c.take.ensures.turn;
 }
