@@ -1,5 +1,7 @@
 // What can be said of a configuration before anything is opened.
-ghost use Rattle.std.specs.Prelude.{◌<◌, ◌≡◌, None, length, OnOk};
+ghost use Rattle.std.specs.Prelude.{◌<◌, ◌≡◌, ◌≢◌, None, [], length, IfErr, OnOk};
+ghost use Rattle.botrun.specs.declared.checking.NoBind.TheVariants.{NoMemory as out_of_memory};
+ghost use Rattle.botrun.specs.declared.ending.RunError.TheVariants.{NoServer as no_server, Account as account, NoMemory as no_memory};
 
 use crate::ending::RunError;
 use bindtable::{BindKind, BindTable};
@@ -14,7 +16,7 @@ use std::alloc::Global;
 ///
 /// # Errors
 /// `NoServer` and `Account` as they say; then the first bind that is refused, by `BindKind`, `BindProc` or
-/// `Bind`; `NoMemory` where a growth is refused.
+/// `Bind`; `NoMemory` where a growth is refused: never where there is no bind.
 pub fn check<P: Promise, B: Run>(
     alloc: Global,
     store: &ProcStore<P, B>,
@@ -23,6 +25,9 @@ pub fn check<P: Promise, B: Run>(
     ensures some { OnOk result (0 < length settings.now.servers) }
     // It authenticates as nobody.
     ensures nobody { OnOk result (settings.now.account ≡ None) }
+    ensures server { IfErr result (λ why. why ≡ no_server → settings.now.servers ≡ []) }
+    ensures account { IfErr result (λ why. why ≡ account → settings.now.account ≢ None) }
+    ensures memory { IfErr result (λ why. why ≡ no_memory → 0 < length settings.now.binds) }
 {
     if settings.servers.is_empty() {
         return Err(RunError::NoServer);
@@ -43,7 +48,9 @@ fn check_bind<P: Promise, B: Run>(
     store: &ProcStore<P, B>,
     table: &mut BindTable,
     bind: &BindLine,
-) -> Result<(), RunError> {
+) -> Result<(), RunError>
+    ensures { IfErr result (λ why. (why ≢ no_server) × (why ≢ account)) }
+{
     let asked = match new_bind(alloc, store, &bind.words) {
         Ok(asked) => asked,
         Err(why) => return Err(of_line(bind.line, why)),
@@ -75,13 +82,17 @@ pub(crate) enum NoBind {
 }
 
 impl From<NoMemory> for NoBind {
+    ghost from_gives = { λ _ e. e ≡ out_of_memory };
+
     fn from(_refused: NoMemory) -> NoBind {
         NoBind::NoMemory
     }
 }
 
 // Why the bind of a line is none.
-pub(crate) fn of_line(line: u64, why: NoBind) -> RunError {
+pub(crate) fn of_line(line: u64, why: NoBind) -> RunError
+    ensures { (result ≢ no_server) × (result ≢ account) }
+{
     match why {
         NoBind::Kind => RunError::BindKind { line },
         NoBind::Proc => RunError::BindProc { line },

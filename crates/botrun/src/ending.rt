@@ -1,6 +1,7 @@
 // Why a bot's process ends, and with which status.
 ghost use Rattle.std.specs.Prelude.{◌≡◌};
 ghost use Rattle.botrun.specs.Ending.{status_of};
+ghost use Rattle.botrun.specs.declared.ending.RunError.TheVariants.{NoMemory as no_memory};
 
 use bindtable::BindFault;
 use botcore::{BotError, BotFault};
@@ -206,18 +207,24 @@ fn sentence(error: RunError) -> &'static str {
 }
 
 impl From<NoMemory> for RunError {
+    ghost from_gives = { λ _ e. e ≡ no_memory };
+
     fn from(_refused: NoMemory) -> RunError {
         RunError::NoMemory
     }
 }
 
 impl From<AllocError> for RunError {
+    ghost from_gives = { λ _ e. e ≡ no_memory };
+
     fn from(_refused: AllocError) -> RunError {
         RunError::NoMemory
     }
 }
 
 impl<T: Drop> From<AllocFailed<T>> for RunError {
+    ghost from_gives = { λ _ e. e ≡ no_memory };
+
     fn from(_refused: AllocFailed<T>) -> RunError {
         RunError::NoMemory
     }
